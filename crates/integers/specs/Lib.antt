@@ -1,0 +1,9 @@
+pub mod Lists
+pub mod Tests
+pub mod ListLaws
+pub mod Refusals
+pub mod RefusalLaws
+pub mod Integer
+pub mod Size
+pub mod Word
+pub mod WordLaws

@@ -1,0 +1,25 @@
+-- Answers and refusals. A call's order is a list of tests, each with its number; the first that fails is the answer. Nothing is
+-- proved here.
+use mathlib.Core.Bool.{Bool, cond}
+use mathlib.Core.List.{List, [], _∷_}
+use Prim.Native.Nat.{ℕ}
+
+-- "accepted", with what the call gives, or the number of a refusal
+pub data Answer (A : Type 0) : Type 0 where
+  accepted : A → Answer A
+  refused : ℕ → Answer A
+
+-- a test, and the number of the refusal where it fails
+infix 20 _else_
+pub data Test : Type 0 where
+  _else_ : Bool → ℕ → Test
+
+-- the first refusal in order, or else r
+unfoldable pub checks : {A : Type 0} → List Test → Answer A → Answer A
+checks [] r = r
+checks ((b else c) ∷ ts) r = cond b (checks ts r) (refused c)
+
+-- what follows an accepted answer; a refusal stays
+unfoldable pub bind : {A B : Type 0} → Answer A → (A → Answer B) → Answer B
+bind (accepted a) f = f a
+bind (refused c) f = refused c

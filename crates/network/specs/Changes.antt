@@ -1,0 +1,40 @@
+-- The two changes of a network: a gate replaced, and a gate removed. Document 01, "It replaces v" and "Drop". Nothing is proved here.
+use mathlib.Core.Bool.{cond}
+use mathlib.Core.List.{List, [], _∷_, map}
+use Prim.Native.Nat.{ℕ, zero, suc, _-_}
+use lib.Dec.{ltb}
+use lib.ListN.{set, getD}
+use Rattle.network.specs.Threshold.{Feed, Gate, Net}
+use Rattle.network.specs.Record.{noGate}
+
+-- the gate with signal s
+unfoldable pub gateAt : Net → ℕ → Gate
+gateAt N s = getD (N .gates) (s - N .inputs) noGate
+
+-- N with g in the place of the gate with signal v
+unfoldable pub withGate : Net → ℕ → Gate → Net
+withGate N v g = record { inputs = N .inputs; gates = set (N .gates) (v - N .inputs) g; outputs = N .outputs }
+
+-- "higher signals fall by one"
+unfoldable pub lowered : ℕ → ℕ → ℕ
+lowered u s = cond (ltb u s) (s - 1) s
+
+unfoldable pub loweredFeed : ℕ → Feed → Feed
+loweredFeed u f = record { signal = lowered u (f .signal); weight = f .weight }
+
+unfoldable pub loweredGate : ℕ → Gate → Gate
+loweredGate u g = record { feeds = map (loweredFeed u) (g .feeds); threshold = g .threshold }
+
+-- a list without its member i
+unfoldable pub removeAt : {A : Type 0} → ℕ → List A → List A
+removeAt i [] = []
+removeAt zero (x ∷ xs) = xs
+removeAt (suc i) (x ∷ xs) = x ∷ removeAt i xs
+
+-- N without the gate with signal u
+unfoldable pub without : Net → ℕ → Net
+without N u = record {
+  inputs = N .inputs;
+  gates = map (loweredGate u) (removeAt (u - N .inputs) (N .gates));
+  outputs = map (lowered u) (N .outputs);
+}

@@ -1,0 +1,5 @@
+pub mod Threshold
+pub mod Limits
+pub mod Record
+pub mod Changes
+pub mod Reading
