@@ -3,3 +3,4 @@ pub mod Limits
 pub mod Record
 pub mod Changes
 pub mod Reading
+pub mod LimitLaws
