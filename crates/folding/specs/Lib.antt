@@ -1,0 +1,5 @@
+pub mod Merge
+pub mod Pair
+pub mod Collapse
+pub mod Sweep
+pub mod Calls
