@@ -3,3 +3,4 @@ pub mod Pair
 pub mod Collapse
 pub mod Sweep
 pub mod Calls
+pub mod Aligned
