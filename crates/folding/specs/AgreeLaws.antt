@@ -10,7 +10,7 @@ use lib.ListN.{length}
 use Rattle.integers.specs.Lists.{keep, other}
 use Rattle.integers.specs.Tests.{is-true, beq-eq, eq-beq, T-or, or-T, and-T, cond-case}
 use Rattle.integers.specs.ListLaws.{Each, each-imp, below-at, at-below, range-at, each-has, has-each}
-use Rattle.network.specs.Threshold.{Gate, Assignment, bit, assign, digit}
+use Rattle.network.specs.Threshold.{Assignment, bit, assign, digit}
 use Rattle.network.specs.Limits.{signalsOf}
 use Rattle.equivalence.specs.Consistent.{Agree}
 use Rattle.equivalence.specs.ConsistentLaws.{bit-local, choice-own, assign-own}

@@ -1,17 +1,16 @@
 -- A collapse is refused only where it must be: a gate that is no output, and of which every reader has a pair, is collapsed. Assumes
 -- nothing.
 use mathlib.Core.Path.{_≡_, subst}
-use mathlib.Core.Bool.{Bool, _&&_}
 use mathlib.Core.List.{List, [], _∷_}
 use mathlib.Core.Logic.{_≢_}
-use Prim.Native.Nat.{ℕ, suc, _+_, _-_, _≤_, _<_}
+use Prim.Native.Nat.{ℕ, suc, _+_, _-_}
 use native.Mathlib.Omega.{arith}
 use lib.Dec.{T}
 use lib.ListN.{getD}
 use Rattle.integers.specs.Lists.{all, other}
 use Rattle.integers.specs.Tests.{T-and, cond-case, ne-other}
 use Rattle.integers.specs.ListLaws.{of-each}
-use Rattle.integers.specs.Refusals.{Answer, accepted, Test, _else_, bind}
+use Rattle.integers.specs.Refusals.{Answer, accepted, _else_, bind}
 use Rattle.network.specs.Threshold.{Gate, Net}
 use Rattle.network.specs.Limits.{isGate, sound}
 use Rattle.network.specs.Record.{noGate}

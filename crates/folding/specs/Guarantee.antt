@@ -7,7 +7,7 @@ use Prim.Native.Nat.{ℕ, _+_, _^_, _≤_, _<_}
 use lib.Dec.{T}
 use lib.ListN.{length}
 use Rattle.integers.specs.ListLaws.{Each}
-use Rattle.integers.specs.Refusals.{Answer, accepted, refused}
+use Rattle.integers.specs.Refusals.{accepted}
 use Rattle.integers.specs.RefusalLaws.{Passed}
 use Rattle.network.specs.Threshold.{Net, bit, frame, outputBits}
 use Rattle.network.specs.Limits.{sound}

@@ -1,6 +1,6 @@
 -- Every list of calls keeps a sound network sound, with the same inputs, the same number of outputs and the same output bits on every
 -- frame; merges are accepted exactly where they agree, and sweeps leave nothing to collapse. Assumes nothing.
-use mathlib.Core.Path.{_≡_, refl, sym, ap, _∙_, subst}
+use mathlib.Core.Path.{_≡_, refl, sym, ap, subst}
 use mathlib.Core.List.{List, [], _∷_}
 use Prim.Native.Nat.{ℕ}
 use lib.Dec.{T}
@@ -10,9 +10,9 @@ use Rattle.network.specs.Threshold.{Net, Assignment, frame, outputBits}
 use Rattle.network.specs.Limits.{sound}
 use Rattle.network.specs.LimitLaws.{Sound, sound-of, of-sound}
 use Rattle.equivalence.specs.ConsistentLaws.{sound-good, sim-outputs, outputs-many}
-use Rattle.folding.specs.Merge.{edge, merged, limits, merge}
+use Rattle.folding.specs.Merge.{limits, merge}
 use Rattle.folding.specs.Collapse.{drop, collapse}
-use Rattle.folding.specs.Sweep.{Swept, sweep}
+use Rattle.folding.specs.Sweep.{Swept}
 use Rattle.folding.specs.Calls.{uncounted, answer, leaves, calls}
 use Rattle.folding.specs.Guarantee.{Kept, Exact, Claim, Claims, Preserved}
 use Rattle.folding.specs.StepLaws.{merge-kept, merge-exact, merge-net, drop-kept, collapse-kept}

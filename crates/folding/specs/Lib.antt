@@ -15,3 +15,5 @@ pub mod StepLaws
 pub mod CollapseLaws
 pub mod SweepLaws
 pub mod GuaranteeLaws
+pub mod Bench
+pub mod BenchLaws

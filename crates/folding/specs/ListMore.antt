@@ -1,13 +1,13 @@
 -- More laws of lists: what holds of each member, with its place, of joined lists and of ranges; and lists in rising order. Assumes
 -- nothing.
-use mathlib.Core.Path.{_≡_, refl, sym, ap, _∙_, subst}
+use mathlib.Core.Path.{_≡_, subst}
 use mathlib.Core.List.{List, [], _∷_, _++_, map}
 use Prim.Native.Nat.{ℕ, zero, suc, _+_, _≤_, _<_}
 use native.Mathlib.Decide.{decLt}
 use native.Mathlib.Omega.{arith}
 use lib.ListN.{length, getD}
 use Rattle.integers.specs.Lists.{range}
-use Rattle.integers.specs.ListLaws.{Each, each-imp}
+use Rattle.integers.specs.ListLaws.{Each}
 
 module _ {A : Type 0} where
   -- each member with its number, the first with number n

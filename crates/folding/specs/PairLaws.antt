@@ -1,17 +1,17 @@
 -- The pair search: every pair with k and l from 1 to 32 is tried, in rising order, so its answer is the least pair that qualifies, and
 -- its refusal 16 says that none does. Assumes nothing.
-use mathlib.Core.Path.{_≡_, refl, sym, ap, _∙_, subst}
-use mathlib.Core.Bool.{Bool, true, false, not, cond, _&&_}
-use mathlib.Core.List.{List, [], _∷_, _++_, map}
-use mathlib.Core.Logic.{_≢_, _⊎_, inl, inr}
+use mathlib.Core.Path.{_≡_, refl, sym, _∙_, subst}
+use mathlib.Core.Bool.{Bool, not, _&&_}
+use mathlib.Core.List.{List, [], _∷_}
+use mathlib.Core.Logic.{inl, inr}
 use Prim.Native.Nat.{ℕ, zero, suc, _+_, _-_, _≤_, _<_}
 use native.Mathlib.Decide.{decLt}
 use native.Mathlib.Omega.{arith}
 use lib.Dec.{T, T-not, not-T}
-use Rattle.integers.specs.Lists.{range, between}
+use Rattle.integers.specs.Lists.{range}
 use Rattle.integers.specs.Tests.{T-and, and-T, cond-case, every-of, of-every, between-of}
 use Rattle.integers.specs.ListLaws.{Each, each-imp}
-use Rattle.integers.specs.Refusals.{Answer, accepted, refused, Test, _else_, checks}
+use Rattle.integers.specs.Refusals.{Answer, accepted, refused, Test, _else_}
 use Rattle.integers.specs.RefusalLaws.{Passed, accepted≢refused, accepted-inj, checks-accepted, passed-checks}
 use Rattle.network.specs.Threshold.{Net}
 use Rattle.network.specs.Limits.{scaleOk, isGate, sound}

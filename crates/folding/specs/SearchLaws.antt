@@ -1,7 +1,7 @@
 -- The pair search as two nested loops see it: what is left of the candidates at k + l = s and k, and how each turn moves on. Assumes
 -- nothing.
-use mathlib.Core.Path.{_≡_, refl, sym, ap, _∙_}
-use mathlib.Core.Bool.{Bool, true, false, cond}
+use mathlib.Core.Path.{_≡_, refl, ap, _∙_}
+use mathlib.Core.Bool.{true, false}
 use mathlib.Core.List.{List, [], _∷_, _++_, map}
 use Prim.Native.Nat.{ℕ, zero, suc, _+_, _-_, _≤_, _<_}
 use native.Mathlib.Omega.{arith}
@@ -19,12 +19,11 @@ pairAt s k = record { k = k; l = s - k }
 
 -- the candidates from it on
 unfoldable pub left : ℕ → ℕ → List Pair
-unfolding pairAt
 left s k = map (pairAt s) (range k (s - k)) ++ gather (range (suc s) (64 - s))
 
 -- the answer of the search from there on
-unfoldable pub search : Edge → ℕ → ℕ → Answer Pair
-search e s k = first (qualifies e) (left s k) 16
+unfoldable pub searchFrom : Edge → ℕ → ℕ → Answer Pair
+searchFrom e s k = first (qualifies e) (left s k) 16
 
 range-step : (a n m : ℕ) → n ≡ suc m → range a n ≡ a ∷ range (suc a) m
 unfolding range
@@ -52,33 +51,33 @@ unfolding pairAt
 off-dial e s k h = is-false (qualifies e (pairAt s k)) (not-T (qualifies e (pairAt s k)) λ t. let q = qualified-of e (pairAt s k) t in h (q .k-dial) (q .l-dial))
 
 module _ (e : Edge) where
-  pub search-start : first (qualifies e) pairs 16 ≡ search e 2 1
-  unfolding search
+  pub search-start : first (qualifies e) pairs 16 ≡ searchFrom e 2 1
+  unfolding searchFrom
   search-start = rw left-start
 
   -- a candidate that qualifies is the answer
-  pub search-found : (s k : ℕ) → k < s → qualifies e (pairAt s k) ≡ true → search e s k ≡ accepted (pairAt s k)
-  unfolding search first
+  pub search-found : (s k : ℕ) → k < s → qualifies e (pairAt s k) ≡ true → searchFrom e s k ≡ accepted (pairAt s k)
+  unfolding searchFrom first
   search-found s k h q = rw (left-step s k h, q)
 
   -- one that does not leaves the next
-  pub search-step : (s k : ℕ) → k < s → qualifies e (pairAt s k) ≡ false → search e s k ≡ search e s (suc k)
-  unfolding search first
+  pub search-step : (s k : ℕ) → k < s → qualifies e (pairAt s k) ≡ false → searchFrom e s k ≡ searchFrom e s (suc k)
+  unfolding searchFrom first
   search-step s k h q = rw (left-step s k h, q)
 
   -- past the last k, the next sum
-  pub search-next : (s : ℕ) → s < 64 → search e s s ≡ search e (suc s) 1
-  unfolding search
+  pub search-next : (s : ℕ) → s < 64 → searchFrom e s s ≡ searchFrom e (suc s) 1
+  unfolding searchFrom
   search-next s h = rw (left-next s h)
 
-  pub search-end : search e 64 64 ≡ refused 16
-  unfolding search first
+  pub search-end : searchFrom e 64 64 ≡ refused 16
+  unfolding searchFrom first
   search-end = rw left-end
 
   -- past k = 32, none with this sum
-  skip : (n s k : ℕ) → 32 < k → k + n ≡ s → search e s k ≡ search e s s
-  skip zero s k h i = ap (search e s) (omega arith)
+  skip : (n s k : ℕ) → 32 < k → k + n ≡ s → searchFrom e s k ≡ searchFrom e s s
+  skip zero s k h i = ap (searchFrom e s) (omega arith)
   skip (suc n) s k h i = search-step s k (omega arith) (off-dial e s k λ a b. let d = dial-of k a in omega arith) ∙ skip n s (suc k) (omega arith) (omega arith)
 
-  pub search-skip : (s k : ℕ) → 32 < k → k ≤ s → search e s k ≡ search e s s
+  pub search-skip : (s k : ℕ) → 32 < k → k ≤ s → searchFrom e s k ≡ searchFrom e s s
   search-skip s k h i = skip (s - k) s k h (omega arith)

@@ -1,9 +1,9 @@
 -- What each accepted merge, drop and collapse keeps: the network that it leaves is sound and simulates the one before. Assumes nothing.
-use mathlib.Core.Path.{_≡_, refl, sym, ap, _∙_, subst}
-use mathlib.Core.Bool.{Bool, _&&_}
+use mathlib.Core.Path.{_≡_, refl, ap, _∙_, subst}
+use mathlib.Core.Bool.{_&&_}
 use mathlib.Core.List.{List, [], _∷_, map}
 use mathlib.Core.Logic.{_≢_, _↔_}
-use Prim.Native.Nat.{ℕ, suc, _+_, _-_, _≤_, _<_}
+use Prim.Native.Nat.{ℕ, suc, _-_}
 use native.Mathlib.Omega.{arith}
 use lib.Dec.{T, leb→le}
 use lib.ListN.{length}
@@ -11,13 +11,13 @@ use lib.Seq.{map-set-same}
 use Rattle.integers.specs.Lists.{all, range, other}
 use Rattle.integers.specs.Tests.{T-and, cond-case, or-case, other-ne}
 use Rattle.integers.specs.ListLaws.{Each, each-of, each-imp, kept, all-other}
-use Rattle.integers.specs.Refusals.{Answer, accepted, Test, _else_, checks, bind}
+use Rattle.integers.specs.Refusals.{accepted, _else_}
 use Rattle.integers.specs.RefusalLaws.{Passed, accepted-inj, checks-accepted, passed-checks, bind-accepted}
 use Rattle.network.specs.Threshold.{Gate, Net, Assignment, bit}
 use Rattle.network.specs.Limits.{isGate, sound}
 use Rattle.network.specs.Record.{noGate}
-use Rattle.network.specs.Changes.{gateAt, withGate, without}
-use Rattle.network.specs.LimitLaws.{GateOk, Gates, Has, Sound, has-of, sound-of, gate-ok}
+use Rattle.network.specs.Changes.{gateAt, withGate}
+use Rattle.network.specs.LimitLaws.{GateOk, Gates, Has, has-of, sound-of, gate-ok}
 use Rattle.equivalence.specs.ConsistentLaws.{own-bit, sim-trans, replaced}
 use Rattle.folding.specs.Merge.{Edge, edge, silent, reads, among, distinct, merged, narrow, agrees, limits, merge}
 use Rattle.folding.specs.Pair.{pairOf}

@@ -1,9 +1,9 @@
 -- Sweeps: each step is a collapse, they end, nothing is left to collapse, and the count is the number of gates lost. Assumes nothing.
-use mathlib.Core.Path.{_≡_, refl, sym, ap, _∙_, subst}
+use mathlib.Core.Path.{_≡_, refl, sym, subst}
 use mathlib.Core.List.{List, [], _∷_}
 use Prim.Native.Nat.{ℕ, zero, suc, _+_, _-_, _≤_, _<_}
 use native.Mathlib.Omega.{arith}
-use lib.Dec.{T, leb, le→leb}
+use lib.Dec.{leb, le→leb}
 use lib.ListN.{length}
 use Rattle.integers.specs.Refusals.{Answer, accepted, refused, Test, _else_, checks}
 use Rattle.integers.specs.RefusalLaws.{accepted≢refused, accepted-inj, checks-accepted}
