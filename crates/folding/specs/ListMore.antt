@@ -35,7 +35,9 @@ module _ {A : Type 0} where
   append-right P [] ys h = h
   append-right P (x ∷ xs) ys h = append-right P xs ys (h .1)
 
-  -- ---- each member comes before those after it
+  -- ---- rising order
+
+  -- each member comes before those after it
   abbrev pub Ascending : (A → A → Type 0) → List A → Type 0
   Ascending R [] = Unit {0}
   Ascending R (x ∷ xs) = Each (R x) xs × Ascending R xs

@@ -47,7 +47,9 @@ raised-lowered u s h = elim (decLt u s) as (λ d. raised u (lowered u s) ≡ s) 
   | no k ↦ rw (lowered-le u s (omega arith)) (raised-lt u s (omega arith))
 ]
 
--- ---- a gate that does not read u
+-- ---- gates that do not read u
+
+-- no feed of g is u
 abbrev pub Free : ℕ → Gate → Type 0
 Free u g = Each (λ s. s ≢ u) (signalsOf (g .feeds))
 
@@ -55,8 +57,9 @@ pub silent-free : (u : ℕ) (g : Gate) → T (silent u g) → Free u g
 unfolding silent
 silent-free u g t = all-other u (signalsOf (g .feeds)) t
 
--- ---- the assignment that follows the signals down
+-- ---- what is left fits
 module _ (ρ : Assignment) (u : ℕ) where
+  -- the assignment that follows the signals down
   abbrev moved : Assignment
   moved s = ρ (raised u s)
 

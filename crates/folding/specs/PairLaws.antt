@@ -42,7 +42,9 @@ module _ {A : Type 0} (p : A → Bool) where
   first-none (y ∷ xs) c h = cond-case {A = Answer A} (λ r. Refused r → Each (λ z. T (not (p z))) (y ∷ xs)) (p y) {x = accepted y} {y = first p xs c}
       (λ t h. absurd h) (λ t h. (t, first-none xs c h)) h
 
--- ---- what qualifies, as facts
+-- ---- what qualifies
+
+-- the tests as facts
 pub record Qualified (e : Edge) (p : Pair) : Type 0 where
   pub k-dial : T (onDial (p .k))
   pub l-dial : T (onDial (p .l))
@@ -109,10 +111,12 @@ unfolding pairs
 pairs-ascending = gather-ascending 2 63
 
 -- ---- the search over two gates
+
+-- what is tested before it
 abbrev pairTests : Edge → List Test
 pairTests e = (withGrain e else 13) ∷ (narrow e else 7) ∷ []
 
--- an accepted pair qualifies, and none before it does
+-- what an accepted pair says: the tests before the search hold, and it is the least that qualifies
 pub record Found (e : Edge) (p : Pair) : Type 0 where
   pub passed : Passed (pairTests e)
   pub best : Least e p
@@ -145,6 +149,8 @@ unfolding pairOf
 pairOf-tried e p a b t h = T-not (qualifies e p) (none-of e (checks-refused (pairTests e) (first (qualifies e) pairs 16) (a, (b, tt)) h) p) t
 
 -- ---- the call
+
+-- what it tests before the two gates
 abbrev callTests : Net → ℕ → ℕ → List Test
 callTests N u v = (sound N else 20) ∷ (isGate N u && isGate N v else 11) ∷ (reads u (gateAt N v) else 12) ∷ []
 

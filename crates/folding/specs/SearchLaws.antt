@@ -13,11 +13,11 @@ use Rattle.folding.specs.Merge.{Edge, onDial}
 use Rattle.folding.specs.Pair.{Pair, pairsOf, gather, pairs, qualifies, first}
 use Rattle.folding.specs.PairLaws.{qualified-of, dial-of}
 
--- the candidate with k + l = s
+-- the candidate k with k + l = s
 unfoldable pub pairAt : ℕ → ℕ → Pair
 pairAt s k = record { k = k; l = s - k }
 
--- the candidates from it on
+-- the candidates from k on with that sum, and those with greater sums
 unfoldable pub left : ℕ → ℕ → List Pair
 left s k = map (pairAt s) (range k (s - k)) ++ gather (range (suc s) (64 - s))
 

@@ -37,6 +37,8 @@ orElse-refused (accepted b) q h = absurd h
 orElse-refused (refused c) q h = (tt, h)
 
 -- ---- each step of a sweep is a collapse
+
+-- the test of a step: u has at most B readers
 abbrev few : Net → ℕ → ℕ → List Test
 few N B u = (leb (readers N u) B else 0) ∷ []
 
@@ -60,7 +62,9 @@ unfolding sweepOnce
 sweepOnce-settled N B s h u c r = collapse-tried N u s c (subst (λ x. Refused (collapse N x)) (let e : N .inputs + (u - N .inputs) ≡ u = omega (arith, c .is-gate) in e)
     (sweepFrom-refused N B (N .inputs) (length (N .gates)) h (u - N .inputs) (omega (arith, c .is-gate)) (subst (λ x. readers N x ≤ B) (omega (arith, c .is-gate)) r)))
 
--- ---- the whole sweep: what it keeps, what it counts, and that n turns are enough for n gates
+-- ---- the whole sweep
+
+-- what n turns do after c collapses: what they keep and count, and that they are enough for n gates
 record Sweeps (N : Net) (B c n : ℕ) (s : Swept) : Type 0 where
   all-kept : Kept N (s .net)
   counted : s .collapses + length (s .net .gates) ≡ c + length (N .gates)
