@@ -4,3 +4,17 @@ pub mod Collapse
 pub mod Sweep
 pub mod Calls
 pub mod Aligned
+pub mod Guarantee
+pub mod ListMore
+pub mod RefusalMore
+pub mod LowerLaws
+pub mod AgreeLaws
+pub mod SoundLaws
+pub mod PairLaws
+pub mod SearchLaws
+pub mod StepLaws
+pub mod CollapseLaws
+pub mod SweepLaws
+pub mod GuaranteeLaws
+pub mod Bench
+pub mod BenchLaws
