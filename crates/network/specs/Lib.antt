@@ -4,3 +4,6 @@ pub mod Record
 pub mod Changes
 pub mod Reading
 pub mod LimitLaws
+pub mod Evaluation
+pub mod WordLaws
+pub mod SoundLaws
