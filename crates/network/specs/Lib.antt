@@ -4,3 +4,4 @@ pub mod Record
 pub mod Changes
 pub mod Reading
 pub mod LimitLaws
+pub mod RecordTests
