@@ -7,3 +7,4 @@ pub mod LimitLaws
 pub mod Evaluation
 pub mod WordLaws
 pub mod SoundLaws
+pub mod RecordTests
