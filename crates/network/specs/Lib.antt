@@ -11,3 +11,5 @@ pub mod PlaceLaws
 pub mod TestLaws
 pub mod SpareLaws
 pub mod RecordLaws
+pub mod ReplaceLaws
+pub mod RemoveLaws
