@@ -20,3 +20,11 @@ pub struct Outcome {
     pub network: Network,
     pub collapses: usize,
 }
+
+// The multipliers for each reader of a gate, by the reader's number: 0 or the first refusal, and k and l for every gate that is a
+// reader, 0 for every other.
+pub struct Pairs {
+    pub code: u8,
+    pub ks: [u8; 128],
+    pub ls: [u8; 128],
+}
