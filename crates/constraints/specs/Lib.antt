@@ -1,3 +1,9 @@
 pub mod Question
 pub mod Text
 pub mod Meaning
+pub mod Demand
+pub mod ListMore
+pub mod SolutionLawsGates
+pub mod SolutionLawsOutputs
+pub mod FrameLaws
+pub mod SolutionLaws
