@@ -2,12 +2,14 @@
 use mathlib.Core.Path.{_≡_, refl, sym, ap, _∙_}
 use mathlib.Core.Bool.{Bool, true, false, cond}
 use mathlib.Core.List.{List, [], _∷_, map}
+use mathlib.Core.Logic.{_↔_}
 use Prim.Native.Nat.{ℕ, zero, suc, _+_, _*_, _/_, _%_, _^_, _<_}
-use native.Mathlib.Nat.{zero-div, div-div-eq-div-mul, pow-succ'}
+use native.Mathlib.Nat.{zero-div, div-div-eq-div-mul, div-lt-iff-lt-mul, div-eq-of-lt, pow-succ'}
 use native.Mathlib.Omega.{arith}
-use lib.Dec.{eqb}
+use lib.Dec.{T, eqb, eqb→eq}
+use lib.Pow.{pow-pos}
 use lib.ListN.{length, getD}
-use Rattle.network.specs.Threshold.{frame, digit, wordOf}
+use Rattle.network.specs.Threshold.{frame, fitsFrame, digit, wordOf}
 
 pub word-below : (bs : List Bool) → wordOf bs < 2 ^ length bs
 unfolding wordOf
@@ -35,3 +37,11 @@ unfolding frame wordOf
 frame-word [] i = rw (zero-div (2 ^ i))
 frame-word (b ∷ bs) zero = first-bit b (wordOf bs)
 frame-word (b ∷ bs) (suc i) = ap (λ (n : ℕ). eqb (n % 2) 1) (later-bit b (wordOf bs) i) ∙ frame-word bs i
+
+-- the frames that are not refused are the numbers of as many bits as there are inputs
+pub fits-below : (n x : ℕ) → T (fitsFrame n x) ↔ (x < 2 ^ n)
+unfolding fitsFrame
+fits-below n x = (
+  λ t. omega (arith, div-lt-iff-lt-mul {k = 2 ^ n} {x = x} {y = 1} (pow-pos n) .0 (omega (arith, eqb→eq (x / 2 ^ n) 0 t))),
+  λ h. rw (div-eq-of-lt h) tt,
+)

@@ -19,57 +19,37 @@ use Rattle.equivalence.specs.Consistent.{Vals, Fits, Ordered, Good}
 use Rattle.equivalence.specs.ConsistentLaws.{bit-local, map-same, values-fit, values-inputs, outputs-one, sound-good}
 use Rattle.constraints.specs.Question.{Line, holds, Solves, secondVariable, gateLines, outputLines, lastLine, firstDifference, question}
 use Rattle.constraints.specs.Demand.{HasSolution, Differ, Decides, secondBits, Apart, Solution}
+use Rattle.constraints.specs.Stretches.{firstLines, secondLines, pairLines, lastOf}
 use Rattle.constraints.specs.ListMore.{each-append, append-left, append-right}
+use Rattle.constraints.specs.LineLaws.{second-input, second-gate, question-is}
 use Rattle.constraints.specs.FrameLaws.{word-below, frame-word}
 use Rattle.constraints.specs.SolutionLawsGates.{lines-fit}
 use Rattle.constraints.specs.SolutionLawsOutputs.{outputs-apart, last-some}
 
--- ---- the variables of the second network
-pub second-input : (i g s : ℕ) → s < i → secondVariable i g s ≡ s
-unfolding secondVariable
-second-input i g s h = rw (is-true (ltb s i) (lt→ltb s i h))
-
-pub second-gate : (i g s : ℕ) → i ≤ s → secondVariable i g s ≡ s + g
-unfolding secondVariable
-second-gate i g s h = rw (is-false (ltb s i) (le→nltb s i h))
-
 -- ---- what a solution is
 module _ (N M : Net) where
-  φ : ℕ → ℕ
-  φ = secondVariable (N .inputs) (length (N .gates))
-
-  first : List Line
-  first = gateLines (λ s. s) (N .inputs) (N .gates)
-
-  second : List Line
-  second = gateLines φ (M .inputs) (M .gates)
-
-  outs : List Line
-  outs = outputLines (N .outputs) (map φ (M .outputs)) (firstDifference N M)
-
-  outs-apart : (ρ : Assignment) → length (N .outputs) ≡ length (M .outputs)
-      → Solves ρ outs ↔ ((j : ℕ) → j < length (N .outputs) → T (ρ (firstDifference N M + j)) → Apart N M ρ j)
-  unfolding outs φ
-  outs-apart ρ e = subst (λ (bs : List Bool). Solves ρ outs ↔ ((j : ℕ) → j < length (N .outputs) → T (ρ (firstDifference N M + j)) → getD (map ρ (N .outputs)) j false ≢ getD bs j false))
-      (map-map ρ φ (M .outputs)) (outputs-apart ρ (N .outputs) (map φ (M .outputs)) (firstDifference N M) (e ∙ sym (length-map (M .outputs) φ)))
+  pairs-apart : (ρ : Assignment) → length (N .outputs) ≡ length (M .outputs)
+      → Solves ρ (pairLines N M) ↔ ((j : ℕ) → j < length (N .outputs) → T (ρ (firstDifference N M + j)) → Apart N M ρ j)
+  unfolding pairLines
+  pairs-apart ρ e = rw map-map at (outputs-apart ρ (N .outputs) (map (secondVariable (N .inputs) (length (N .gates))) (M .outputs)) (firstDifference N M)
+      (e ∙ sym (length-map (M .outputs) (secondVariable (N .inputs) (length (N .gates))))))
 
   -- an assignment solves the question exactly where it is a solution in terms of the networks
   pub solves-is : (ρ : Assignment) → length (N .outputs) ≡ length (M .outputs) → Solves ρ (question N M) ↔ Solution N M ρ
-  unfolding question first second outs φ
-  solves-is ρ e = (
+  unfolding firstLines secondLines lastOf
+  solves-is ρ e = rw question-is (
     λ h.
-        let gs = append-left P (first ++ second ++ outs) _ h in
-        let ns = append-left P (first ++ second) outs gs in
+        let behind = append-right P (firstLines N) _ h in
+        let outs = append-right P (secondLines N M) _ behind in
         record {
-          first-fits = lines-fit ρ (λ s. s) (N .inputs) (N .gates) .0 (append-left P first second ns);
-          second-fits = lines-fit ρ φ (M .inputs) (M .gates) .0 (append-right P first second ns);
-          apart = outs-apart ρ e .0 (append-right P (first ++ second) outs gs);
-          some-one = last-some ρ (firstDifference N M) (length (N .outputs)) .0 (append-right P (first ++ second ++ outs) _ h .0);
+          first-fits = lines-fit ρ (λ s. s) (N .inputs) (N .gates) .0 (append-left P (firstLines N) _ h);
+          second-fits = lines-fit ρ (secondVariable (N .inputs) (length (N .gates))) (M .inputs) (M .gates) .0 (append-left P (secondLines N M) _ behind);
+          apart = pairs-apart ρ e .0 (append-left P (pairLines N M) _ outs);
+          some-one = last-some ρ (firstDifference N M) (length (N .outputs)) .0 (append-right P (pairLines N M) _ outs .0);
         },
-    λ s.
-        let ns = each-append P first second (lines-fit ρ (λ s. s) (N .inputs) (N .gates) .1 (s .first-fits)) (lines-fit ρ φ (M .inputs) (M .gates) .1 (s .second-fits)) in
-        let gs = each-append P (first ++ second) outs ns (outs-apart ρ e .1 (s .apart)) in
-        each-append P (first ++ second ++ outs) _ gs (last-some ρ (firstDifference N M) (length (N .outputs)) .1 (s .some-one), tt),
+    λ s. each-append P (firstLines N) _ (lines-fit ρ (λ s. s) (N .inputs) (N .gates) .1 (s .first-fits))
+        (each-append P (secondLines N M) _ (lines-fit ρ (secondVariable (N .inputs) (length (N .gates))) (M .inputs) (M .gates) .1 (s .second-fits))
+        (each-append P (pairLines N M) _ (pairs-apart ρ e .1 (s .apart)) (last-some ρ (firstDifference N M) (length (N .outputs)) .1 (s .some-one), tt))),
   )
     where
       P : Line → Type 0
