@@ -1,5 +1,5 @@
 -- How many lines the question has, and which line stands at which number. Assumes nothing.
-use mathlib.Core.Path.{_≡_, refl, sym, ap, _∙_, subst}
+use mathlib.Core.Path.{_≡_, refl, sym, ap, _∙_}
 use mathlib.Core.List.{List, [], _∷_, _++_, map, map-id, append-assoc}
 use Prim.Native.Nat.{ℕ, zero, suc, _+_, _*_, _≤_, _<_}
 use native.Mathlib.Omega.{arith}
@@ -10,9 +10,9 @@ use lib.Seq.{getD-at}
 use Rattle.integers.specs.Tests.{is-true, is-false}
 use Rattle.network.specs.Threshold.{Gate, Net}
 use Rattle.network.specs.Record.{nthGate}
-use Rattle.constraints.specs.Question.{Line, term, upper, lower, secondVariable, overGate, gateLines, someLine, notBothLine, outputLines, lastLine, firstDifference, question}
+use Rattle.constraints.specs.Question.{upper, lower, secondVariable, overGate, gateLines, someLine, notBothLine, outputLines, lastLine, firstDifference, question}
 use Rattle.constraints.specs.Text.{noLine}
-use Rattle.constraints.specs.Stretches.{firstLines, secondLines, pairLines, lastOf}
+use Rattle.constraints.specs.Stretches.{secondOf, firstLines, secondLines, pairLines, lastOf}
 use Rattle.constraints.specs.ListMore.{getD-behind, getD-map}
 
 -- ---- the variables of the second network
@@ -77,7 +77,7 @@ module _ (N M : Net) where
 
   length-second : length (secondLines N M) ≡ 2 * length (M .gates)
   unfolding secondLines
-  length-second = length-gateLines (secondVariable (N .inputs) (length (N .gates))) (M .inputs) (M .gates)
+  length-second = length-gateLines (secondOf N) (M .inputs) (M .gates)
 
   at-first : (i : ℕ) → i < 2 * length (N .gates) → getD (question N M) i noLine ≡ getD (firstLines N) i noLine
   at-first i h = rw question-is (List·getD-append (firstLines N) _ noLine i (omega (arith, length-first)))
@@ -93,12 +93,12 @@ module _ (N M : Net) where
       (behind-first (2 * length (M .gates) + i) ∙ getD-behind (secondLines N M) _ noLine (2 * length (M .gates)) i (sym length-second))
 
   module _ (same : length (N .outputs) ≡ length (M .outputs)) where
-    same-outputs : length (N .outputs) ≡ length (map (secondVariable (N .inputs) (length (N .gates))) (M .outputs))
+    same-outputs : length (N .outputs) ≡ length (map (secondOf N) (M .outputs))
     same-outputs = same ∙ sym (length-map (M .outputs) _)
 
     length-pairs : length (pairLines N M) ≡ 2 * length (N .outputs)
     unfolding pairLines
-    length-pairs = length-outputLines (N .outputs) (map (secondVariable (N .inputs) (length (N .gates))) (M .outputs)) (firstDifference N M) same-outputs
+    length-pairs = length-outputLines (N .outputs) (map (secondOf N) (M .outputs)) (firstDifference N M) same-outputs
 
     pub question-length : length (question N M) ≡ 2 * length (N .gates) + 2 * length (M .gates) + 2 * length (N .outputs) + 1
     question-length = rw question-is (simp length-append (omega (arith, length-first, length-second, length-pairs)))
@@ -108,17 +108,17 @@ module _ (N M : Net) where
 
     -- the two lines of output j
     pub output-some : (j : ℕ) → j < length (N .outputs) → getD (question N M) (2 * length (N .gates) + 2 * length (M .gates) + 2 * j) noLine
-        ≡ someLine (getD (N .outputs) j 0) (secondVariable (N .inputs) (length (N .gates)) (getD (M .outputs) j 0)) (firstDifference N M + j)
+        ≡ someLine (getD (N .outputs) j 0) (secondOf N (getD (M .outputs) j 0)) (firstDifference N M + j)
     unfolding pairLines
     output-some j h = at-pairs (2 * j) (omega arith) ∙ output-lines (N .outputs) _ (firstDifference N M) j same-outputs h .0
         ∙ ap (λ (q : ℕ). someLine (getD (N .outputs) j 0) q (firstDifference N M + j)) (getD-map _ (M .outputs) j 0 0 (omega arith))
 
     pub output-notBoth : (j : ℕ) → j < length (N .outputs) → getD (question N M) (2 * length (N .gates) + 2 * length (M .gates) + 2 * j + 1) noLine
-        ≡ notBothLine (getD (N .outputs) j 0) (secondVariable (N .inputs) (length (N .gates)) (getD (M .outputs) j 0)) (firstDifference N M + j)
+        ≡ notBothLine (getD (N .outputs) j 0) (secondOf N (getD (M .outputs) j 0)) (firstDifference N M + j)
     unfolding pairLines
     output-notBoth j h = rw (let e : 2 * length (N .gates) + 2 * length (M .gates) + 2 * j + 1 ≡ 2 * length (N .gates) + 2 * length (M .gates) + (2 * j + 1) = omega arith in e)
         (at-pairs (2 * j + 1) (omega arith) ∙ output-lines (N .outputs) _ (firstDifference N M) j same-outputs h .1
-            ∙ ap (λ (q : ℕ). notBothLine (getD (N .outputs) j 0) q (firstDifference N M + j)) (getD-map _ (M .outputs) j 0 0 (omega arith)))
+        ∙ ap (λ (q : ℕ). notBothLine (getD (N .outputs) j 0) q (firstDifference N M + j)) (getD-map _ (M .outputs) j 0 0 (omega arith)))
 
     pub last-line : getD (question N M) (2 * length (N .gates) + 2 * length (M .gates) + 2 * length (N .outputs)) noLine ≡ lastLine (firstDifference N M) (length (N .outputs))
     unfolding lastOf
@@ -135,18 +135,18 @@ module _ (N M : Net) where
 
   -- the two lines of gate g of the second network
   module _ (same : N .inputs ≡ M .inputs) where
-    second-own : (g : ℕ) → secondVariable (N .inputs) (length (N .gates)) (M .inputs + g) ≡ N .inputs + length (N .gates) + g
+    second-own : (g : ℕ) → secondOf N (M .inputs + g) ≡ N .inputs + length (N .gates) + g
     second-own g = second-gate (N .inputs) (length (N .gates)) (M .inputs + g) (omega arith) ∙ omega arith
 
     pub second-upper : (g : ℕ) → g < length (M .gates) → getD (question N M) (2 * length (N .gates) + 2 * g) noLine
-        ≡ upper (N .inputs + length (N .gates) + g) (overGate (secondVariable (N .inputs) (length (N .gates))) (nthGate (M .gates) g))
+        ≡ upper (N .inputs + length (N .gates) + g) (overGate (secondOf N) (nthGate (M .gates) g))
     unfolding secondLines
-    second-upper g h = at-second (2 * g) (omega arith) ∙ gate-lines (secondVariable (N .inputs) (length (N .gates))) (M .inputs) g (M .gates) h .0
-        ∙ ap (λ (y : ℕ). upper y (overGate (secondVariable (N .inputs) (length (N .gates))) (nthGate (M .gates) g))) (second-own g)
+    second-upper g h = at-second (2 * g) (omega arith) ∙ gate-lines (secondOf N) (M .inputs) g (M .gates) h .0
+        ∙ ap (λ (y : ℕ). upper y (overGate (secondOf N) (nthGate (M .gates) g))) (second-own g)
 
     pub second-lower : (g : ℕ) → g < length (M .gates) → getD (question N M) (2 * length (N .gates) + 2 * g + 1) noLine
-        ≡ lower (N .inputs + length (N .gates) + g) (overGate (secondVariable (N .inputs) (length (N .gates))) (nthGate (M .gates) g))
+        ≡ lower (N .inputs + length (N .gates) + g) (overGate (secondOf N) (nthGate (M .gates) g))
     unfolding secondLines
     second-lower g h = rw (let e : 2 * length (N .gates) + 2 * g + 1 ≡ 2 * length (N .gates) + (2 * g + 1) = omega arith in e)
-        (at-second (2 * g + 1) (omega arith) ∙ gate-lines (secondVariable (N .inputs) (length (N .gates))) (M .inputs) g (M .gates) h .1
-            ∙ ap (λ (y : ℕ). lower y (overGate (secondVariable (N .inputs) (length (N .gates))) (nthGate (M .gates) g))) (second-own g))
+        (at-second (2 * g + 1) (omega arith) ∙ gate-lines (secondOf N) (M .inputs) g (M .gates) h .1
+        ∙ ap (λ (y : ℕ). lower y (overGate (secondOf N) (nthGate (M .gates) g))) (second-own g))

@@ -1,10 +1,10 @@
 -- More laws of lists: what holds of each member of joined lists, of a list of values and of a range, and which member stands where.
 -- Assumes nothing.
-use mathlib.Core.Path.{_≡_, refl, ap, _∙_}
+use mathlib.Core.Path.{_≡_, refl}
 use mathlib.Core.List.{List, [], _∷_, _++_, map}
 use Prim.Native.Nat.{ℕ, zero, suc, _+_, _<_}
 use native.Mathlib.Omega.{arith}
-use lib.ListN.{length, getD, length-append, List·getD-append}
+use lib.ListN.{length, getD}
 use lib.Seq.{getD-append-add}
 use Rattle.integers.specs.Lists.{range}
 use Rattle.integers.specs.ListLaws.{Each}

@@ -1,20 +1,19 @@
 -- What a line's text says is the line, if its numbers have at most 20 digits; so every line of the question of two sound networks is
 -- said by its text. Assumes nothing.
-use mathlib.Core.Path.{_≡_, refl, sym, ap, _∙_, subst}
-use mathlib.Core.Bool.{Bool, true, false, not, cond}
+use mathlib.Core.Path.{_≡_, refl, ap, _∙_}
+use mathlib.Core.Bool.{true, false, cond}
 use mathlib.Core.List.{List, [], _∷_, _++_, append-assoc}
 use mathlib.Core.Logic.{_≢_}
 use Prim.Native.Nat.{ℕ, zero, suc, _+_, _-_, _*_, _/_, _%_, _^_, _≤_, _<_}
 use native.Mathlib.Omega.{arith}
-use lib.Dec.{T, eqb, ltb, ltb→lt}
+use lib.Dec.{T, ltb, ltb→lt}
 use lib.IntN.{ℤ, pos, negsuc, negℤ, natAbs}
-use lib.Signed.{nonNeg}
 use lib.ListN.{length, getD}
 use Rattle.integers.specs.ListLaws.{Each, each-imp, each-getD}
 use Rattle.integers.specs.Tests.{eqb-no}
 use Rattle.network.specs.Threshold.{Feed, Net}
 use Rattle.network.specs.LimitLaws.{Sound}
-use Rattle.constraints.specs.Question.{Line, term, question}
+use Rattle.constraints.specs.Question.{Line, question}
 use Rattle.constraints.specs.Text.{digits, decimal, coefficient, rightSide, variableName, termText, termsText, lineText, noLine, questionText}
 use Rattle.constraints.specs.Meaning.{prepend, words, numberAfter, signedOf, variableOf, isRelation, withTerm, lineOfWords, lineOf}
 use Rattle.constraints.specs.ListMore.{each-append}

@@ -1,26 +1,25 @@
 -- How large the numbers in the question's lines are, and that none of its lines is longer than 254 bytes. Assumes nothing.
-use mathlib.Core.Path.{_≡_, refl, sym, ap, _∙_, subst}
-use mathlib.Core.Bool.{Bool, true, false, cond}
+use mathlib.Core.Path.{_≡_, refl, ap}
+use mathlib.Core.Bool.{true, false, cond}
 use mathlib.Core.List.{List, [], _∷_, _++_, map}
 use Prim.Native.Nat.{ℕ, zero, suc, _+_, _*_, _^_, _≤_, _<_}
-use native.Mathlib.Decide.{decLt}
 use native.Mathlib.Omega.{arith}
 use lib.Dec.{T, ltb, leb→le}
 use lib.IntN.{ℤ, pos, negsuc, natAbs, _+ℤ_, _-ℤ_}
 use lib.Signed.{nonNeg}
-use lib.ListN.{length, getD, length-append, length-map}
+use lib.ListN.{length, length-append, length-map}
 use Rattle.integers.specs.Lists.{all, range}
 use Rattle.integers.specs.ListLaws.{Each, each-of, each-imp, each-getD, length-range}
 use Rattle.integers.specs.Size.{size-neg, size-add, size-sub}
 use Rattle.integers.specs.Tests.{T-and}
 use Rattle.network.specs.Threshold.{Feed, Gate, Net}
-use Rattle.network.specs.Limits.{signalsOf, inScale, isZero, weightOk, scaleOk}
+use Rattle.network.specs.Limits.{signalsOf, inScale, weightOk, scaleOk}
 use Rattle.network.specs.LimitLaws.{GateOk, Gates, Has, Sound, rise-below}
 use Rattle.constraints.specs.Question.{Line, most, least, term, negated, upper, lower, secondVariable, overGate, gateLines, someLine, notBothLine, outputLines, lastLine, firstDifference, question, variables}
-use Rattle.constraints.specs.Text.{termsText, lineText, noLine, variableWord, constraintWord, headerText, questionText, decimal}
-use Rattle.constraints.specs.Stretches.{firstLines, secondLines, pairLines, lastOf}
+use Rattle.constraints.specs.Text.{termsText, lineText, noLine, variableWord, constraintWord, headerText, questionText}
+use Rattle.constraints.specs.Stretches.{secondOf, firstLines, secondLines, pairLines, lastOf}
 use Rattle.constraints.specs.ListMore.{each-append, each-both, each-map, map-each, each-range}
-use Rattle.constraints.specs.LineLaws.{second-input, second-gate, question-is, question-length}
+use Rattle.constraints.specs.LineLaws.{question-is, question-length}
 use Rattle.constraints.specs.TextLaws.{decimal-short, Within, terms-short, terms-append, right-short, line-length}
 
 -- ---- the numbers of a gate
@@ -149,22 +148,18 @@ unfolding secondVariable
 second-most i g s = elim (ltb s i) as (λ b. cond b s (s + g) ≤ s + g) [ true ↦ omega arith | false ↦ omega arith ]
 
 module _ (N M : Net) (sn : Sound N) (sm : Sound M) where
-  φ : ℕ → ℕ
-  φ = secondVariable (N .inputs) (length (N .gates))
-
-  second-small : (s : ℕ) → s < M .inputs + length (M .gates) → φ s + 1 < 1000
-  unfolding φ
+  second-small : (s : ℕ) → s < M .inputs + length (M .gates) → secondOf N s + 1 < 1000
   second-small s h = omega (arith, second-most (N .inputs) (length (N .gates)) s, sn .few-gates .1, sm .few-inputs .1, sm .few-gates .1)
 
   pub question-narrow : Each Narrow (question N M)
-  unfolding firstLines secondLines pairLines lastOf firstDifference φ
+  unfolding firstLines secondLines pairLines lastOf firstDifference
   question-narrow = rw question-is
       (each-append Narrow (firstLines N) _ (gates-narrow (λ s. s) (N .inputs) (N .gates) (sn .all-gates) λ s h. omega (arith, sn .few-inputs .1, sn .few-gates .1))
-      (each-append Narrow (secondLines N M) _ (gates-narrow φ (M .inputs) (M .gates) (sm .all-gates) second-small)
-      (each-append Narrow (pairLines N M) _ (outputs-narrow (N .outputs) (map φ (M .outputs)) (firstDifference N M)
-          (each-imp (Has N) (λ p. p + 1 < 1000) (λ p h. omega (arith, h .1, sn .few-inputs .1, sn .few-gates .1)) (N .outputs) (sn .all-outputs))
-          (each-map (λ q. q + 1 < 1000) φ (M .outputs) (each-imp (Has M) (λ q. φ q + 1 < 1000) (λ q h. second-small q (h .1)) (M .outputs) (sm .all-outputs)))
-          few)
+      (each-append Narrow (secondLines N M) _ (gates-narrow (secondOf N) (M .inputs) (M .gates) (sm .all-gates) second-small)
+      (each-append Narrow (pairLines N M) _ (outputs-narrow (N .outputs) (map (secondOf N) (M .outputs)) (firstDifference N M)
+      (each-imp (Has N) (λ p. p + 1 < 1000) (λ p h. omega (arith, h .1, sn .few-inputs .1, sn .few-gates .1)) (N .outputs) (sn .all-outputs))
+      (each-map (λ q. q + 1 < 1000) (secondOf N) (M .outputs) (each-imp (Has M) (λ q. secondOf N q + 1 < 1000) (λ q h. second-small q (h .1)) (M .outputs) (sm .all-outputs)))
+      few)
       (last-narrow (firstDifference N M) (length (N .outputs)) (sn .few-outputs .1) few, tt))))
     where
       few : firstDifference N M + length (N .outputs) < 1000

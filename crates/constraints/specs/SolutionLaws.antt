@@ -1,9 +1,9 @@
 -- The question of two networks has a 0/1 solution exactly when some frame makes their outputs differ. Assumes nothing.
 use mathlib.Core.Path.{_≡_, refl, sym, ap, _∙_, subst}
 use mathlib.Core.Bool.{Bool, true, false, not, cond, Bool·beq, true≢false, false≢true}
-use mathlib.Core.List.{List, [], _∷_, _++_, map, map-map}
+use mathlib.Core.List.{List, [], _∷_, map, map-map}
 use mathlib.Core.Logic.{_≢_, _↔_}
-use Prim.Native.Nat.{ℕ, zero, suc, _+_, _-_, _^_, _≤_, _<_}
+use Prim.Native.Nat.{ℕ, suc, _+_, _-_, _^_, _≤_, _<_}
 use native.Mathlib.Decide.{decLt}
 use native.Mathlib.Omega.{arith}
 use lib.Dec.{T, ltb, lt→ltb}
@@ -16,10 +16,10 @@ use Rattle.network.specs.Threshold.{Gate, Net, Assignment, bit, values, frame, 
 use Rattle.network.specs.Limits.{signalsOf}
 use Rattle.network.specs.LimitLaws.{Sound}
 use Rattle.equivalence.specs.Consistent.{Vals, Fits, Ordered, Good}
-use Rattle.equivalence.specs.ConsistentLaws.{bit-local, map-same, values-fit, values-inputs, outputs-one, sound-good}
-use Rattle.constraints.specs.Question.{Line, holds, Solves, secondVariable, gateLines, outputLines, lastLine, firstDifference, question}
+use Rattle.equivalence.specs.ConsistentLaws.{bit-local, values-fit, values-inputs, outputs-one, sound-good}
+use Rattle.constraints.specs.Question.{Line, holds, Solves, firstDifference, question}
 use Rattle.constraints.specs.Demand.{HasSolution, Differ, Decides, secondBits, Apart, Solution}
-use Rattle.constraints.specs.Stretches.{firstLines, secondLines, pairLines, lastOf}
+use Rattle.constraints.specs.Stretches.{secondOf, firstLines, secondLines, pairLines, lastOf}
 use Rattle.constraints.specs.ListMore.{each-append, append-left, append-right}
 use Rattle.constraints.specs.LineLaws.{second-input, second-gate, question-is}
 use Rattle.constraints.specs.FrameLaws.{word-below, frame-word}
@@ -31,8 +31,8 @@ module _ (N M : Net) where
   pairs-apart : (ρ : Assignment) → length (N .outputs) ≡ length (M .outputs)
       → Solves ρ (pairLines N M) ↔ ((j : ℕ) → j < length (N .outputs) → T (ρ (firstDifference N M + j)) → Apart N M ρ j)
   unfolding pairLines
-  pairs-apart ρ e = rw map-map at (outputs-apart ρ (N .outputs) (map (secondVariable (N .inputs) (length (N .gates))) (M .outputs)) (firstDifference N M)
-      (e ∙ sym (length-map (M .outputs) (secondVariable (N .inputs) (length (N .gates))))))
+  pairs-apart ρ e = rw map-map at (outputs-apart ρ (N .outputs) (map (secondOf N) (M .outputs)) (firstDifference N M)
+      (e ∙ sym (length-map (M .outputs) (secondOf N))))
 
   -- an assignment solves the question exactly where it is a solution in terms of the networks
   pub solves-is : (ρ : Assignment) → length (N .outputs) ≡ length (M .outputs) → Solves ρ (question N M) ↔ Solution N M ρ
@@ -43,12 +43,12 @@ module _ (N M : Net) where
         let outs = append-right P (secondLines N M) _ behind in
         record {
           first-fits = lines-fit ρ (λ s. s) (N .inputs) (N .gates) .0 (append-left P (firstLines N) _ h);
-          second-fits = lines-fit ρ (secondVariable (N .inputs) (length (N .gates))) (M .inputs) (M .gates) .0 (append-left P (secondLines N M) _ behind);
+          second-fits = lines-fit ρ (secondOf N) (M .inputs) (M .gates) .0 (append-left P (secondLines N M) _ behind);
           apart = pairs-apart ρ e .0 (append-left P (pairLines N M) _ outs);
           some-one = last-some ρ (firstDifference N M) (length (N .outputs)) .0 (append-right P (pairLines N M) _ outs .0);
         },
     λ s. each-append P (firstLines N) _ (lines-fit ρ (λ s. s) (N .inputs) (N .gates) .1 (s .first-fits))
-        (each-append P (secondLines N M) _ (lines-fit ρ (secondVariable (N .inputs) (length (N .gates))) (M .inputs) (M .gates) .1 (s .second-fits))
+        (each-append P (secondLines N M) _ (lines-fit ρ (secondOf N) (M .inputs) (M .gates) .1 (s .second-fits))
         (each-append P (pairLines N M) _ (pairs-apart ρ e .1 (s .apart)) (last-some ρ (firstDifference N M) (length (N .outputs)) .1 (s .some-one), tt))),
   )
     where
@@ -75,7 +75,7 @@ solution-differs : (N M : Net) → Good N → Good M → N .inputs ≡ M .inputs
 solution-differs N M gn gm e ρ s k =
     let n = fits-outputs N ρ (frame (inputsFrame N ρ)) gn (s .first-fits) (frame-inputs N ρ) in
     let m = fits-outputs M (secondBits N ρ) (frame (inputsFrame N ρ)) gm (s .second-fits)
-        (λ i h. ap ρ (second-input (N .inputs) (length (N .gates)) i (omega arith)) ∙ frame-inputs N ρ i (omega arith)) in
+    (λ i h. ap ρ (second-input (N .inputs) (length (N .gates)) i (omega arith)) ∙ frame-inputs N ρ i (omega arith)) in
     let o = s .some-one in
     s .apart (o .0) (o .1) (o .2) (ap (λ (bs : List Bool). getD bs (o .0) false) (n ∙ k ∙ sym m))
 
@@ -143,27 +143,27 @@ module _ (N M : Net) (f : Assignment) where
   differs j = not (Bool·beq (getD (outputBits N f) j false) (getD (outputBits M f) j false))
 
   -- both networks' bits, and a d that is 1 exactly where the outputs differ
-  solution : Assignment
-  solution = pieces (N .inputs + length (N .gates)) (firstDifference N M) (values N f) (λ s. values M f (s - length (N .gates))) (λ s. differs (s - firstDifference N M))
+  frameSolution : Assignment
+  frameSolution = pieces (N .inputs + length (N .gates)) (firstDifference N M) (values N f) (λ s. values M f (s - length (N .gates))) (λ s. differs (s - firstDifference N M))
 
-  at-first : (s : ℕ) → s < N .inputs + length (N .gates) → values N f s ≡ solution s
-  unfolding solution
+  at-first : (s : ℕ) → s < N .inputs + length (N .gates) → values N f s ≡ frameSolution s
+  unfolding frameSolution
   at-first s h = sym (piece-first (N .inputs + length (N .gates)) (firstDifference N M) (values N f) _ _ s h)
 
-  at-second : N .inputs ≡ M .inputs → (s : ℕ) → s < M .inputs + length (M .gates) → values M f s ≡ secondBits N solution s
-  unfolding solution firstDifference
-  at-second e s h = elim (decLt s (N .inputs)) as (λ d. values M f s ≡ secondBits N solution s) [
+  at-second : N .inputs ≡ M .inputs → (s : ℕ) → s < M .inputs + length (M .gates) → values M f s ≡ secondBits N frameSolution s
+  unfolding frameSolution firstDifference
+  at-second e s h = elim (decLt s (N .inputs)) as (λ d. values M f s ≡ secondBits N frameSolution s) [
     | yes k ↦ rw (second-input (N .inputs) (length (N .gates)) s k) (values-inputs M f s (omega arith) ∙ sym (values-inputs N f s k) ∙ at-first s (omega arith))
     | no k ↦ rw (second-gate (N .inputs) (length (N .gates)) s (omega arith))
         (ap (values M f) (let j : s ≡ s + length (N .gates) - length (N .gates) = omega arith in j)
-            ∙ sym (piece-second (N .inputs + length (N .gates)) (firstDifference N M) (values N f) _ _ (s + length (N .gates)) (omega arith) (omega arith)))
+        ∙ sym (piece-second (N .inputs + length (N .gates)) (firstDifference N M) (values N f) _ _ (s + length (N .gates)) (omega arith) (omega arith)))
   ]
 
-  at-third : (j : ℕ) → solution (firstDifference N M + j) ≡ differs j
-  unfolding solution firstDifference
+  at-third : (j : ℕ) → frameSolution (firstDifference N M + j) ≡ differs j
+  unfolding frameSolution firstDifference
   at-third j = piece-third (N .inputs + length (N .gates)) (firstDifference N M) (values N f) _ _ (firstDifference N M + j) (omega arith) (omega arith) ∙ ap differs (omega arith)
 
-  solution-is : Good N → Good M → N .inputs ≡ M .inputs → length (N .outputs) ≡ length (M .outputs) → outputBits N f ≢ outputBits M f → Solution N M solution
+  solution-is : Good N → Good M → N .inputs ≡ M .inputs → length (N .outputs) ≡ length (M .outputs) → outputBits N f ≢ outputBits M f → Solution N M frameSolution
   unfolding differs
   solution-is gn gm ei eo k = record {
     first-fits = first-fits;
@@ -172,21 +172,25 @@ module _ (N M : Net) (f : Assignment) where
     some-one = (o .0, omega (arith, o .1, bits-many N f), subst T (sym (at-third (o .0))) (differs-one _ _ .1 (o .2)));
   }
     where
-      first-fits : Fits solution N
-      first-fits = fits-local (N .inputs) (N .gates) (values N f) solution (gn .ordered) at-first (values-fit N f gn)
-      second-fits : Fits (secondBits N solution) M
-      second-fits = fits-local (M .inputs) (M .gates) (values M f) (secondBits N solution) (gm .ordered) (at-second ei) (values-fit M f gm)
+      first-fits : Fits frameSolution N
+      first-fits = fits-local (N .inputs) (N .gates) (values N f) frameSolution (gn .ordered) at-first (values-fit N f gn)
+
+      second-fits : Fits (secondBits N frameSolution) M
+      second-fits = fits-local (M .inputs) (M .gates) (values M f) (secondBits N frameSolution) (gm .ordered) (at-second ei) (values-fit M f gm)
+
       o : (j : ℕ) × (j < length (outputBits N f)) × (getD (outputBits N f) j false ≢ getD (outputBits M f) j false)
       o = bits-differ (outputBits N f) (outputBits M f) (bits-many N f ∙ eo ∙ sym (bits-many M f)) k
-      n : map solution (N .outputs) ≡ outputBits N f
-      n = fits-outputs N solution f gn first-fits λ s h. sym (at-first s (omega arith)) ∙ values-inputs N f s h
-      m : map (secondBits N solution) (M .outputs) ≡ outputBits M f
-      m = fits-outputs M (secondBits N solution) f gm second-fits λ s h. sym (at-second ei s (omega arith)) ∙ values-inputs M f s h
+
+      n : map frameSolution (N .outputs) ≡ outputBits N f
+      n = fits-outputs N frameSolution f gn first-fits λ s h. sym (at-first s (omega arith)) ∙ values-inputs N f s h
+
+      m : map (secondBits N frameSolution) (M .outputs) ≡ outputBits M f
+      m = fits-outputs M (secondBits N frameSolution) f gm second-fits λ s h. sym (at-second ei s (omega arith)) ∙ values-inputs M f s h
 
 pub solution-of : (N M : Net) → Sound N → Sound M → N .inputs ≡ M .inputs → length (N .outputs) ≡ length (M .outputs)
     → (x : ℕ) → x < 2 ^ N .inputs → outputBits N (frame x) ≢ outputBits M (frame x) → HasSolution N M
 solution-of N M sn sm ei eo x h k =
-    (solution N M (frame x), solves-is N M (solution N M (frame x)) eo .1 (solution-is N M (frame x) (sound-good N sn) (sound-good M sm) ei eo k))
+    (frameSolution N M (frame x), solves-is N M (frameSolution N M (frame x)) eo .1 (solution-is N M (frame x) (sound-good N sn) (sound-good M sm) ei eo k))
 
 -- ---- the question decides
 pub question-decides : (N M : Net) → Sound N → Sound M → N .inputs ≡ M .inputs → length (N .outputs) ≡ length (M .outputs) → Decides N M

@@ -49,8 +49,7 @@ sum-between ρ [] = (tt, tt)
 sum-between ρ (f ∷ fs) =
     let s = sign (f .weight) (ρ (f .signal)) in
     let r = sum-between ρ fs in
-    let x = cond (ρ (f .signal)) (f .weight) (pos 0) in
-    (
+    let x = cond (ρ (f .signal)) (f .weight) (pos 0) in (
       add-le x (cond (nonNeg (f .weight)) (f .weight) (pos 0)) (sum ρ fs) (most fs) (s .0) (r .0),
       add-le (cond (nonNeg (f .weight)) (pos 0) (f .weight)) x (least fs) (sum ρ fs) (s .1) (r .1),
     )
@@ -62,19 +61,17 @@ two-lines : (t s M m : ℤ) → T (leZ s M) → T (leZ m s) → (y : Bool)
     → (T (leZ (pos 1 -ℤ t) (negℤ s +ℤ (cond y (M -ℤ t +ℤ pos 1) (pos 0) +ℤ pos 0))) × T (leZ m (s +ℤ (cond y (m -ℤ t) (pos 0) +ℤ pos 0)))) ↔ (y ≡ leZ t s)
 two-lines t s M m h k true = (
   λ p. sym (is-true (leZ t s) (of-le (# t) (# s) (omega (arith, le-of (# m) (# s ⊕ (# m ⊖ # t ⊕ nat 0)) (p .1))))),
-  λ e. let g = le-of (# t) (# s) (T-is (leZ t s) (sym e)) in
-      (
-        of-le (nat 1 ⊖ # t) (minus (# s) ⊕ (# M ⊖ # t ⊕ nat 1 ⊕ nat 0)) (omega (arith, le-of (# s) (# M) h)),
-        of-le (# m) (# s ⊕ (# m ⊖ # t ⊕ nat 0)) (omega arith),
-      ),
+  λ e. let g = le-of (# t) (# s) (T-is (leZ t s) (sym e)) in (
+    of-le (nat 1 ⊖ # t) (minus (# s) ⊕ (# M ⊖ # t ⊕ nat 1 ⊕ nat 0)) (omega (arith, le-of (# s) (# M) h)),
+    of-le (# m) (# s ⊕ (# m ⊖ # t ⊕ nat 0)) (omega arith),
+  ),
 )
 two-lines t s M m h k false = (
   λ p. sym (is-false (leZ t s) (of-gt (# t) (# s) (omega (arith, le-of (nat 1 ⊖ # t) (minus (# s) ⊕ (nat 0 ⊕ nat 0)) (p .0))))),
-  λ e. let g = gt-of (# t) (# s) (T-isnt (leZ t s) (sym e)) in
-      (
-        of-le (nat 1 ⊖ # t) (minus (# s) ⊕ (nat 0 ⊕ nat 0)) (omega arith),
-        of-le (# m) (# s ⊕ (nat 0 ⊕ nat 0)) (omega (arith, le-of (# m) (# s) k)),
-      ),
+  λ e. let g = gt-of (# t) (# s) (T-isnt (leZ t s) (sym e)) in (
+    of-le (nat 1 ⊖ # t) (minus (# s) ⊕ (nat 0 ⊕ nat 0)) (omega arith),
+    of-le (# m) (# s ⊕ (nat 0 ⊕ nat 0)) (omega (arith, le-of (# m) (# s) k)),
+  ),
 )
 
 -- both lines of a gate hold exactly where y has the gate's bit
@@ -100,8 +97,7 @@ unfolding gateLines
 lines-fit ρ φ n [] = (λ h. tt, λ h. tt)
 lines-fit ρ φ n (g ∷ gs) =
     let own = lines-bit ρ (φ n) (overGate φ g) in
-    let rest = lines-fit ρ φ (suc n) gs in
-    (
+    let rest = lines-fit ρ φ (suc n) gs in (
       λ h. (own .0 (h .0, h .1 .0) ∙ over-bit ρ φ g, rest .0 (h .1 .1)),
       λ h. let p = own .1 (h .0 ∙ sym (over-bit ρ φ g)) in (p .0, (p .1, rest .1 (h .1))),
     )

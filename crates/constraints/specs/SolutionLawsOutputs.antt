@@ -42,8 +42,7 @@ outputs-apart ρ [] (q ∷ qs) d e = absurd (omega arith)
 outputs-apart ρ (p ∷ ps) [] d e = absurd (omega arith)
 outputs-apart ρ (p ∷ ps) (q ∷ qs) d e =
     let own = output-apart ρ p q d in
-    let rest = outputs-apart ρ ps qs (suc d) (omega arith) in
-    (
+    let rest = outputs-apart ρ ps qs (suc d) (omega arith) in (
       λ h. at (own .0 (h .0, h .1 .0)) (rest .0 (h .1 .1)),
       λ h. let o = own .1 (λ t. h 0 (omega arith) (subst (λ (v : ℕ). T (ρ v)) (let k : d ≡ d + 0 = omega arith in k) t)) in
           (o .0, (o .1, rest .1 λ j k t. h (suc j) (omega arith) (subst (λ (v : ℕ). T (ρ v)) (let i : suc d + j ≡ d + suc j = omega arith in i) t))),
@@ -65,7 +64,7 @@ ones-least ρ d (suc n) =
     let s = sum ρ (ones (suc d) n) in
     let h = le-of (nat 0) (# s) (ones-least ρ (suc d) n) in
     elim (ρ d) as (λ b. T (leZ (pos 0) (cond b (pos 1) (pos 0) +ℤ s)))
-        [ true ↦ of-le (nat 0) (nat 1 ⊕ # s) (omega arith) | false ↦ of-le (nat 0) (nat 0 ⊕ # s) (omega arith) ]
+    [ true ↦ of-le (nat 0) (nat 1 ⊕ # s) (omega arith) | false ↦ of-le (nat 0) (nat 0 ⊕ # s) (omega arith) ]
 
 ones-some : (ρ : Assignment) (d n : ℕ) → T (leZ (pos 1) (sum ρ (ones d n))) → (j : ℕ) × (j < n) × T (ρ (d + j))
 unfolding sum range ones
@@ -74,6 +73,7 @@ ones-some ρ d (suc n) h = go (ρ d) refl h (ones-some ρ (suc d) n)
   where
     s : ℤ
     s = sum ρ (ones (suc d) n)
+
     go : (b : Bool) → ρ d ≡ b → T (leZ (pos 1) (cond b (pos 1) (pos 0) +ℤ s)) → (T (leZ (pos 1) s) → (j : ℕ) × (j < n) × T (ρ (suc d + j)))
         → (j : ℕ) × (j < suc n) × T (ρ (d + j))
     go true e k r = (0, omega arith, subst T (sym (ap ρ (let i : d + 0 ≡ d = omega arith in i) ∙ e)) tt)
@@ -87,6 +87,7 @@ some-ones ρ d (suc n) zero h t = go (ρ d) (subst (λ (v : ℕ). T (ρ v)) (let
   where
     s : ℤ
     s = sum ρ (ones (suc d) n)
+
     go : (b : Bool) → T b → T (leZ (pos 1) (cond b (pos 1) (pos 0) +ℤ s))
     go true t = of-le (nat 1) (nat 1 ⊕ # s) (omega (arith, le-of (nat 0) (# s) (ones-least ρ (suc d) n)))
     go false t = absurd t
@@ -94,6 +95,7 @@ some-ones ρ d (suc n) (suc j) h t = go (ρ d) (some-ones ρ (suc d) n j (omega 
   where
     s : ℤ
     s = sum ρ (ones (suc d) n)
+
     go : (b : Bool) → T (leZ (pos 1) s) → T (leZ (pos 1) (cond b (pos 1) (pos 0) +ℤ s))
     go true k = of-le (nat 1) (nat 1 ⊕ # s) (omega (arith, le-of (nat 1) (# s) k))
     go false k = of-le (nat 1) (nat 0 ⊕ # s) (omega (arith, le-of (nat 1) (# s) k))
