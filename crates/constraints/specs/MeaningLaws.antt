@@ -47,7 +47,7 @@ unfolding digits
 all-digits zero n = tt
 all-digits (suc k) n = elim (ltb n 10) as (λ b. (T b → n < 10) → Each Digit (cond b ((48 + n) ∷ []) (digits k (n / 10) ++ ((48 + n % 10) ∷ [])))) [
   | true ↦ λ h. ((omega arith, omega (arith, h tt)), tt)
-  | false ↦ λ h. each-append Digit (digits k (n / 10)) ((48 + n % 10) ∷ []) (all-digits k (n / 10)) ((omega arith, omega arith), tt)
+  | false ↦ λ h. each-append Digit (digits k (n / 10)) ((48 + n % 10) ∷ []) (all-digits k (n / 10)) (omega arith, tt)
 ] (ltb→lt n 10)
 
 -- ---- words
@@ -58,7 +58,7 @@ Solid c = c ≢ 32
 
 decimal-solid : (n : ℕ) → Each Solid (decimal n)
 unfolding decimal
-decimal-solid n = each-imp Digit Solid (λ c h. omega (arith, h .0)) (digits 20 n) (all-digits 20 n)
+decimal-solid n = each-imp Digit Solid (λ c h. omega arith) (digits 20 n) (all-digits 20 n)
 
 first-word : (w rest : List ℕ) → Each Solid w → words (w ++ (32 ∷ rest)) ≡ w ∷ words rest
 unfolding words prepend
@@ -69,7 +69,7 @@ first-word (c ∷ w) rest h = rw (eqb-no c 32 (h .0), first-word w rest (h .1))
 digits-signed : (ds : List ℕ) → Each Digit ds → signedOf ds ≡ pos (numberAfter 0 ds)
 unfolding signedOf numberAfter
 digits-signed [] h = refl
-digits-signed (d ∷ ds) h = rw (eqb-no d 45 (omega (arith, h .0)), eqb-no d 43 (omega (arith, h .0)))
+digits-signed (d ∷ ds) h = rw (eqb-no d 45 (omega arith), eqb-no d 43 (omega arith))
 
 coefficient-says : (z : ℤ) → natAbs z < 10 ^ 20 → signedOf (coefficient z) ≡ z
 unfolding signedOf coefficient
@@ -85,9 +85,7 @@ variable-says : (v : ℕ) → v + 1 < 10 ^ 20 → variableOf (variableName v) �
 unfolding variableOf variableName
 variable-says v h = rw (decimal-says (v + 1) h) (omega arith)
 
--- ---- a line
-
--- the words of a term
+-- ---- the words of a line
 coefficient-solid : (z : ℤ) → Each Solid (coefficient z)
 unfolding coefficient
 coefficient-solid (pos n) = (omega arith, decimal-solid n)
@@ -108,6 +106,7 @@ term-words f rest = ap words (append-assoc (coefficient (f .weight) ++ (32 ∷ v
     ∙ first-word (coefficient (f .weight)) (variableName (f .signal) ++ (32 ∷ rest)) (coefficient-solid (f .weight))
     ∙ ap {B = List (List ℕ)} (λ ws. coefficient (f .weight) ∷ ws) (first-word (variableName (f .signal)) rest (variable-solid (f .signal)))
 
+-- ---- a line
 no-relation : (z : ℤ) → isRelation (coefficient z) ≡ false
 unfolding isRelation coefficient
 no-relation (pos n) = refl
@@ -136,10 +135,10 @@ text-says line h k = terms-say (line .terms) _ (line .right) h (end-says (line .
 
 -- ---- the lines of the question
 within-all : (fs : List Feed) → Each (Within 8 3) fs → Each (Within 20 20) fs
-within-all = each-imp (Within 8 3) (Within 20 20) λ f h. (omega (arith, h .0), omega (arith, h .1))
+within-all = each-imp (Within 8 3) (Within 20 20) λ f h. omega arith
 
 pub question-text-says : (N M : Net) → Sound N → Sound M → (n : ℕ) → n < length (question N M) → lineOf (questionText N M (suc n)) ≡ getD (question N M) n noLine
 unfolding questionText
 question-text-says N M sn sm n h = let line = getD (question N M) n noLine in
     let s = each-getD Narrow (question N M) noLine (question-narrow N M sn sm) n h in
-    text-says line (within-all (line .terms) (s .numbers)) (omega (arith, s .side))
+    text-says line (within-all (line .terms) (s .numbers)) (omega arith)

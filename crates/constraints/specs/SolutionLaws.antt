@@ -72,12 +72,16 @@ frame-inputs N ρ s h = sym (frame-word (tab (N .inputs) ρ) s ∙ getD-tab fals
 
 solution-differs : (N M : Net) → Good N → Good M → N .inputs ≡ M .inputs → (ρ : Assignment) → Solution N M ρ
     → outputBits N (frame (inputsFrame N ρ)) ≢ outputBits M (frame (inputsFrame N ρ))
-solution-differs N M gn gm e ρ s k =
-    let n = fits-outputs N ρ (frame (inputsFrame N ρ)) gn (s .first-fits) (frame-inputs N ρ) in
-    let m = fits-outputs M (secondBits N ρ) (frame (inputsFrame N ρ)) gm (s .second-fits)
-    (λ i h. ap ρ (second-input (N .inputs) (length (N .gates)) i (omega arith)) ∙ frame-inputs N ρ i (omega arith)) in
-    let o = s .some-one in
-    s .apart (o .0) (o .1) (o .2) (ap (λ (bs : List Bool). getD bs (o .0) false) (n ∙ k ∙ sym m))
+solution-differs N M gn gm e ρ s k = let o = s .some-one in s .apart (o .0) (o .1) (o .2) (ap (λ (bs : List Bool). getD bs (o .0) false) (n ∙ k ∙ sym m))
+  where
+    f : Assignment
+    f = frame (inputsFrame N ρ)
+
+    n : map ρ (N .outputs) ≡ outputBits N f
+    n = fits-outputs N ρ f gn (s .first-fits) (frame-inputs N ρ)
+
+    m : map (secondBits N ρ) (M .outputs) ≡ outputBits M f
+    m = fits-outputs M (secondBits N ρ) f gm (s .second-fits) λ i h. ap ρ (second-input (N .inputs) (length (N .gates)) i (omega arith)) ∙ frame-inputs N ρ i (omega arith)
 
 pub frame-of : (N M : Net) → Sound N → Sound M → N .inputs ≡ M .inputs → length (N .outputs) ≡ length (M .outputs)
     → (ρ : Assignment) → Solves ρ (question N M) → Differ N M

@@ -54,6 +54,7 @@ outputs-apart ρ (p ∷ ps) (q ∷ qs) d e =
     at own rest (suc j) k t = rest j (omega arith) (subst (λ (v : ℕ). T (ρ v)) (let i : d + suc j ≡ suc d + j = omega arith in i) t)
 
 -- ---- the last line
+-- +1 on each of the n variables from d on
 ones : ℕ → ℕ → List Feed
 ones d n = map (λ v. term v (pos 1)) (range d n)
 

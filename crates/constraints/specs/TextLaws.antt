@@ -1,5 +1,4 @@
--- The length of a line's text: a number below 10 ^ d has at most d digits, and no line of the question of two sound networks is longer
--- than 254 bytes. Assumes nothing.
+-- The length of a line's text: a number below 10 ^ d has at most d digits, and a line is as long as its parts. Assumes nothing.
 use mathlib.Core.Path.{_≡_}
 use mathlib.Core.Bool.{true, false, cond}
 use mathlib.Core.List.{List, [], _∷_, _++_}
