@@ -6,3 +6,4 @@ pub mod WriteReadLaws
 pub mod ReadWriteLaws
 pub mod CodeLaws
 pub mod LengthLaws
+pub mod PartLaws
