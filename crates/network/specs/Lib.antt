@@ -6,6 +6,7 @@ pub mod Reading
 pub mod LimitLaws
 pub mod TableLaws
 pub mod Places
+pub mod PasteLaws
 pub mod PlaceLaws
 pub mod TestLaws
 pub mod SpareLaws

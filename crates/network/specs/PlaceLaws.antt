@@ -3,12 +3,12 @@
 use mathlib.Core.Path.{_≡_, refl, sym, ap, _∙_}
 use mathlib.Core.List.{List, [], _∷_, _++_}
 use mathlib.Core.Logic.{_≢_}
-use Prim.Native.Nat.{ℕ, _+_, _*_, _/_, _%_, _-_, _≤_, _<_}
+use Prim.Native.Nat.{ℕ, _+_, _*_, _/_, _%_, _≤_, _<_}
 use native.Mathlib.Decide.{decLt}
 use native.Mathlib.Omega.{arith}
 use lib.IntN.{ℤ, pos}
 use lib.ListN.{length, getD, set, replicate, length-map, List·getD-eq-default}
-use lib.Seq.{ext-getD, getD-at, getD-set-same, getD-set-other}
+use lib.Seq.{getD-at, getD-set-same, getD-set-other}
 use Rattle.integers.specs.Lists.{range, tab}
 use Rattle.integers.specs.ListLaws.{length-range, length-tab, getD-tab, tab-of, tab-replicate}
 use Rattle.network.specs.Threshold.{Feed, Gate}
@@ -84,20 +84,6 @@ gateIn-gateRecord g h = λ x. record {
   threshold = g .threshold;
 }
 
--- ---- a run of values written
-
--- two lists with the same run written into the same list are one
-pub pasted-same : {A : Type 0} {d : A} {base k : ℕ} {f : ℕ → A} {old new new′ : List A} → Pasted d base k f old new → Pasted d base k f old new′ → new ≡ new′
-pasted-same {A} {d} {base} {k} {f} {old} {new} {new′} a b = ext-getD d new new′ (a .long ∙ sym (b .long)) λ p h. elim (decLt p base) as (λ t. getD new p d ≡ getD new′ p d) [
-  | yes j ↦ a .before p j ∙ sym (b .before p j)
-  | no j ↦ elim (decLt p (base + k)) as (λ t. getD new p d ≡ getD new′ p d) [
-    | yes l ↦ let q : ℕ = p - base in
-        let e : p ≡ base + q = omega arith in
-        ap (λ (m : ℕ). getD new m d) e ∙ a .inside q (omega arith) ∙ sym (b .inside q (omega arith)) ∙ ap (λ (m : ℕ). getD new′ m d) (sym e)
-    | no l ↦ a .after p (omega arith) ∙ sym (b .after p (omega arith))
-  ]
-]
-
 -- ---- one gate changed or added
 
 -- hs is gs but for gate g, which is x
@@ -138,7 +124,7 @@ module _ {A : Type 0} (d : A) (field : Feed → A) {gs hs : List Gate} {g : ℕ}
   changed-field : g < 128 → Pasted d (16 * g) 16 (λ i. getD (rowBy field x) i d) (placesBy field gs) (placesBy field hs)
   changed-field l = record {
     long = length-tab 2048 (λ p. field (placeOf hs p)) ∙ sym (length-tab 2048 (λ p. field (placeOf gs p)));
-    inside = λ i h. getD-tab d 2048 (λ p. field (placeOf hs p)) (16 * g + i) (omega arith) ∙ ap field (place-at hs g i h)
+    inside = λ i h k. getD-tab d 2048 (λ p. field (placeOf hs p)) (16 * g + i) (omega arith) ∙ ap field (place-at hs g i h)
         ∙ ap (λ (y : Gate). field (getD (y .feeds) i noFeed)) (c .here) ∙ sym (getD-tab d 16 (λ i. field (getD (x .feeds) i noFeed)) i h);
     before = λ p h. apart p (λ e. omega arith);
     after = λ p h. apart p (λ e. omega arith);

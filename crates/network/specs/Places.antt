@@ -11,7 +11,7 @@ use Rattle.network.specs.declared.GateRecord.{GateRecord}
 -- new is old with f 0, .., f (k - 1) at the places from base on
 pub record Pasted {A : Type 0} (d : A) (base k : ℕ) (f : ℕ → A) (old new : List A) : Type 0 where
   pub long : length new ≡ length old
-  pub inside : (i : ℕ) → i < k → getD new (base + i) d ≡ f i
+  pub inside : (i : ℕ) → i < k → base + i < length old → getD new (base + i) d ≡ f i
   pub before : (p : ℕ) → p < base → getD new p d ≡ getD old p d
   pub after : (p : ℕ) → base + k ≤ p → getD new p d ≡ getD old p d
 

@@ -3,22 +3,24 @@
 use mathlib.Core.Path.{_≡_, refl, sym, ap, _∙_, subst}
 use mathlib.Core.Bool.{not}
 use mathlib.Core.List.{List}
-use Prim.Native.Nat.{ℕ, _+_, _*_, _/_, _%_, _≤_, _<_}
+use Prim.Native.Nat.{ℕ, _+_, _*_, _/_, _%_, _-_, _≤_, _<_}
 use native.Mathlib.Decide.{decLt}
 use native.Mathlib.Omega.{arith}
 use lib.Dec.{T, T-not, ltb, lt→ltb, ltb→lt}
 use lib.IntN.{pos}
 use lib.ListN.{length, getD, List·getD-eq-default}
 use Rattle.integers.specs.Tests.{T-and, and-T}
-use Rattle.integers.specs.ListLaws.{length-tab, getD-tab, tab-of}
+use Rattle.integers.specs.ListLaws.{length-tab, getD-tab, tab-of, tab-same}
 use Rattle.network.specs.declared.Network.{Network}
 use Rattle.network.specs.Threshold.{Feed, Gate, Net}
 use Rattle.network.specs.Limits.{sound}
-use Rattle.network.specs.LimitLaws.{Sound, sound-of, of-sound, gates-at}
-use Rattle.network.specs.Record.{feedAt, gateFrom, gateOf, netOf, noFeed, noGate, nthGate, placeOf, faninsOf, thresholdsOf, placeSignals, placeWeights, driversOf, layout, usedPlace, spareClear, soundRecord}
+use Rattle.network.specs.LimitLaws.{Has, Sound, sound-of, of-sound, gates-at}
+use Rattle.network.specs.Record.{feedAt, gateFrom, gateOf, netOf, noFeed, noGate, nthGate, placeOf, faninsOf, thresholdsOf, placeSignals, placeWeights, driversOf, layout, usedPlace, spareClear, soundRecord, gateRecord}
+use Rattle.network.specs.Changes.{gateAt}
+use Rattle.network.specs.Places.{rowAt}
 use Rattle.network.specs.TestLaws.{test-case}
 use Rattle.network.specs.SpareLaws.{Spare, spare-of, of-spare}
-use Rattle.network.specs.PlaceLaws.{length-feeds, feeds-at, gate-beyond, has-gate, place-beyond, place-read, gate-back}
+use Rattle.network.specs.PlaceLaws.{place-at, length-feeds, feeds-at, gate-beyond, has-gate, place-beyond, place-read, gate-back}
 
 -- ---- the lengths of a record's arrays
 pub record Shaped (r : Network) : Type 0 where
@@ -173,3 +175,27 @@ spare-layout N = record {
 pub sound-layout : (N : Net) → Sound N → T (soundRecord (layout N))
 unfolding soundRecord
 sound-layout N s = and-T (sound (netOf (layout N))) (spareClear (layout N)) (subst (λ (M : Net). T (sound M)) (sym (netOf-layout N s)) (of-sound N s)) (of-spare (layout N) (spare-layout N))
+
+-- ---- a gate of a sound record, by itself
+row-feed : (r : Network) → Spare r → (g i : ℕ) → g < r .gates → r .gates ≤ 128 → i < 16 → feedAt (r .signals) (r .weights) (16 * g + i) ≡ getD (gateOf r g .feeds) i noFeed
+row-feed r s g i h l k = sym (place-same r s (16 * g + i) (omega arith)) ∙ place-at (netOf r .gates) g i k ∙ ap (λ (y : Gate). getD (y .feeds) i noFeed) (gate-within r g h)
+
+-- its 16 places are those of the gate that the record has there
+pub row-gate : (r : Network) (g : ℕ) → T (soundRecord r) → g < r .gates → rowAt (r .fanins) (r .thresholds) (r .signals) (r .weights) g ≡ gateRecord (gateOf r g)
+unfolding soundRecord rowAt gateRecord gateFrom feedAt
+row-gate r g t h =
+    let s = spare-of r (T-and (sound (netOf r)) (spareClear r) t .1) in
+    let few : r .gates ≤ 128 = omega (arith, sound-net r t .few-gates, count-gates r) in
+    λ x. record {
+      fanin = sym (length-feeds (r .signals) (r .weights) (16 * g) (getD (r .fanins) g 0)) x;
+      threshold = getD (r .thresholds) g (pos 0);
+      signals = tab-same 16 (λ i. getD (r .signals) (16 * g + i) 0) (λ i. getD (gateOf r g .feeds) i noFeed .signal) (λ i k. ap (λ (f : Feed). f .signal) (row-feed r s g i h few k)) x;
+      weights = tab-same 16 (λ i. getD (r .weights) (16 * g + i) (pos 0)) (λ i. getD (gateOf r g .feeds) i noFeed .weight) (λ i k. ap (λ (f : Feed). f .weight) (row-feed r s g i h few k)) x;
+    }
+
+-- the same by the gate's signal
+pub row-gateAt : (r : Network) (v : ℕ) → T (soundRecord r) → Has (netOf r) v → rowAt (r .fanins) (r .thresholds) (r .signals) (r .weights) (v - r .inputs) ≡ gateRecord (gateAt (netOf r) v)
+unfolding gateAt netOf
+row-gateAt r v t h =
+    let l : v - r .inputs < r .gates = omega (arith, h, count-gates r) in
+    row-gate r (v - r .inputs) t l ∙ ap gateRecord (sym (gate-within r (v - r .inputs) l))
