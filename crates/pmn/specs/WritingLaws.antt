@@ -5,15 +5,17 @@ use Prim.Native.Nat.{ℕ, zero, suc, _+_, _*_, _-_, _≤_, _<_}
 use native.Mathlib.Nat.{zero-add}
 use native.Mathlib.Numerals.{add-one}
 use native.Mathlib.Omega.{arith}
-use lib.IntN.{ℤ}
+use lib.IntN.{ℤ, pos}
 use lib.ListN.{length, getD, length-append}
 use Rattle.integers.specs.Lists.{range, tab}
-use Rattle.integers.specs.ListLaws.{length-tab, range-more}
+use Rattle.integers.specs.ListLaws.{length-tab, getD-tab, tab-same, range-more}
 use Rattle.integers.specs.Word.{intBytes}
 use Rattle.network.specs.declared.GateRecord.{GateRecord}
 use Rattle.network.specs.declared.Network.{Network}
 use Rattle.network.specs.Threshold.{Feed, Gate, Net}
 use Rattle.network.specs.Record.{feedAt, feedsFrom, gateFrom, gateOf, netOf, gateIn}
+use Rattle.network.specs.Places.{rowAt}
+use Rattle.network.specs.TableLaws.{range-tab}
 use Rattle.network.specs.PlaceLaws.{length-feeds}
 use Rattle.format.specs.Format.{feedBytes, feedsBytes, gateBytes, gatesBytes, fileBytes}
 use Rattle.format.specs.LengthLaws.{feedsBytes-length, feedsBytes-append, gateBytes-length, gatesBytes-append, fileBytes-length}
@@ -90,6 +92,18 @@ module _ (fs : List ℕ) (ts : List ℤ) (ss : List ℕ) (ws : List ℤ) where
       let g = gateFrom-length n in
       let h = firstGates-length n in
       omega arith
+
+  -- a gate taken out of the arrays is the arrays' gate
+  pub gateIn-row : (g : ℕ) → getD fs g 0 ≤ 16 → gateIn (rowAt fs ts ss ws g) ≡ gateFrom fs ts ss ws g
+  unfolding gateIn rowAt gateFrom feedsFrom feedAt
+  gateIn-row g h =
+      let row = rowAt fs ts ss ws g in
+      ap (λ (l : List Feed). record { feeds = l; threshold = getD ts g (pos 0) })
+        (tab-same (getD fs g 0) (feedAt (row .signals) (row .weights)) (λ i. feedAt ss ws (16 * g + i)) (λ i k x. record {
+          signal = getD-tab 0 16 (λ i. getD ss (16 * g + i) 0) i (omega arith) x;
+          weight = getD-tab (pos 0) 16 (λ i. getD ws (16 * g + i) (pos 0)) i (omega arith) x;
+        })
+        ∙ sym (range-tab (feedAt ss ws) (16 * g) (getD fs g 0)))
 
 -- ---- outputs
 module _ (ds : List ℕ) where

@@ -1,12 +1,15 @@
 // Writing the parts of a file, each at the front of the lent bytes. The bytes after a part stay as they were.
-use network::GateRecord;
+use crate::Written;
+use network::{GateRecord, Network};
 ghost use mathlib.Core.Path.{_≡_};
+ghost use mathlib.Core.Bool.{true};
 ghost use mathlib.Core.List.{_++_, _∷_};
 ghost use Prim.Native.Nat.{_+_, _*_, _≤_, _<_};
 ghost use lib.ListN.{length, drop};
 ghost use Rattle.integers.specs.Word.{intBytes};
-ghost use Rattle.network.specs.Record.{gateIn};
+ghost use Rattle.network.specs.Record.{gateIn, soundRecord};
 ghost use Rattle.format.specs.Format.{gateBytes};
+ghost use Rattle.pmn.specs.Answers.{written, bytesAfter};
 ghost use Rattle.pmn.specs.Writing.{header, firstFeeds, firstGates, gatesLength, firstOutputs, Counted};
 
 // A byte and a signed number.
@@ -39,6 +42,29 @@ pub fn put_gate(out: &mut [u8], gate: GateRecord) -> usize
     put_pair(out, gate.fanin, gate.threshold);
     put_feeds(&mut out[5..], &gate.signals, &gate.weights, count);
     5 + 5 * count
+}
+
+// The gates of a record whose arrays are lent, each from the place where its predecessor ended. The answer is their length.
+pub fn put_gates<'a>(
+    out: &mut [u8],
+    fanins: &'a [u8; 128],
+    thresholds: &'a [i32; 128],
+    signals: &'a [u8; 2048],
+    weights: &'a [i32; 2048],
+    gates: usize,
+) -> usize
+    requires { ⌜ Counted (now fanins) gates ⌝ }
+    requires { ⌜ gatesLength (now fanins) gates ≤ length (now out) ⌝ }
+    ensures { λ r. ⌜ r ≡ gatesLength (now (fanins .entry)) gates ⌝ }
+    ensures { λ r. ⌜ now (out .exit) ≡ firstGates (now (fanins .entry)) (now (thresholds .entry)) (now (signals .entry)) (now (weights .entry)) gates ++ drop r (now (out .entry)) ⌝ }
+{
+    let mut at: usize = 0;
+    for g in 0..gates {
+        let gate = network::unchecked::places::gate_at(fanins, thresholds, signals, weights, g);
+        let step = put_gate(&mut out[at..], gate);
+        at += step;
+    }
+    at
 }
 
 // The header with these counts.
@@ -78,4 +104,28 @@ pub fn file_length(fanins: &[u8; 128], gates: usize, outputs: usize) -> usize
         total += 5 + 5 * integers::wide(fanins[g]);
     }
     total + outputs
+}
+
+// Writes the file of a sound record at the front of the lent bytes, or refuses where the file is longer than these.
+pub fn write_sound(network: Network, out: &mut [u8]) -> Written
+    requires { ⌜ soundRecord network ≡ true ⌝ }
+    ensures { λ r. ⌜ r ≡ written network (length (now (out .entry))) ⌝ }
+    ensures { λ _. ⌜ now (out .exit) ≡ bytesAfter network (now (out .entry)) ⌝ }
+{
+    let length = file_length(&network.fanins, network.gates, network.outputs);
+    if out.len() < length {
+        return Written { code: 18, length: 0 };
+    }
+    put_header(out, network.inputs, network.gates, network.outputs);
+    let gates = put_gates(
+        &mut out[8..],
+        &network.fanins,
+        &network.thresholds,
+        &network.signals,
+        &network.weights,
+        network.gates,
+    );
+    let at = 8 + gates;
+    put_outputs(&mut out[at..], &network.drivers, network.outputs);
+    Written { code: 0, length }
 }
