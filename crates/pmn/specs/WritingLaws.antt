@@ -12,14 +12,14 @@ use Rattle.integers.specs.ListLaws.{length-tab, getD-tab, tab-same, range-more}
 use Rattle.integers.specs.Word.{intBytes}
 use Rattle.network.specs.declared.GateRecord.{GateRecord}
 use Rattle.network.specs.declared.Network.{Network}
-use Rattle.network.specs.Threshold.{Feed, Gate, Net}
+use Rattle.network.specs.Threshold.{Feed}
 use Rattle.network.specs.Record.{feedAt, feedsFrom, gateFrom, gateOf, netOf, gateIn}
 use Rattle.network.specs.Places.{rowAt}
 use Rattle.network.specs.TableLaws.{range-tab}
 use Rattle.network.specs.PlaceLaws.{length-feeds}
 use Rattle.format.specs.Format.{feedBytes, feedsBytes, gateBytes, gatesBytes, fileBytes}
-use Rattle.format.specs.LengthLaws.{feedsBytes-length, feedsBytes-append, gateBytes-length, gatesBytes-append, fileBytes-length}
-use Rattle.pmn.specs.Writing.{header, firstFeeds, firstGates, gatesLength, firstOutputs, Counted}
+use Rattle.format.specs.LengthLaws.{feedsBytes-length, feedsBytes-append, gateBytes-length, gatesBytes-append}
+use Rattle.pmn.specs.Writing.{header, firstFeeds, firstGates, gatesLength, firstOutputs}
 
 -- a table with one member more
 pub tab-more : {A : Type 0} (f : ℕ → A) (n : ℕ) → tab (n + 1) f ≡ tab n f ++ (f n ∷ [])
@@ -99,11 +99,11 @@ module _ (fs : List ℕ) (ts : List ℤ) (ss : List ℕ) (ws : List ℤ) where
   gateIn-row g h =
       let row = rowAt fs ts ss ws g in
       ap (λ (l : List Feed). record { feeds = l; threshold = getD ts g (pos 0) })
-        (tab-same (getD fs g 0) (feedAt (row .signals) (row .weights)) (λ i. feedAt ss ws (16 * g + i)) (λ i k x. record {
-          signal = getD-tab 0 16 (λ i. getD ss (16 * g + i) 0) i (omega arith) x;
-          weight = getD-tab (pos 0) 16 (λ i. getD ws (16 * g + i) (pos 0)) i (omega arith) x;
-        })
-        ∙ sym (range-tab (feedAt ss ws) (16 * g) (getD fs g 0)))
+      (tab-same (getD fs g 0) (feedAt (row .signals) (row .weights)) (λ i. feedAt ss ws (16 * g + i)) (λ i k x. record {
+        signal = getD-tab 0 16 (λ i. getD ss (16 * g + i) 0) i (omega arith) x;
+        weight = getD-tab (pos 0) 16 (λ i. getD ws (16 * g + i) (pos 0)) i (omega arith) x;
+      })
+      ∙ sym (range-tab (feedAt ss ws) (16 * g) (getD fs g 0)))
 
 -- ---- outputs
 module _ (ds : List ℕ) where

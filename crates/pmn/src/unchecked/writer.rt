@@ -1,6 +1,7 @@
 // Writing the parts of a file, each at the front of the lent bytes. The bytes after a part stay as they were.
 use crate::Written;
-use network::{GateRecord, Network};
+use network::GateRecord;
+use network::Network;
 ghost use mathlib.Core.Path.{_≡_};
 ghost use mathlib.Core.Bool.{true};
 ghost use mathlib.Core.List.{_++_, _∷_};
@@ -114,7 +115,10 @@ pub fn write_sound(network: Network, out: &mut [u8]) -> Written
 {
     let length = file_length(&network.fanins, network.gates, network.outputs);
     if out.len() < length {
-        return Written { code: 18, length: 0 };
+        return Written {
+            code: 18,
+            length: 0,
+        };
     }
     put_header(out, network.inputs, network.gates, network.outputs);
     let gates = put_gates(

@@ -1,18 +1,12 @@
+-- The loop's invariant: the total is 8 and the length of the first g gates, at most 85 for each.
+use mathlib.Core.Path.{_≡_, ap}
+use Prim.Native.Nat.{_+_, _*_, _-_, _≤_, zero-le}
 use native.Mathlib.Omega.{arith}
-use mathlib.Core.Path.{_≡_, refl, sym, ap, _∙_, subst}
-use mathlib.Core.List.{List, [], _∷_, _++_}
-use Prim.Native.Nat.{ℕ, _+_, _*_, _-_, _≤_, _<_, zero-le}
-use lib.ListN.{length, take, drop, getD, length-set}
-use lib.IntN.{ℤ, pos}
-
+use borrow.Author.Needs.{needs}
 use Rattle.pmn.specs.Writing.{gatesLength}
 use Rattle.pmn.specs.WritingLaws.{gatesLength-none, gatesLength-more}
-use borrow.Author.Needs.{needs}
 use Rattle.pmn.proofs.unchecked.writer.file_length.Statement.{statement}
 use Rattle.pmn.proofs.unchecked.writer.file_length.Tie as tie
-use Rattle.pmn.proofs.unchecked.writer.file_length.Reads as reads
-use Rattle.pmn.proofs.unchecked.writer.file_length.Lts as lts
-use Rattle.integers.proofs.wide.Reads as wide-reads
 
 abbrev Inv-loop : tie.InvT-loop
 Inv-loop fanins gates outputs total₀ g₀ total g = (g ≤ gates) × (total ≡ 8 + gatesLength fanins g) × (total ≤ 8 + 85 * g)
@@ -20,54 +14,43 @@ Inv-loop fanins gates outputs total₀ g₀ total g = (g ≤ gates) × (total �
 abbrev μ-loop : tie.MeasureT-loop
 μ-loop fanins gates outputs total₀ g₀ total g = gates - g
 
--- src/unchecked/writer.rt:73:5
 loop-holds : tie.Need-loop-holds Inv-loop μ-loop
 loop-holds c = let e = gatesLength-none (c .args .fanins .now) in (zero-le, omega arith, omega arith)
 
--- src/unchecked/writer.rt:74:41
 element-copy-out-wide : tie.Need-element-copy-out-wide Inv-loop μ-loop
 element-copy-out-wide c = search needs
 
--- src/unchecked/writer.rt:74:26
 wide-requires : tie.Need-wide-requires Inv-loop μ-loop
 wide-requires c κs = search needs
 
--- src/unchecked/writer.rt:74:22
 mul-total : tie.Need-mul-total Inv-loop μ-loop
 mul-total c = search needs
 
--- src/unchecked/writer.rt:74:18
 add-total : tie.Need-add-total Inv-loop μ-loop
 add-total c = search needs
 
--- src/unchecked/writer.rt:74:9
 add-total-2 : tie.Need-add-total-2 Inv-loop μ-loop
 add-total-2 c = search needs
 
--- src/unchecked/writer.rt:73:9
 add-g : tie.Need-add-g Inv-loop μ-loop
 add-g c = search needs
 
--- src/unchecked/writer.rt:73:5
 loop-less : tie.Need-loop-less Inv-loop μ-loop
 loop-less c = search needs
 
--- src/unchecked/writer.rt:73:5
 loop-again : tie.Need-loop-again Inv-loop μ-loop
-loop-again c = 
+loop-again c =
     let l = c .before .before .before .loop in
     let start = c .before .before .before .before in
     let e = gatesLength-more (start .args .fanins .now) (l .g) in
     let m = start .pre .0 .few-feeds (l .g) (omega arith) in
     (omega arith, omega arith, omega arith)
 
--- src/unchecked/writer.rt:76:5
 add-result : tie.Need-add-result Inv-loop μ-loop
 add-result c = search needs
 
--- src/unchecked/writer.rt:67:1
 returns : tie.Need-returns Inv-loop μ-loop
-returns c = 
+returns c =
     let l = c .before .loop in
     let start = c .before .before in
     let e : l .g ≡ start .args .gates = omega arith in

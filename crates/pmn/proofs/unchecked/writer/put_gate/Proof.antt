@@ -1,63 +1,49 @@
-use native.Mathlib.Omega.{arith}
+-- The feed count and the threshold are put first, and the feeds into the part after them.
 use mathlib.Core.Path.{_≡_, refl, sym, ap, _∙_}
 use mathlib.Core.List.{List, _∷_, _++_}
 use Prim.Native.Nat.{ℕ, _+_, _*_}
+use native.Mathlib.Omega.{arith}
 use lib.ListN.{drop}
 use lib.IntN.{ℤ}
 use mir.Syntax.{w32}
 use mir.Facts.{toZ-ofZ}
+use borrow.Author.Needs.{needs}
 use Rattle.integers.specs.Word.{intBytes}
 use Rattle.pmn.specs.Writing.{firstFeeds}
 use Rattle.pmn.specs.WritingLaws.{firstFeeds-length, gateIn-bytes}
 use Rattle.pmn.proofs.PartWrites.{write-on}
-use borrow.Author.Needs.{needs}
 use Rattle.pmn.proofs.unchecked.writer.put_gate.Statement.{statement}
 use Rattle.pmn.proofs.unchecked.writer.put_gate.Tie as tie
-use Rattle.pmn.proofs.unchecked.writer.put_gate.Reads as reads
-use Rattle.pmn.proofs.unchecked.writer.put_gate.Lts as lts
-use Rattle.integers.proofs.wide.Reads as wide-reads
-use Rattle.pmn.proofs.unchecked.writer.put_feeds.Reads as put-feeds-reads
-use Rattle.pmn.proofs.unchecked.writer.put_pair.Reads as put-pair-reads
 
--- src/unchecked/writer.rt:38:9
 wide-requires : tie.Need-wide-requires
 wide-requires c κs = search needs
 
--- src/unchecked/writer.rt:39:5
 put-pair-requires : tie.Need-put-pair-requires
 put-pair-requires c κs = search needs
 
--- src/unchecked/writer.rt:40:15
 sub-put-feeds : tie.Need-sub-put-feeds
 sub-put-feeds c = search needs
 
--- src/unchecked/writer.rt:40:15
 part-put-feeds-start : tie.Need-part-put-feeds-start
 part-put-feeds-start c = search needs
 
--- src/unchecked/writer.rt:40:15
 part-put-feeds-end : tie.Need-part-put-feeds-end
 part-put-feeds-end c = search needs
 
--- src/unchecked/writer.rt:40:5
 put-feeds-requires : tie.Need-put-feeds-requires
 put-feeds-requires c κs = search needs
 
--- src/unchecked/writer.rt:41:9
 mul-result : tie.Need-mul-result
 mul-result c = search needs
 
--- src/unchecked/writer.rt:41:5
 add-result : tie.Need-add-result
 add-result c = search needs
 
--- src/unchecked/writer.rt:33:1
 same-length : tie.Need-same-length
 same-length c = search needs
 
--- src/unchecked/writer.rt:33:1
 returns : tie.Need-returns
-returns c = 
+returns c =
     let feeds = c .before .before in
     let pair = feeds .before .before .before .before .before .before .before in
     let start = pair .before .before .before .before .before in
@@ -65,13 +51,14 @@ returns c =
     let x₀ = start .args .out .now in
     let count = pair .before .before .before .wide .result in
     let e : count ≡ gate .fanin = omega arith in
-    let head = gate .fanin ∷ intBytes (gate .threshold) in
-    (omega arith,
+    let head = gate .fanin ∷ intBytes (gate .threshold) in (
+      omega arith,
       write-on x₀ (pair .put-pair .last .0) (feeds .put-feeds .last .0) head (firstFeeds (gate .signals) (gate .weights) count) 5 (5 * count)
-        (pair .put-pair .ensures ∙ ap (λ (z : ℤ). (gate .fanin ∷ intBytes z) ++ drop 5 x₀) (toZ-ofZ {w = w32} {z = gate .threshold} (record { sfits = pair .before .struct-told .given .1 .0 .1 })))
-        refl (firstFeeds-length (gate .signals) (gate .weights) count) (omega arith) (feeds .put-feeds .ensures)
-        ∙ ap (λ (k : ℕ). (head ++ firstFeeds (gate .signals) (gate .weights) k) ++ drop (5 + 5 * count) x₀) e
-        ∙ ap (λ (l : List ℕ). l ++ drop (5 + 5 * count) x₀) (sym (gateIn-bytes gate)))
+          (pair .put-pair .ensures ∙ ap (λ (z : ℤ). (gate .fanin ∷ intBytes z) ++ drop 5 x₀) (toZ-ofZ {w = w32} {z = gate .threshold} (record { sfits = pair .before .struct-told .given .1 .0 .1 })))
+          refl (firstFeeds-length (gate .signals) (gate .weights) count) (omega arith) (feeds .put-feeds .ensures)
+          ∙ ap (λ (k : ℕ). (head ++ firstFeeds (gate .signals) (gate .weights) k) ++ drop (5 + 5 * count) x₀) e
+          ∙ ap (λ (l : List ℕ). l ++ drop (5 + 5 * count) x₀) (sym (gateIn-bytes gate)),
+    )
 
 pub put-gate-spec : {M : Type 1} → statement M
 put-gate-spec =

@@ -1,63 +1,48 @@
+-- Eight stores are the list of eight bytes at the front.
 use native.Mathlib.Omega.{arith}
-use mathlib.Core.List.{List, [], _∷_}
 use lib.ListN.{length-set}
 use lib.Seq.{sets-eq}
-use Rattle.pmn.specs.Writing.{header}
 use borrow.Author.Needs.{needs}
+use Rattle.pmn.specs.Writing.{header}
 use Rattle.pmn.proofs.unchecked.writer.put_header.Statement.{statement}
 use Rattle.pmn.proofs.unchecked.writer.put_header.Tie as tie
-use Rattle.pmn.proofs.unchecked.writer.put_header.Reads as reads
-use Rattle.pmn.proofs.unchecked.writer.put_header.Lts as lts
 
--- src/unchecked/writer.rt:46:5
 slice-write-out : tie.Need-slice-write-out
 slice-write-out c = search needs
 
--- src/unchecked/writer.rt:47:5
 slice-write-out-2 : tie.Need-slice-write-out-2
 slice-write-out-2 c = simp length-set (omega arith)
 
--- src/unchecked/writer.rt:48:5
 slice-write-out-3 : tie.Need-slice-write-out-3
 slice-write-out-3 c = simp length-set (omega arith)
 
--- src/unchecked/writer.rt:49:5
 slice-write-out-4 : tie.Need-slice-write-out-4
 slice-write-out-4 c = simp length-set (omega arith)
 
--- src/unchecked/writer.rt:50:5
 slice-write-out-5 : tie.Need-slice-write-out-5
 slice-write-out-5 c = simp length-set (omega arith)
 
--- src/unchecked/writer.rt:51:14
 cast-out : tie.Need-cast-out
 cast-out c = search needs
 
--- src/unchecked/writer.rt:51:5
 slice-write-out-6 : tie.Need-slice-write-out-6
 slice-write-out-6 c = simp length-set (omega arith)
 
--- src/unchecked/writer.rt:52:14
 cast-out-2 : tie.Need-cast-out-2
 cast-out-2 c = search needs
 
--- src/unchecked/writer.rt:52:5
 slice-write-out-7 : tie.Need-slice-write-out-7
 slice-write-out-7 c = simp length-set (omega arith)
 
--- src/unchecked/writer.rt:53:14
 cast-out-3 : tie.Need-cast-out-3
 cast-out-3 c = search needs
 
--- src/unchecked/writer.rt:53:5
 slice-write-out-8 : tie.Need-slice-write-out-8
 slice-write-out-8 c = simp length-set (omega arith)
 
--- src/unchecked/writer.rt:41:1
 same-length : tie.Need-same-length
 same-length c = search needs
 
--- src/unchecked/writer.rt:41:1
 returns : tie.Need-returns
 returns c = sets-eq (header (c .args .inputs) (c .args .gates) (c .args .outputs)) (c .args .out .now) 0 (c .pre .1)
 

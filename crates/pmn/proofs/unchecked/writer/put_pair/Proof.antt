@@ -1,48 +1,39 @@
-use native.Mathlib.Omega.{arith}
-use mathlib.Core.Path.{_≡_, refl, sym, ap, _∙_, subst}
-use mathlib.Core.List.{List, [], _∷_, _++_}
+-- The first byte is stored, and the number is put into the part after it.
+use mathlib.Core.Path.{refl, sym, ap, _∙_, subst}
+use mathlib.Core.List.{[], _∷_, _++_}
 use Prim.Native.Nat.{ℕ, _≤_, _-_}
+use native.Mathlib.Omega.{arith}
 use lib.ListN.{length, length-set, set, drop, take}
 use lib.IntN.{ℤ}
 use mir.Facts.{toZ-ofZ}
+use borrow.Author.Needs.{needs}
 use Rattle.integers.specs.Word.{intBytes}
 use Rattle.pmn.proofs.PartWrites.{tail-length, first-put, write-on}
-use borrow.Author.Needs.{needs}
 use Rattle.pmn.proofs.unchecked.writer.put_pair.Statement.{statement}
 use Rattle.pmn.proofs.unchecked.writer.put_pair.Tie as tie
-use Rattle.pmn.proofs.unchecked.writer.put_pair.Reads as reads
-use Rattle.pmn.proofs.unchecked.writer.put_pair.Lts as lts
-use Rattle.integers.proofs.unchecked.put_int.Reads as put-int-reads
 
--- src/unchecked/writer.rt:17:5
 slice-write-out : tie.Need-slice-write-out
 slice-write-out c = search needs
 
--- src/unchecked/writer.rt:18:34
 sub-put-int : tie.Need-sub-put-int
 sub-put-int c = simp length-set (omega arith)
 
--- src/unchecked/writer.rt:18:34
 part-put-int-start : tie.Need-part-put-int-start
 part-put-int-start c = simp length-set (omega arith)
 
--- src/unchecked/writer.rt:18:34
 part-put-int-end : tie.Need-part-put-int-end
 part-put-int-end c = search needs
 
--- src/unchecked/writer.rt:18:5
 put-int-requires : tie.Need-put-int-requires
-put-int-requires c κs = 
+put-int-requires c κs =
     let xs = set (c .before .before .args .out .now) 0 (c .before .before .args .byte) in
     subst (λ (n : ℕ). 4 ≤ n) (sym (tail-length 1 xs)) (simp length-set (omega arith))
 
--- src/unchecked/writer.rt:13:1
 same-length : tie.Need-same-length
 same-length c = let start = c .before .before .before .before .before in c .before .out .given .1 ∙ length-set (start .args .out .now) 0 (start .args .byte)
 
--- src/unchecked/writer.rt:13:1
 returns : tie.Need-returns
-returns c = 
+returns c =
     let start = c .before .before .before .before .before in
     let out = start .args .out .now in
     let b = start .args .byte in

@@ -1,25 +1,21 @@
-use native.Mathlib.Omega.{arith}
-use mathlib.Core.Path.{_≡_, refl, sym, ap, _∙_, subst}
+-- A sound record's counts are within the limits. The header, the gates and the outputs, each put into the part where its
+-- predecessor ended, are the file.
+use mathlib.Core.Path.{_≡_, refl, sym, ap, _∙_}
 use mathlib.Core.List.{List, _++_, append-assoc}
 use Prim.Native.Nat.{ℕ, _+_, _-_, _≤_}
+use native.Mathlib.Omega.{arith}
 use lib.ListN.{length, drop, length-append}
 use borrow.Rule.Slice.PartMut.{putMid}
+use borrow.Author.Needs.{needs}
 use Rattle.integers.specs.Refusals.{accepted}
 use Rattle.network.specs.Record.{netOf}
 use Rattle.format.specs.Format.{fileBytes}
 use Rattle.pmn.specs.Writing.{header, firstGates, gatesLength, firstOutputs}
 use Rattle.pmn.specs.WritingLaws.{firstGates-length, firstOutputs-length, file-parts, file-length}
-use Rattle.pmn.specs.WriteLaws.{Bounded, sound-bounded, write-short, write-whole, written-refused, written-whole}
+use Rattle.pmn.specs.WriteAnswerLaws.{Bounded, sound-bounded, write-short, write-whole, written-refused, written-whole}
 use Rattle.pmn.proofs.PartWrites.{tail-length, write-on}
-use borrow.Author.Needs.{needs}
 use Rattle.pmn.proofs.unchecked.writer.write_sound.Statement.{statement}
 use Rattle.pmn.proofs.unchecked.writer.write_sound.Tie as tie
-use Rattle.pmn.proofs.unchecked.writer.write_sound.Reads as reads
-use Rattle.pmn.proofs.unchecked.writer.write_sound.Lts as lts
-use Rattle.pmn.proofs.unchecked.writer.file_length.Reads as file-length-reads
-use Rattle.pmn.proofs.unchecked.writer.put_gates.Reads as put-gates-reads
-use Rattle.pmn.proofs.unchecked.writer.put_header.Reads as put-header-reads
-use Rattle.pmn.proofs.unchecked.writer.put_outputs.Reads as put-outputs-reads
 
 -- the record's counts are within the limits
 bounded : (c : tie.Start) → Bounded (c .args .t1)
@@ -44,8 +40,8 @@ body-is c =
     let start = put .before .before .before .before .before .before .before in
     let r = start .args .t1 in
     write-on (start .args .out .now) (put .put-header .last .0) (c .put-gates .last .0) (header (r .inputs) (r .gates) (r .outputs))
-      (firstGates (r .fanins) (r .thresholds) (r .signals) (r .weights) (r .gates)) 8 (c .put-gates .result)
-      (put .put-header .ensures) refl (firstGates-length (r .fanins) (r .thresholds) (r .signals) (r .weights) (r .gates) ∙ sym (c .put-gates .ensures .0)) (omega arith) (c .put-gates .ensures .1)
+    (firstGates (r .fanins) (r .thresholds) (r .signals) (r .weights) (r .gates)) 8 (c .put-gates .result)
+    (put .put-header .ensures) refl (firstGates-length (r .fanins) (r .thresholds) (r .signals) (r .weights) (r .gates) ∙ sym (c .put-gates .ensures .0)) (omega arith) (c .put-gates .ensures .1)
 
 -- the outputs end where the length found says, and that is in the lent bytes
 ends : (c : tie.After-put-gates)
@@ -60,65 +56,53 @@ ends c =
     let h = put .before .before .if1 .left in
     (omega arith, omega arith)
 
--- src/unchecked/writer.rt:115:9
 file-length-requires : tie.Need-file-length-requires
 file-length-requires c κs = let b = bounded (c .before .before .before) in (b .counted, b .few-outputs)
 
--- src/unchecked/writer.rt:117:9
 returns : tie.Need-returns
-returns c = 
+returns c =
     let start = c .before .before .before .before .before in
     let r = start .args .t1 in
     let x₀ = start .args .out .now in
     let n = length-is (c .before) in
     written-refused r 18 x₀ (write-short r (length x₀) (start .pre) (omega arith))
 
--- src/unchecked/writer.rt:119:5
 put-header-requires : tie.Need-put-header-requires
-put-header-requires c κs = 
+put-header-requires c κs =
     let b = bounded (c .before .before .before .before .before .before) in
     let h = b .counted .few-gates in
     ((omega arith, omega arith, omega arith), omega arith)
 
--- src/unchecked/writer.rt:121:9
 sub-put-gates : tie.Need-sub-put-gates
 sub-put-gates c = search needs
 
--- src/unchecked/writer.rt:121:9
 part-put-gates-start : tie.Need-part-put-gates-start
 part-put-gates-start c = search needs
 
--- src/unchecked/writer.rt:121:9
 part-put-gates-end : tie.Need-part-put-gates-end
 part-put-gates-end c = search needs
 
--- src/unchecked/writer.rt:120:9
 put-gates-requires : tie.Need-put-gates-requires
-put-gates-requires c κs = 
+put-gates-requires c κs =
     let put = c .before .before .before .before .before .before .before .before in
     let start = put .before .before .before .before .before .before .before in
     let t = tail-length 8 (put .put-header .last .0) in
     (bounded start .counted, omega arith)
 
--- src/unchecked/writer.rt:128:14
 add-at : tie.Need-add-at
 add-at c = search needs
 
--- src/unchecked/writer.rt:129:17
 sub-put-outputs : tie.Need-sub-put-outputs
 sub-put-outputs c = search needs
 
--- src/unchecked/writer.rt:129:17
 part-put-outputs-start : tie.Need-part-put-outputs-start
 part-put-outputs-start c = search needs
 
--- src/unchecked/writer.rt:129:17
 part-put-outputs-end : tie.Need-part-put-outputs-end
 part-put-outputs-end c = search needs
 
--- src/unchecked/writer.rt:129:5
 put-outputs-requires : tie.Need-put-outputs-requires
-put-outputs-requires c κs = 
+put-outputs-requires c κs =
     let gates = c .before .before .before .before .before in
     let start = gates .before .before .before .before .before .before .before .before .before .before .before .before .before .before .before .before in
     let at = 8 + gates .put-gates .result in
@@ -128,11 +112,9 @@ put-outputs-requires c κs =
     let e = ends gates .1 in
     (bounded start .few-outputs, omega (arith, t, l, k, e))
 
--- src/unchecked/writer.rt:110:1
 same-length : tie.Need-same-length
 same-length c = search needs
 
--- src/unchecked/writer.rt:110:1
 returns-2 : tie.Need-returns-2
 returns-2 c =
     let out = c .before .before in
@@ -152,12 +134,13 @@ returns-2 c =
     let n = first .file-length .result in
     let e = ends gates in
     let el = length-is first in
-    let w = written-whole r n x₀ (write-whole r (length x₀) (start .pre) (omega (arith, e .0, e .1, el)) ∙ ap accepted (sym el)) in
-    (w .0,
+    let w = written-whole r n x₀ (write-whole r (length x₀) (start .pre) (omega (arith, e .0, e .1, el)) ∙ ap accepted (sym el)) in (
+      w .0,
       write-on x₀ (body gates) (out .put-outputs .last .0) (H ++ G) O (8 + m) (r .outputs) (body-is gates) lp lO (e .1) (out .put-outputs .ensures)
-        ∙ ap (λ (k : ℕ). ((H ++ G) ++ O) ++ drop k x₀) (e .0)
-        ∙ ap (λ (l : List ℕ). l ++ drop n x₀) (append-assoc H G O ∙ sym (file-parts r))
-        ∙ w .1)
+          ∙ ap (λ (k : ℕ). ((H ++ G) ++ O) ++ drop k x₀) (e .0)
+          ∙ ap (λ (l : List ℕ). l ++ drop n x₀) (append-assoc H G O ∙ sym (file-parts r))
+          ∙ w .1,
+    )
 
 pub write-sound-spec : {M : Type 1} → statement M
 write-sound-spec =

@@ -1,24 +1,23 @@
 -- Laws of what `write` answers: the limits of a sound record, and each of the three answers. Assumes nothing.
-use mathlib.Core.Path.{_≡_, refl, sym, ap, _∙_}
-use mathlib.Core.Bool.{Bool, true, false}
-use mathlib.Core.List.{List, [], _∷_, _++_}
+use mathlib.Core.Path.{_≡_, sym, ap, _∙_}
+use mathlib.Core.Bool.{true, false}
+use mathlib.Core.List.{List, _++_}
 use Prim.Native.Nat.{ℕ, _≤_, _<_}
 use native.Mathlib.Omega.{arith}
 use borrow.Author.Tests.{le-leb, lt-leb}
 use lib.Dec.{leb}
 use lib.ListN.{length, drop, getD}
-use Rattle.integers.specs.Refusals.{Answer, accepted, refused, _else_, checks}
+use Rattle.integers.specs.Refusals.{Answer, accepted, refused}
 use Rattle.integers.specs.RefusalLaws.{checks-first, checks-next, checks-none}
 use Rattle.integers.specs.Tests.{T-is}
 use Rattle.network.specs.declared.Network.{Network}
 use Rattle.network.specs.Threshold.{Gate}
-use Rattle.network.specs.Record.{gateFrom, gateOf, netOf, noGate, soundRecord}
-use Rattle.network.specs.LimitLaws.{Sound, gates-at}
+use Rattle.network.specs.Record.{gateFrom, netOf, noGate, soundRecord}
+use Rattle.network.specs.LimitLaws.{gates-at}
 use Rattle.network.specs.PlaceLaws.{length-feeds}
 use Rattle.network.specs.RecordLaws.{count-gates, count-outputs, gate-within, sound-net}
 use Rattle.format.specs.Format.{fileBytes}
 use Rattle.pmn.specs.Answers.{writeAnswer, asWritten, written, bytesOf, bytesAfter}
-use Rattle.pmn.specs.declared.Written.{Written}
 use Rattle.pmn.specs.Writing.{Counted}
 
 -- the counts of a record are within the limits
