@@ -1,5 +1,8 @@
 // The PMN file: reading it into a record, writing a record as a file, and the bytes of one gate.
 use network::Network;
+ghost use mathlib.Core.Path.{_≡_};
+ghost use lib.ListN.{length};
+ghost use Rattle.pmn.specs.Answers.{written, bytesAfter};
 
 // What `read` answers: 0 or the refusal, and the network; the blank record on refusal.
 pub struct Loaded {
@@ -12,3 +15,21 @@ pub struct Written {
     pub code: u8,
     pub length: usize,
 }
+
+// Writes the file of a record at the front of the lent bytes. The answer is the file's length, or 20 for a broken record, or 18 where
+// the file is longer than the lent bytes.
+pub fn write(network: Network, out: &mut [u8]) -> Written
+    ensures { λ r. ⌜ r ≡ written network (length (now (out .entry))) ⌝ }
+    ensures { λ _. ⌜ now (out .exit) ≡ bytesAfter network (now (out .entry)) ⌝ }
+{
+    if network::soundness::is_sound(network) {
+        unchecked::writer::write_sound(network, out)
+    } else {
+        Written {
+            code: 20,
+            length: 0,
+        }
+    }
+}
+
+mod unchecked;
