@@ -4,3 +4,5 @@ pub mod Collapse
 pub mod Sweep
 pub mod Calls
 pub mod Aligned
+pub mod WeightLaws
+pub mod AlignedLaws
