@@ -1,12 +1,11 @@
 -- The feeds of the merged gate, as they are listed one by one. Assumes nothing.
-use mathlib.Core.Path.{_≡_, refl, sym, ap, _∙_}
-use mathlib.Core.Bool.{Bool, true, false, not, cond}
+use mathlib.Core.Path.{_≡_, refl, sym, _∙_}
+use mathlib.Core.Bool.{true, false, not, cond}
 use mathlib.Core.List.{List, [], _∷_, _++_, map}
-use Prim.Native.Nat.{ℕ, _+_, _-_, _≤_, _<_, _^_}
+use Prim.Native.Nat.{ℕ, _+_, _≤_, _<_}
 use native.Mathlib.Omega.{arith}
-use lib.Dec.{T}
-use lib.IntN.{ℤ, pos, natAbs, _-ℤ_}
-use lib.ListN.{length, getD, take, set, replicate, length-append, length-map}
+use lib.IntN.{ℤ, pos, _-ℤ_}
+use lib.ListN.{length, getD, set, replicate, length-append, length-map}
 use lib.Seq.{length-take-le, getD-take}
 use mir.Syntax.{w32}
 use mir.Val.{SFits}
@@ -32,10 +31,12 @@ module _ (a : Alignment) (k l : ℕ) where
 
   -- ---- the mixes are on the scale
 
+  -- a mix is made of the two weights listed
   pub mix-at : (i : ℕ) → i < a .count → mix (alignedIn a) k l i ≡ mixOf (getD (a .us) i (pos 0)) (getD (a .vs) i (pos 0)) k l
   unfolding mix alignedIn
   mix-at i h = rw (getD-take (a .count) (a .us) i (pos 0) h, getD-take (a .count) (a .vs) i (pos 0) h)
 
+  -- each weight, and the threshold, as the mix that the code makes
   pub weight-mixable : Mergeable a k l → length (a .us) ≡ 16 → (i : ℕ) → i < a .count → SFits w32 (getD (a .us) i (pos 0)) → SFits w32 (getD (a .vs) i (pos 0))
       → Mixable (getD (a .us) i (pos 0)) (getD (a .vs) i (pos 0)) k l
   unfolding scaleFits alignedIn
@@ -62,18 +63,22 @@ module _ (a : Alignment) (k l : ℕ) where
 
   -- ---- the lists
 
+  -- the merged gate's feeds among the first i distinct feeds: their number, signals and weights
   pub record Combined (i fanin : ℕ) (signals : List ℕ) (weights : List ℤ) : Type 0 where
     pub counted : fanin ≡ length (feedsTo i)
     pub named : signals ≡ places 0 (map (λ f. f .signal) (feedsTo i))
     pub weighed : weights ≡ places (pos 0) (map (λ f. f .weight) (feedsTo i))
 
+  -- among none there are none
   pub combined-none : Combined 0 0 (replicate 16 0) (replicate 16 (pos 0))
   unfolding keep range
   combined-none = record { counted = refl; named = places-none 0; weighed = places-none (pos 0) }
 
+  -- among i there are at most i
   pub combined-few : (i fanin : ℕ) (signals : List ℕ) (weights : List ℤ) → Combined i fanin signals weights → fanin ≤ i
   combined-few i fanin signals weights c = omega (arith, c .counted, length-keep stays (map (mixFeed a k l) (range 0 i)), length-map (range 0 i) (mixFeed a k l), length-range 0 i)
 
+  -- whether distinct feed i gives one more
   feeds-more : (i : ℕ) → feedsTo (i + 1) ≡ cond (stays (mixFeed a k l i)) (feedsTo i ++ (mixFeed a k l i ∷ [])) (feedsTo i)
   feeds-more i = rw (range-more 0 i, let q : 0 + i ≡ i = omega arith in q, map-last (mixFeed a k l) (range 0 i) i) (keep-last stays (map (mixFeed a k l) (range 0 i)) (mixFeed a k l i))
 
@@ -98,6 +103,7 @@ module _ (a : Alignment) (k l : ℕ) where
           weighed = rw q (placed-last (pos 0) (λ f. f .weight) (feedsTo i) (mixFeed a k l i) fanin weights (c .weighed) (c .counted) w (unfold mixFeed in w-is));
         }
 
+  -- among all: the merged gate
   pub combined-all : (fanin : ℕ) (signals : List ℕ) (weights : List ℤ) → Combined (a .count) fanin signals weights
       → _≡_ {A = GateRecord} (record { fanin = fanin; threshold = level (alignedIn a) k l; signals = signals; weights = weights }) (gateRecord (mergedOf a k l))
   unfolding mergedOf signalsOf

@@ -16,6 +16,7 @@ use Rattle.alignment.specs.Alignments.{mixOf, Mixable}
 times : (k : ℕ) (z : ℤ) (m : ℕ) → k ≤ 32 → natAbs z ≤ m → natAbs (pos k *ℤ z) ≤ 32 * m
 times k z m h e = rw size-mul (mul-le-mul h e)
 
+-- what the code asks for, step by step
 pub record Fitting (x y : ℤ) (k l : ℕ) : Type 0 where
   pub k-is : toZ w64 k ≡ pos k
   pub l-is : toZ w64 l ≡ pos l

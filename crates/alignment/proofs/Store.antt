@@ -1,5 +1,5 @@
 -- The weights of a gate stored by signal, the last feed first. Assumes nothing.
-use mathlib.Core.Path.{_≡_, refl, sym, ap, _∙_}
+use mathlib.Core.Path.{_≡_, refl, sym, _∙_}
 use mathlib.Core.List.{List, [], _∷_}
 use Prim.Native.Nat.{ℕ, zero, suc, _-_, _≤_, _<_}
 use native.Mathlib.Omega.{arith}
@@ -14,6 +14,7 @@ use Rattle.folding.specs.Merge.{weightOf}
 use Rattle.alignment.specs.Alignments.{weightTable}
 use Rattle.alignment.specs.PlaceLaws.{set-tab}
 
+-- no feed, and one feed more in front
 table-none : replicate 256 (pos 0) ≡ weightTable []
 unfolding weightTable weightOf
 table-none = sym (tab-replicate 256 (pos 0))

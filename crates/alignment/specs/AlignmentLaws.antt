@@ -1,21 +1,21 @@
 -- Laws of the record of two gates by their distinct feeds: what it stands for, and that its merged gate is that of document 01.
 -- Assumes nothing.
-use mathlib.Core.Path.{_≡_, refl, sym, ap, ap₂, _∙_}
-use mathlib.Core.List.{List, [], _∷_, map}
-use Prim.Native.Nat.{ℕ, zero, suc, _≤_, _<_}
+use mathlib.Core.Path.{_≡_, sym, ap, ap₂, _∙_}
+use mathlib.Core.List.{map}
+use Prim.Native.Nat.{ℕ, _≤_, _<_}
 use native.Mathlib.Omega.{arith}
+use lib.Dec.{T}
 use lib.IntN.{ℤ, pos, _+ℤ_, _*ℤ_}
 use lib.ListN.{length, getD, take, length-map, List·getD-map}
-use Rattle.integers.specs.Lists.{keep, range, tab}
+use Rattle.integers.specs.Lists.{keep}
 use Rattle.integers.specs.ListLaws.{tab-of, tab-same}
-use Rattle.network.specs.Threshold.{Feed, Gate}
+use Rattle.network.specs.Threshold.{Gate}
 use Rattle.network.specs.Limits.{signalsOf}
 use Rattle.network.specs.Record.{noFeed, gateRecord}
-use Rattle.network.specs.declared.GateRecord.{GateRecord}
 use Rattle.folding.specs.Merge.{Edge, weightOf, distinct, mergedFeed, stays, mergedThreshold, merged}
-use Rattle.folding.specs.Aligned.{Aligned, aligned, level, mix}
+use Rattle.folding.specs.Aligned.{Aligned, aligned, level, mix, scaleFits}
 use Rattle.folding.specs.AlignedLaws.{us-length, vs-length}
-use Rattle.alignment.specs.Alignments.{places, alignmentOf, alignedIn, mixFeed, mergedOf}
+use Rattle.alignment.specs.Alignments.{places, alignmentOf, alignedIn, mixFeed, mergedOf, Mergeable}
 use Rattle.alignment.specs.PlaceLaws.{getD-places, take-places, map-at}
 
 -- the record of an edge with at most 16 distinct feeds stands for its two gates
@@ -45,6 +45,11 @@ merged-is e k l h =
     (λ i n. mix-feed e k l h i (omega (arith, n, length-map (distinct e) (mergedFeed e k l)))) in
     let t = ap (λ (a : Aligned). level a k l) (aligned-in e h) in
     λ j. record { feeds = keep stays (feeds j); threshold = t j }
+
+-- what the merged gate's code asks for, from the tests of a merge
+pub mergeable : (e : Edge) (k l : ℕ) → length (distinct e) ≤ 16 → k ≤ 32 → l ≤ 32 → T (scaleFits (aligned e) k l) → Mergeable (alignmentOf e) k l
+unfolding alignmentOf
+mergeable e k l h hk hl t = record { few = h; small-k = hk; small-l = hl; fits = rw (aligned-in e h) t }
 
 -- a gate's 16 places, by the lists of its signals and its weights
 pub gate-places : (g : Gate) → gateRecord g ≡ record {

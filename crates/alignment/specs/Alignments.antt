@@ -1,9 +1,7 @@
 -- The record of two gates by their distinct feeds, what it stands for, and the merged gate that it gives. Nothing is proved here.
-use mathlib.Core.Path.{_≡_}
-use mathlib.Core.Bool.{Bool, cond}
 use mathlib.Core.List.{List, map}
 use Prim.Native.Nat.{ℕ, _≤_, _^_}
-use lib.Dec.{T, eqb}
+use lib.Dec.{T}
 use lib.IntN.{ℤ, pos, natAbs, _+ℤ_, _*ℤ_}
 use lib.ListN.{length, getD, take}
 use Rattle.integers.specs.Lists.{keep, range, tab}

@@ -2,21 +2,19 @@
 use mathlib.Core.Path.{_≡_, refl, sym, ap, _∙_}
 use mathlib.Core.Bool.{Bool, true, false, cond}
 use mathlib.Core.List.{List, [], _∷_, _++_, map}
-use mathlib.Core.Logic.{_≢_}
-use Prim.Native.Nat.{ℕ, zero, suc, _+_, _≤_, _<_}
-use native.Mathlib.Numerals.{add-one}
+use Prim.Native.Nat.{ℕ, zero, suc, _≤_, _<_}
 use native.Mathlib.Omega.{arith}
-use lib.Dec.{T, eqb, eqb→eq, eqb-refl, eqb·zero-suc, eqb·suc-zero, eqb·suc-suc}
-use lib.ListN.{length, getD, take, set, replicate, length-append, length-set, length-map}
+use lib.Dec.{eqb, eqb·zero-suc, eqb·suc-zero, eqb·suc-suc}
+use lib.ListN.{length, getD, take, set, replicate, length-set, length-map}
 use lib.Seq.{length-take-le, ext-getD, getD-set-same, getD-set-other, getD-take, set-out}
 use borrow.Author.Tests.{eqb-true, eqb-false}
-use Rattle.integers.specs.Lists.{keep, range, tab}
-use Rattle.integers.specs.Tests.{is-true, eqb-no}
-use Rattle.integers.specs.ListLaws.{length-tab, getD-tab, tab-same, tab-replicate, range-more}
+use Rattle.integers.specs.Lists.{keep, tab}
+use Rattle.integers.specs.ListLaws.{length-tab, getD-tab, tab-same, tab-replicate}
 use Rattle.alignment.specs.Alignments.{places}
 
 module _ {A : Type 0} where
   -- ---- a store into a table
+
   pub set-tab : (n : ℕ) (f : ℕ → A) (i : ℕ) (x : A) → set (tab n f) i x ≡ tab n (λ j. cond (eqb i j) x (f j))
   set-tab n f i x = ext-getD x (set (tab n f) i x) (tab n (λ j. cond (eqb i j) x (f j)))
       (length-set (tab n f) i x ∙ length-tab n f ∙ sym (length-tab n (λ j. cond (eqb i j) x (f j))))
@@ -29,6 +27,7 @@ module _ {A : Type 0} where
       ] refl
 
   -- ---- one member more at the end
+
   pub getD-last : (xs : List A) (x d : A) (i : ℕ) → getD (xs ++ (x ∷ [])) i d ≡ cond (eqb (length xs) i) x (getD xs i d)
   getD-last [] x d zero = refl
   getD-last [] x d (suc i) = rw (eqb·zero-suc i)
@@ -48,6 +47,7 @@ module _ {A : Type 0} where
       swap false false = refl
 
   -- ---- the 16 places
+
   pub length-places : (d : A) (xs : List A) → length (places d xs) ≡ 16
   unfolding places
   length-places d xs = length-tab 16 (λ i. getD xs i d)
@@ -74,6 +74,8 @@ module _ {A : Type 0} where
       (length-take-le (length xs) (places d xs) (omega (arith, length-places d xs)))
       λ i k. let l : i < length xs = omega (arith, k, length-take-le (length xs) (places d xs) (omega (arith, length-places d xs))) in
       getD-take (length xs) (places d xs) i d l ∙ getD-places d xs i (omega arith)
+
+-- ---- one property of each member
 
 pub map-last : {A B : Type 0} (f : A → B) (xs : List A) (x : A) → map f (xs ++ (x ∷ [])) ≡ map f xs ++ (f x ∷ [])
 map-last f [] x = refl

@@ -6,14 +6,13 @@ use integers::widened;
 use network::GateRecord;
 ghost use mathlib.Core.Path.{_≡_};
 ghost use mathlib.Core.Bool.{not, _||_};
-ghost use Prim.Native.Nat.{_≤_, _^_};
-ghost use lib.Dec.{T};
-ghost use lib.IntN.{pos, natAbs, _+ℤ_, _-ℤ_, _*ℤ_};
-ghost use Rattle.network.specs.Limits.{isZero, inScale};
+ghost use Prim.Native.Nat.{_≤_};
+ghost use lib.IntN.{_-ℤ_};
+ghost use Rattle.network.specs.Limits.{isZero};
 ghost use Rattle.network.specs.Record.{gateIn, gateRecord};
 ghost use Rattle.alignment.specs.Alignments.{weightTable, edgeIn, Alignable, alignmentOf, mixOf, Mixable, mergedOf, Mergeable};
 
-// The weight of each signal, 0 where it is no feed.
+// The weight of each signal, 0 where it is no feed. The last feed is stored first.
 fn spread(gate: GateRecord) -> [i32; 256]
     requires { ⌜ gate .fanin ≤ 16 ⌝ }
     ensures { λ r. ⌜ r ≡ weightTable (gateIn gate .feeds) ⌝ }
@@ -35,7 +34,8 @@ fn either(x: i32, y: i32) -> bool
     (magnitude(x) != 0) | (magnitude(y) != 0)
 }
 
-// Two gates by their distinct feeds, of which the first 16 are listed.
+// Two gates by their distinct feeds: all are counted, and the first 16 listed. u is none of them, so its weight in v is taken out
+// before.
 pub fn align(gate_u: GateRecord, gate_v: GateRecord, u: usize, v: usize) -> Alignment
     requires { ⌜ Alignable (edgeIn «gate_u» «gate_v» u v) ⌝ }
     ensures { λ r. ⌜ r ≡ alignmentOf (edgeIn «gate_u» «gate_v» u v) ⌝ }

@@ -29,14 +29,17 @@ pub record EdgeOk (e : Edge) : Type 0 where
 
 -- ---- whether a gate reads a signal, by the signal's weight
 
+-- the weights of a gate within the limits
 pub weights-ok : {own : ℕ} {g : Gate} → GateOk own g → T (all weightOk (g .feeds))
 unfolding scaleOk
 weights-ok {own} {g} o = T-and (inScale (g .threshold)) (all weightOk (g .feeds)) (o .scaled) .1
 
+-- a signal is read if its weight is not 0
 pub reads-weight : {own : ℕ} {g : Gate} → GateOk own g → (x : ℕ) → reads x g ≡ not (isZero (weightOf x (g .feeds)))
 unfolding reads silent
 reads-weight {own} {g} o x = ap not (sym (weight-zero x (g .feeds) (weights-ok o)))
 
+-- else its weight is 0
 unread-weight : {own : ℕ} {g : Gate} → GateOk own g → (x : ℕ) → T (not (reads x g)) → weightOf x (g .feeds) ≡ pos 0
 unread-weight {own} {g} o x t = zero-is (weightOf x (g .feeds)) (not-not (isZero (weightOf x (g .feeds))) (rw (reads-weight o x) at t))
 
@@ -50,6 +53,7 @@ not-and false b t h = absurd h
 
 -- ---- the scale
 
+-- the first number by itself
 below-first : (n : ℕ) (p : ℕ → Bool) → below (suc n) p ≡ (p 0 && below n (λ i. p (suc i)))
 unfolding below
 below-first zero p = sym (and-true (p 0))
@@ -64,6 +68,7 @@ scale-stays (f ∷ fs) = elim (isZero (f .weight)) as
     [ true ↦ λ z q. rw (z tt) (scale-stays fs) | false ↦ λ z q. rw (q, and-true (inScale (f .weight)), scale-stays fs) ]
     (zero-is (f .weight)) refl
 
+-- the same test by number
 scale-below : (k l : ℕ) (f g : ℕ → ℤ) (ds : List ℕ) → all (λ h. inScale (h .weight)) (weighted (λ x. pos k *ℤ f x +ℤ pos l *ℤ g x) ds)
     ≡ below (length (map f ds)) (λ i. inScale (pos k *ℤ getD (map f ds) i (pos 0) +ℤ pos l *ℤ getD (map g ds) i (pos 0)))
 unfolding all
@@ -73,6 +78,7 @@ scale-below k l f g (x ∷ ds) = rw (
   scale-below k l f g ds,
 )
 
+-- the merged gate's scale
 pub scaleOk-fits : (e : Edge) (k l : ℕ) → scaleOk (merged e k l) ≡ scaleFits (aligned e) k l
 unfolding scaleOk scaleFits merged mergedFeed mergedThreshold level mix aligned
 scaleOk-fits e k l =
@@ -81,6 +87,7 @@ scaleOk-fits e k l =
 
 -- ---- lengths and sizes
 
+-- one weight for each distinct feed
 pub us-length : (e : Edge) → length (aligned e .us) ≡ length (distinct e)
 unfolding aligned
 us-length e = length-map (distinct e) (λ x. weightOf x (e .gateU .feeds))
@@ -95,6 +102,7 @@ weights-small o [] i = omega arith
 weights-small {own} {g} o (x ∷ ds) zero = weight-small x (g .feeds) (weights-ok o)
 weights-small o (x ∷ ds) (suc i) = weights-small o ds i
 
+-- the threshold of a gate
 threshold-small : {own : ℕ} {g : Gate} → GateOk own g → natAbs (g .threshold) ≤ 1000000
 unfolding scaleOk inScale
 threshold-small {own} {g} o = leb→le (natAbs (g .threshold)) 1000000 (T-and (inScale (g .threshold)) (all weightOk (g .feeds)) (o .scaled) .0)
@@ -107,6 +115,7 @@ pub record Small (a : Aligned) : Type 0 where
   pub tv : natAbs (a .tv) ≤ 1000000
   pub b : natAbs (a .b) ≤ 1000000
 
+-- those of an edge are
 pub aligned-small : (e : Edge) → EdgeOk e → Small (aligned e)
 unfolding aligned
 aligned-small e ok = record {
@@ -142,15 +151,18 @@ module _ (e : Edge) (ok : EdgeOk e) where
   unfolding among
   apart-v x h t = unread-weight (ok .okV) x (not-and (other (e .u) x) (reads x (e .gateV)) (not-or (reads x (e .gateU)) (other (e .u) x && reads x (e .gateV)) t .1) (ne-other (e .u) x h))
 
+  -- the distinct feeds rise
   pub distinct-rise : Rise 0 (e .v) (distinct e)
   unfolding distinct
   distinct-rise = rise-kept (among e) 0 (e .v) (e .v) (omega arith)
 
   -- ---- sums on a setting
 
+  -- any weights on the distinct feeds
   sum-of : (w : ℕ → ℤ) (s : ℕ) → sum (setting (distinct e) s) (weighted w (distinct e)) ≡ sumAt (map w (distinct e)) s
   sum-of w s = sum-setting (setting (distinct e) s) w 0 (e .v) (distinct e) s distinct-rise (λ x l. refl)
 
+  -- u's sum
   pub sum-u : (s : ℕ) → sum (setting (distinct e) s) (e .gateU .feeds) ≡ sumAt (aligned e .us) s
   unfolding distinct aligned
   sum-u s =
@@ -160,6 +172,7 @@ module _ (e : Edge) (ok : EdgeOk e) where
       ∙ sum-kept ρ ρ w (among e) 0 (e .v) (λ x l t. refl) (λ x l t. apart-u x t)
       ∙ sum-of w s
 
+  -- v's sum where u has the bit b
   pub sum-v : (s : ℕ) (b : Bool) → sum (assign (setting (distinct e) s) (e .u) b) (e .gateV .feeds) ≡ cond b (feedWeight e) (pos 0) +ℤ sumAt (aligned e .vs) s
   unfolding distinct aligned
   sum-v s b =
@@ -171,6 +184,7 @@ module _ (e : Edge) (ok : EdgeOk e) where
 
   -- ---- bits on a setting
 
+  -- the composed pair
   pub composed-on : (s : ℕ) → composed (setting (distinct e) s) e ≡ composedBit (aligned e) (sumAt (aligned e .us) s) (sumAt (aligned e .vs) s)
   unfolding composed bit composedBit aligned
   composed-on s =
@@ -178,6 +192,7 @@ module _ (e : Edge) (ok : EdgeOk e) where
       let y = sumAt (aligned e .vs) s in
       ap (leZ (e .gateV .threshold)) (sum-v s (bit (setting (distinct e) s) (e .gateU)) ∙ ap (λ (z : ℤ). when z +ℤ y) (sum-u s) ∙ +ℤ-comm (when (sumAt (aligned e .us) s)) y)
 
+  -- the merged gate
   pub merged-on : (k l s : ℕ) → bit (setting (distinct e) s) (merged e k l) ≡ mergedBit (aligned e) k l (sumAt (aligned e .us) s) (sumAt (aligned e .vs) s)
   unfolding bit merged mergedFeed mergedThreshold mergedBit level aligned
   merged-on k l s =
@@ -188,17 +203,21 @@ module _ (e : Edge) (ok : EdgeOk e) where
 
   -- ---- agreement, and the pairs that qualify
 
+  -- on one setting
   pub agreesAt-on : (k l s : ℕ) → agreesAt e k l s ≡ agreesOn (aligned e) k l s
   unfolding agreesAt agreesOn
   agreesAt-on k l s = ap₂ Bool·beq (merged-on k l s) (composed-on s)
 
+  -- on every setting
   pub agrees-all : (k l : ℕ) → agrees e k l ≡ agreesAll (aligned e) k l
   unfolding agrees agreesAll aligned
   agrees-all k l = ap₂ (λ (n : ℕ) (p : ℕ → Bool). below (2 ^ n) p) (sym (length-map (distinct e) (λ x. weightOf x (e .gateU .feeds)))) (fun-ext (agreesAt-on k l))
 
+  -- the pairs that qualify
   pub qualifies-on : (p : Pair) → qualifies e p ≡ qualifiesOn (aligned e) p
   unfolding qualifies qualifiesOn
   qualifies-on p = ap₂ (λ (x y : Bool). every (onDial (p .k) ∷ onDial (p .l) ∷ x ∷ y ∷ [])) (scaleOk-fits e (p .k) (p .l)) (agrees-all (p .k) (p .l))
 
+  -- the first of them
   pub first-on : first (qualifies e) pairs 16 ≡ first (qualifiesOn (aligned e)) pairs 16
   first-on = ap (λ (q : Pair → Bool). first q pairs 16) (fun-ext qualifies-on)

@@ -4,19 +4,13 @@ use Rattle.network.specs.Limits.{isZero}
 use borrow.Author.Needs.{needs}
 use Rattle.alignment.proofs.unchecked.either.Statement.{statement}
 use Rattle.alignment.proofs.unchecked.either.Tie as tie
-use Rattle.alignment.proofs.unchecked.either.Reads as reads
-use Rattle.alignment.proofs.unchecked.either.Lts as lts
-use Rattle.integers.proofs.magnitude.Reads as magnitude-reads
 
--- src/unchecked.rt:35:6
 magnitude-requires : tie.Need-magnitude-requires
 magnitude-requires c κs = search needs
 
--- src/unchecked.rt:35:28
 magnitude-requires-2 : tie.Need-magnitude-requires-2
 magnitude-requires-2 c κs = search needs
 
--- src/unchecked.rt:32:1
 returns : tie.Need-returns
 unfolding isZero
 returns c = rw (c .before .magnitude .ensures, c .magnitude2 .ensures, toZ-ofZ (c .before .before .fits .x), toZ-ofZ (c .before .before .fits .y))

@@ -1,5 +1,5 @@
 -- `merged_gate` meets its contract: of the first i distinct feeds those with a sum other than 0 are listed. Assumes nothing.
-use mathlib.Core.Path.{_≡_, refl, sym, ap, _∙_}
+use mathlib.Core.Path.{_≡_, refl, sym, _∙_}
 use mathlib.Core.Logic.{⊎-elim}
 use Prim.Native.Nat.{_≤_, _<_, _-_}
 use native.Mathlib.Omega.{arith}
@@ -17,11 +17,6 @@ use Rattle.alignment.proofs.Combine.{mix-at, weight-mixable, level-mixa
 use borrow.Author.Needs.{needs}
 use Rattle.alignment.proofs.unchecked.merged_gate.Statement.{statement}
 use Rattle.alignment.proofs.unchecked.merged_gate.Tie as tie
-use Rattle.alignment.proofs.unchecked.merged_gate.Reads as reads
-use Rattle.alignment.proofs.unchecked.merged_gate.Lts as lts
-use Rattle.alignment.proofs.unchecked.mixed_level.Reads as mixed-level-reads
-use Rattle.alignment.proofs.unchecked.mixed_weight.Reads as mixed-weight-reads
-use Rattle.integers.proofs.magnitude.Reads as magnitude-reads
 
 abbrev Inv-loop : tie.InvT-loop
 Inv-loop k l a signals₀ weights₀ fanin₀ count i₀ signals weights fanin i =
@@ -68,63 +63,48 @@ tv-is c = search needs
 b-is : (c : tie.Start Inv-loop μ-loop) → toZ w32 (ofZ w32 (c .args .t1 .b)) ≡ c .args .t1 .b
 b-is c = search needs
 
--- src/unchecked.rt:111:5
 loop-holds : tie.Need-loop-holds Inv-loop μ-loop
 loop-holds c = (omega arith, combined-none (c .args .t1) (c .args .k) (c .args .l))
 
--- src/unchecked.rt:112:30
 mul-mixed-weight : tie.Need-mul-mixed-weight Inv-loop μ-loop
 mul-mixed-weight c = search needs
 
--- src/unchecked.rt:112:30
 element-copy-out-mixed-weight : tie.Need-element-copy-out-mixed-weight Inv-loop μ-loop
 element-copy-out-mixed-weight c = i-low c
 
--- src/unchecked.rt:112:39
 mul-mixed-weight-2 : tie.Need-mul-mixed-weight-2 Inv-loop μ-loop
 mul-mixed-weight-2 c = search needs
 
--- src/unchecked.rt:112:39
 element-copy-out-mixed-weight-2 : tie.Need-element-copy-out-mixed-weight-2 Inv-loop μ-loop
 element-copy-out-mixed-weight-2 c = i-low (c .before)
 
--- src/unchecked.rt:112:13
 mixed-weight-requires : tie.Need-mixed-weight-requires Inv-loop μ-loop
 mixed-weight-requires c κs = rw (x-is (c .before), y-is c) (mixable c)
 
--- src/unchecked.rt:113:12
 magnitude-requires : tie.Need-magnitude-requires Inv-loop μ-loop
 magnitude-requires c κs = search needs
 
--- src/unchecked.rt:114:30
 element-copy-out-signals : tie.Need-element-copy-out-signals Inv-loop μ-loop
 element-copy-out-signals c = i-low (c .before .before .before .before .before)
 
--- src/unchecked.rt:114:13
 array-write-signals : tie.Need-array-write-signals Inv-loop μ-loop
 array-write-signals c = fanin-low (c .before .before .before .before .before .before)
 
--- src/unchecked.rt:115:13
 mul-weights : tie.Need-mul-weights Inv-loop μ-loop
 mul-weights c = record { fits = omega (arith, fanin-low (c .before .before .before .before .before .before)) }
 
--- src/unchecked.rt:115:13
 array-set-from-weights : tie.Need-array-set-from-weights Inv-loop μ-loop
 array-set-from-weights c = fanin-low (c .before .before .before .before .before .before)
 
--- src/unchecked.rt:116:13
 add-fanin : tie.Need-add-fanin Inv-loop μ-loop
 add-fanin c = record { fits = omega (arith, fanin-low (c .before .before .before .before .before .before)) }
 
--- src/unchecked.rt:111:9
 add-i : tie.Need-add-i Inv-loop μ-loop
 add-i c = search needs
 
--- src/unchecked.rt:111:5
 loop-less : tie.Need-loop-less Inv-loop μ-loop
 loop-less c = search needs
 
--- src/unchecked.rt:111:5
 loop-again : tie.Need-loop-again Inv-loop μ-loop
 unfolding isZero
 loop-again c =
@@ -144,20 +124,17 @@ loop-again c =
           (c .if1 .came),
     )
 
--- src/unchecked.rt:119:9
 mixed-level-requires : tie.Need-mixed-level-requires Inv-loop μ-loop
 mixed-level-requires c κs =
     let s = c .before .before .before .before .before in
     rw (tu-is s, tv-is s, b-is s) (level-mixable (s .args .t1) (s .args .k) (s .args .l) (s .pre) (search needs) (search needs) (search needs))
 
--- src/unchecked.rt:121:16
 cast-t33 : tie.Need-cast-t33 Inv-loop μ-loop
 cast-t33 c =
     let a = c .before .before .before .before .before .before in
     let l = c .before .before .before .before .before .loop in
     record { fits = omega (arith, a .pre .few, l .inv .0, combined-few (a .args .t1) (a .args .k) (a .args .l) (l .i) (l .fanin) (l .signals) (l .weights) (l .inv .1)) }
 
--- src/unchecked.rt:103:1
 returns : tie.Need-returns Inv-loop μ-loop
 unfolding level alignedIn
 returns c =

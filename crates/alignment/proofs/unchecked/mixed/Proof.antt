@@ -4,38 +4,29 @@ use borrow.Author.Needs.{needs}
 use Rattle.alignment.proofs.Mix.{Fitting, fitting}
 use Rattle.alignment.proofs.unchecked.mixed.Statement.{statement}
 use Rattle.alignment.proofs.unchecked.mixed.Tie as tie
-use Rattle.alignment.proofs.unchecked.mixed.Reads as reads
-use Rattle.alignment.proofs.unchecked.mixed.Lts as lts
 
 -- what is known of the arguments
 fit : (c : tie.Start) → Fitting (c .args .x) (c .args .y) (c .args .k) (c .args .l)
 fit c = fitting (c .args .x) (c .args .y) (c .args .k) (c .args .l) (c .pre)
 
--- src/unchecked.rt:43:13
 cast-m : tie.Need-cast-m
 cast-m c = search needs
 
--- src/unchecked.rt:44:13
 cast-n : tie.Need-cast-n
 cast-n c = search needs
 
--- src/unchecked.rt:45:6
 mul-result : tie.Need-mul-result
 mul-result c = simp (fit c .k-is, toZ-ofZ (c .fits .x)) (fit c .left)
 
--- src/unchecked.rt:45:14
 mul-result-2 : tie.Need-mul-result-2
 mul-result-2 c = simp (fit c .l-is, toZ-ofZ (c .fits .y)) (fit c .right)
 
--- src/unchecked.rt:45:6
 add-result : tie.Need-add-result
 add-result c = simp (fit c .k-is, fit c .l-is, toZ-ofZ (c .fits .x), toZ-ofZ (c .fits .y), toZ-ofZ (fit c .left), toZ-ofZ (fit c .right)) (fit c .both)
 
--- src/unchecked.rt:45:5
 cast-result : tie.Need-cast-result
 cast-result c = simp (fit c .k-is, fit c .l-is, toZ-ofZ (c .fits .x), toZ-ofZ (c .fits .y), toZ-ofZ (fit c .left), toZ-ofZ (fit c .right), toZ-ofZ (fit c .both)) (fit c .result)
 
--- src/unchecked.rt:39:1
 returns : tie.Need-returns
 returns c = simp (fit c .k-is, fit c .l-is, toZ-ofZ (c .fits .x), toZ-ofZ (c .fits .y), toZ-ofZ (fit c .left), toZ-ofZ (fit c .right), toZ-ofZ (fit c .both), toZ-ofZ (fit c .result))
 

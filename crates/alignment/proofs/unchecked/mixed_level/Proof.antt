@@ -9,10 +9,6 @@ use Rattle.integers.specs.Size.{size-sub, size-fits, fits-size, read-back}
 use borrow.Author.Needs.{needs}
 use Rattle.alignment.proofs.unchecked.mixed_level.Statement.{statement}
 use Rattle.alignment.proofs.unchecked.mixed_level.Tie as tie
-use Rattle.alignment.proofs.unchecked.mixed_level.Reads as reads
-use Rattle.alignment.proofs.unchecked.mixed_level.Lts as lts
-use Rattle.alignment.proofs.unchecked.mixed.Reads as mixed-reads
-use Rattle.integers.proofs.widened.Reads as widened-reads
 
 -- the widened numbers, as the machine reads them back
 u-is : (c : tie.After-widened) → toZ w64 (ofZ w64 (c .widened .result)) ≡ c .before .args .tu
@@ -33,27 +29,21 @@ gap c =
 gap-is : (c : tie.After-widened3) → toZ w64 (ofZ w64 (toZ w64 (ofZ w64 (c .before .widened2 .result)) -ℤ toZ w64 (ofZ w64 (c .widened3 .result)))) ≡ c .before .before .before .args .tv -ℤ c .before .before .before .args .b
 gap-is c = rw (v-is (c .before), b-is c) (toZ-ofZ (gap c))
 
--- src/unchecked.rt:61:11
 widened-requires : tie.Need-widened-requires
 widened-requires c κs = search needs
 
--- src/unchecked.rt:61:24
 widened-requires-2 : tie.Need-widened-requires-2
 widened-requires-2 c κs = search needs
 
--- src/unchecked.rt:61:38
 widened-requires-3 : tie.Need-widened-requires-3
 widened-requires-3 c κs = search needs
 
--- src/unchecked.rt:61:24
 sub-mixed : tie.Need-sub-mixed
 sub-mixed c = rw (v-is (c .before), b-is c) (gap c)
 
--- src/unchecked.rt:61:5
 mixed-requires : tie.Need-mixed-requires
 mixed-requires c κs = rw (u-is (c .before .before), gap-is c) (c .before .before .before .pre)
 
--- src/unchecked.rt:57:1
 returns : tie.Need-returns
 returns c = read-back w32 (c .mixed .ok) (rw (u-is (c .before .before .before), gap-is (c .before)) at (c .mixed .ensures))
 

@@ -12,9 +12,6 @@ use Rattle.alignment.proofs.Store.{store-none, store-more}
 use borrow.Author.Needs.{needs}
 use Rattle.alignment.proofs.unchecked.spread.Statement.{statement}
 use Rattle.alignment.proofs.unchecked.spread.Tie as tie
-use Rattle.alignment.proofs.unchecked.spread.Reads as reads
-use Rattle.alignment.proofs.unchecked.spread.Lts as lts
-use Rattle.integers.proofs.wide.Reads as wide-reads
 
 abbrev Inv-loop : tie.InvT-loop
 Inv-loop gate table₀ i₀ table i =
@@ -23,49 +20,38 @@ Inv-loop gate table₀ i₀ table i =
 abbrev μ-loop : tie.MeasureT-loop
 μ-loop gate table₀ i₀ table i = i
 
--- src/unchecked.rt:22:9
 wide-requires : tie.Need-wide-requires Inv-loop μ-loop
 wide-requires c κs = search needs
 
--- src/unchecked.rt:23:5
 loop-holds : tie.Need-loop-holds Inv-loop μ-loop
 loop-holds c =
     let g = c .before .args .t1 in
     (omega (arith, c .wide .ensures), rw (c .wide .ensures .0) (store-none (g .signals) (g .weights) (g .fanin)))
 
--- src/unchecked.rt:24:9
 sub-i : tie.Need-sub-i Inv-loop μ-loop
 sub-i c = search needs
 
--- src/unchecked.rt:25:22
 element-copy-out-wide : tie.Need-element-copy-out-wide Inv-loop μ-loop
 element-copy-out-wide c = omega arith
 
--- src/unchecked.rt:25:13
 wide-requires-2 : tie.Need-wide-requires-2 Inv-loop μ-loop
 wide-requires-2 c κs = search needs
 
--- src/unchecked.rt:26:20
 mul-table : tie.Need-mul-table Inv-loop μ-loop
 mul-table c = search needs
 
--- src/unchecked.rt:26:20
 element-copy-out-table : tie.Need-element-copy-out-table Inv-loop μ-loop
 element-copy-out-table c = omega arith
 
--- src/unchecked.rt:26:9
 mul-table-2 : tie.Need-mul-table-2 Inv-loop μ-loop
 mul-table-2 c = search needs
 
--- src/unchecked.rt:26:9
 array-set-from-table : tie.Need-array-set-from-table Inv-loop μ-loop
 array-set-from-table c = omega arith
 
--- src/unchecked.rt:23:5
 loop-less : tie.Need-loop-less Inv-loop μ-loop
 loop-less c = search needs
 
--- src/unchecked.rt:23:5
 loop-again : tie.Need-loop-again Inv-loop μ-loop
 loop-again c =
     let g = c .before .before .before .before .before .before .args .t1 in
@@ -73,7 +59,6 @@ loop-again c =
     let w = read-back w32 {r = getD (g .weights) (loop .i - 1) (pos 0)} (c .table .given) refl in
     (omega arith, rw (loop .inv .1, c .before .wide2 .ensures .0, w) (store-more (g .signals) (g .weights) (loop .i) (g .fanin) (omega arith) (omega arith)))
 
--- src/unchecked.rt:17:1
 returns : tie.Need-returns Inv-loop μ-loop
 unfolding gateIn
 returns c =
