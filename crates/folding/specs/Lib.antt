@@ -18,3 +18,5 @@ pub mod SweepLaws
 pub mod GuaranteeLaws
 pub mod Bench
 pub mod BenchLaws
+pub mod WeightLaws
+pub mod AlignedLaws
