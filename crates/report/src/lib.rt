@@ -7,3 +7,5 @@ pub struct Report {
     pub cost: u64,
     pub levels: usize,
 }
+
+pub mod unchecked;
