@@ -7,3 +7,13 @@ pub mod LimitLaws
 pub mod Evaluation
 pub mod WordLaws
 pub mod SoundLaws
+pub mod RecordTests
+pub mod TableLaws
+pub mod Places
+pub mod PasteLaws
+pub mod PlaceLaws
+pub mod TestLaws
+pub mod SpareLaws
+pub mod RecordLaws
+pub mod ReplaceLaws
+pub mod RemoveLaws

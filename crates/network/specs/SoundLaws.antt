@@ -1,16 +1,16 @@
--- What a sound record has: a sound network, and counts within its arrays. Assumes nothing.
+-- What a sound record has: counts within its arrays. Assumes nothing.
 use mathlib.Core.Path.{_≡_, subst}
 use mathlib.Core.Bool.{true}
 use Prim.Native.Nat.{ℕ, _*_, _≤_, _<_}
 use native.Mathlib.Omega.{arith}
 use lib.ListN.{length, getD, length-map}
 use Rattle.integers.specs.Lists.{range, tab}
-use Rattle.integers.specs.Tests.{T-is, and-left}
+use Rattle.integers.specs.Tests.{T-is}
 use Rattle.integers.specs.ListLaws.{length-range, length-tab, getD-tab}
 use Rattle.network.specs.Threshold.{Gate}
-use Rattle.network.specs.Limits.{sound}
-use Rattle.network.specs.LimitLaws.{Sound, sound-of, gates-at}
-use Rattle.network.specs.Record.{feedAt, feedsFrom, gateFrom, gateOf, netOf, noGate, spareClear, soundRecord}
+use Rattle.network.specs.LimitLaws.{gates-at}
+use Rattle.network.specs.Record.{feedAt, feedsFrom, gateFrom, gateOf, netOf, noGate, soundRecord}
+use Rattle.network.specs.RecordLaws.{sound-net}
 use Rattle.network.specs.declared.Network.{Network}
 
 -- the counts lie within the record's arrays
@@ -20,15 +20,10 @@ pub record Sized (r : Network) : Type 0 where
   pub few-outputs : r .outputs ≤ 16
   pub few-feeds : (g : ℕ) → g < r .gates → getD (r .fanins) g 0 ≤ 16
 
--- a record's network is sound where the record is
-pub sound-net : (r : Network) → soundRecord r ≡ true → Sound (netOf r)
-unfolding soundRecord
-sound-net r e = sound-of (netOf r) (T-is (sound (netOf r)) (and-left (sound (netOf r)) (spareClear r) e))
-
 pub sized-of : (r : Network) → soundRecord r ≡ true → Sized r
 unfolding netOf gateFrom feedsFrom
 sized-of r e =
-    let s = sound-net r e in
+    let s = sound-net r (T-is (soundRecord r) e) in
     record {
       few-inputs = s .few-inputs .1;
       few-gates = omega (arith, s .few-gates .1, length-tab (r .gates) (gateOf r));
