@@ -13,7 +13,7 @@ use Rattle.network.specs.Threshold.{Feed, Gate}
 use Rattle.network.specs.Record.{feedAt, feedsFrom, gateFrom}
 use Rattle.report.specs.Size.{highest, gateLevel, withLevel, levelsFrom}
 use Rattle.report.specs.Arrays.{levelsIn}
-use Rattle.report.proofs.PlaceLaws.{getD-repeated, getD-set}
+use Rattle.report.proofs.SetLaws.{getD-repeated, getD-set}
 
 -- ---- the feeds of a gate
 
@@ -106,9 +106,15 @@ module _ {fs ss : List ℕ} {inputs gates g most : ℕ} {a : List ℕ} (h : Leve
         let gate = gateFrom fs ts ss ws in
         let rest = levelsFrom (inputs + (g + 1)) (map gate (range (g + 1) (gates - (g + 1)))) in
         let put : rest (levelsIn (set a (inputs + g) x)) ≡ rest (withLevel (levelsIn a) (inputs + g) (gateLevel (levelsIn a) (gate g)))
-              = ap rest (levels-set a (inputs + g) x (omega (arith, h .long)) ∙ ap (withLevel (levelsIn a) (inputs + g)) (e ts ws)) in
-        omega (arith, d, e ts ws, put, h .left ts ws,
-          levels-step gate (levelsIn a) (inputs + g) (inputs + (g + 1)) g (g + 1) (gates - g) (gates - (g + 1)) (omega arith) refl (omega arith));
+        = ap rest (levels-set a (inputs + g) x (omega (arith, h .long)) ∙ ap (withLevel (levelsIn a) (inputs + g)) (e ts ws)) in
+        omega (
+          arith,
+          d,
+          e ts ws,
+          put,
+          h .left ts ws,
+          levels-step gate (levelsIn a) (inputs + g) (inputs + (g + 1)) g (g + 1) (gates - g) (gates - (g + 1)) (omega arith) refl (omega arith),
+        );
   }
 
   pub levels-all : gates ≤ g → (ts ws : List ℤ) → most ≡ levelsFrom inputs (tab gates (gateFrom fs ts ss ws)) (λ s. 0)

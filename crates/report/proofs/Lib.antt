@@ -1,3 +1,3 @@
-pub mod PlaceLaws
+pub mod SetLaws
 pub mod CostLaws
 pub mod LevelLaws

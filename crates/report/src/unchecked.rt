@@ -10,7 +10,7 @@ ghost use Rattle.integers.specs.Refusals.{accepted};
 ghost use Rattle.network.specs.Record.{feedsFrom, gateFrom, netOf, soundRecord};
 ghost use Rattle.report.specs.Size.{cost, highest, gateLevel, levelsFrom, reportOf};
 ghost use Rattle.report.specs.Arrays.{levelsIn, FewGates, CostOfWeights, CostOfGate};
-use crate::Report;
+use crate::SizeReport;
 use integers::magnitude;
 use integers::wide;
 use network::Network;
@@ -128,15 +128,20 @@ fn network_levels<'a>(
 }
 
 // The size of a sound network.
-pub fn size_of(network: Network) -> Report
+pub fn size_of(network: Network) -> SizeReport
     requires { ⌜ soundRecord network ≡ true ⌝ }
     ensures { λ r. ⌜ r ≡ reportOf (accepted (netOf network)) ⌝ }
 {
     let inputs = network.inputs;
     let gates = network.gates;
-    let cost = total_cost(&network.fanins, &network.thresholds, &network.weights, gates);
+    let cost = total_cost(
+        &network.fanins,
+        &network.thresholds,
+        &network.weights,
+        gates,
+    );
     let levels = network_levels(&network.fanins, &network.signals, inputs, gates);
-    Report {
+    SizeReport {
         code: 0,
         gates,
         cost,

@@ -10,7 +10,7 @@ use Rattle.network.specs.Threshold.{Net}
 use Rattle.network.specs.Record.{gateOf, netOf}
 use Rattle.network.specs.SoundLaws.{sized-of}
 use Rattle.report.specs.Size.{cost, levels, reportOf}
-use Rattle.report.specs.declared.Report.{Report}
+use Rattle.report.specs.declared.SizeReport.{SizeReport}
 use Rattle.report.proofs.unchecked.size_of.Statement.{statement}
 use Rattle.report.proofs.unchecked.size_of.Tie as tie
 
@@ -28,7 +28,7 @@ wide-requires : tie.Need-wide-requires
 wide-requires c κs = search needs
 
 -- a network's three figures are its report
-as-report : (N : Net) (n t h : ℕ) → n ≡ length (N .gates) → t ≡ cost (N .gates) → h ≡ levels N → _≡_ {A = Report} (record { code = 0; gates = n; cost = t; levels = h }) (reportOf (accepted N))
+as-report : (N : Net) (n t h : ℕ) → n ≡ length (N .gates) → t ≡ cost (N .gates) → h ≡ levels N → _≡_ {A = SizeReport} (record { code = 0; gates = n; cost = t; levels = h }) (reportOf (accepted N))
 unfolding reportOf
 as-report N n t h e d f = rw (e, d, f)
 
