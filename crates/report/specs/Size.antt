@@ -9,7 +9,7 @@ use Rattle.integers.specs.Refusals.{Answer, accepted, refused, _else_, checks}
 use Rattle.network.specs.Threshold.{Feed, Gate, Net}
 use Rattle.network.specs.Record.{netOf, soundRecord}
 use Rattle.network.specs.declared.Network.{Network}
-use Rattle.report.specs.declared.Report.{Report}
+use Rattle.report.specs.declared.SizeReport.{SizeReport}
 
 -- ---- "Cost: sum over gates of |weights| and |T|"
 
@@ -49,9 +49,9 @@ levels N = levelsFrom (N .inputs) (N .gates) (λ s. 0)
 
 -- ---- the report: order 20
 
-unfoldable pub reportOf : Answer Net → Report
+unfoldable pub reportOf : Answer Net → SizeReport
 reportOf (accepted N) = record { code = 0; gates = length (N .gates); cost = cost (N .gates); levels = levels N }
 reportOf (refused c) = record { code = c; gates = 0; cost = 0; levels = 0 }
 
-unfoldable pub reported : Network → Report
+unfoldable pub reported : Network → SizeReport
 reported r = reportOf (checks ((soundRecord r else 20) ∷ []) (accepted (netOf r)))
