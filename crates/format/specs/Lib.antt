@@ -1,2 +1,5 @@
 pub mod Format
 pub mod Part
+pub mod AtLaws
+pub mod TurnLaws
+pub mod HeadLaws

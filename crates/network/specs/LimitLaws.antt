@@ -86,14 +86,26 @@ pub record Sound (N : Net) : Type 0 where
 
 pub sound-of : (N : Net) → T (sound N) → Sound N
 unfolding sound soundTests
-sound-of N t = let h = every-of (soundTests N) t in record
-    { few-inputs = between-of 1 40 (N .inputs) (h .0); few-gates = between-of 1 128 (length (N .gates)) (h .1 .0); few-outputs = between-of 1 16 (length (N .outputs)) (h .1 .1 .0)
-    ; all-gates = gates-of (N .inputs) (N .gates) (h .1 .1 .1 .0); all-outputs = each-of (isGate N) (Has N) (has-of N) (N .outputs) (h .1 .1 .1 .1 .0) }
+sound-of N t = let h = every-of (soundTests N) t in record {
+  few-inputs = between-of 1 40 (N .inputs) (h .0);
+  few-gates = between-of 1 128 (length (N .gates)) (h .1 .0);
+  few-outputs = between-of 1 16 (length (N .outputs)) (h .1 .1 .0);
+  all-gates = gates-of (N .inputs) (N .gates) (h .1 .1 .1 .0);
+  all-outputs = each-of (isGate N) (Has N) (has-of N) (N .outputs) (h .1 .1 .1 .1 .0);
+}
 
 pub of-sound : (N : Net) → Sound N → T (sound N)
 unfolding sound soundTests
-of-sound N s = of-every (soundTests N) (of-between 1 40 (N .inputs) (s .few-inputs), (of-between 1 128 (length (N .gates)) (s .few-gates), (of-between 1 16 (length (N .outputs)) (s .few-outputs),
-    (of-gates (N .inputs) (N .gates) (s .all-gates), (of-each (isGate N) (Has N) (of-has N) (N .outputs) (s .all-outputs), tt)))))
+of-sound N s = of-every (soundTests N) (
+  of-between 1 40 (N .inputs) (s .few-inputs),
+  (
+    of-between 1 128 (length (N .gates)) (s .few-gates),
+    (
+      of-between 1 16 (length (N .outputs)) (s .few-outputs),
+      (of-gates (N .inputs) (N .gates) (s .all-gates), (of-each (isGate N) (Has N) (of-has N) (N .outputs) (s .all-outputs), tt)),
+    ),
+  ),
+)
 
 -- ---- what a sound network has
 pub rise-below : (low own : ℕ) (ss : List ℕ) → Rise low own ss → Each (λ s. s < own) ss

@@ -1,0 +1,145 @@
+-- The fields of a file at a place: what is read by an index is what the format reads off the rest of the list. Assumes nothing.
+use mathlib.Core.Path.{_≡_, refl, sym, ap, _∙_, subst}
+use mathlib.Core.List.{List, [], _∷_, _++_}
+use mathlib.Core.Bool.{Bool, true, false, _&&_}
+use Prim.Native.Nat.{ℕ, zero, suc, _+_, _-_, _<_, _≤_}
+use native.Mathlib.Numerals.{add-one}
+use native.Mathlib.Omega.{arith}
+use borrow.Author.Tests.{lt-ltb, le-ltb, le-leb, lt-leb}
+use lib.ListN.{length, getD, drop, length-drop, drop-of-length-le}
+use lib.Seq.{drop-cons}
+use lib.Dec.{ltb, leb}
+use lib.IntN.{ℤ}
+use Rattle.integers.specs.Word.{intAt}
+use Rattle.integers.specs.Tests.{both-true, and-false-left, and-false-right}
+use Rattle.network.specs.Threshold.{Feed, Gate}
+use Rattle.network.specs.Limits.{inScale, weightOk}
+use Rattle.format.specs.Format.{Read, refused, done, byteOr, intThen, check, andThen, parseFeed, parseFeeds, parseGate}
+
+-- ---- one field
+
+pub byte-at : {A : Type 0} (r at : ℕ) (s : List ℕ) (k : ℕ → List ℕ → Read A) → at < length s → byteOr r (drop at s) k ≡ k (getD s at 0) (drop (at + 1) s)
+byte-at r at s k h = rw (add-one, drop-cons s at 0)
+
+pub byte-end : {A : Type 0} (r at : ℕ) (s : List ℕ) (k : ℕ → List ℕ → Read A) → length s ≤ at → byteOr r (drop at s) k ≡ refused r
+byte-end r at s k h = rw (drop-of-length-le s)
+
+drop-next : (s : List ℕ) (at j n : ℕ) → at + j ≡ n → n < length s → drop n s ≡ getD s (at + j) 0 ∷ drop (suc n) s
+drop-next s at j n e h = drop-cons s n 0 h ∙ ap (λ (m : ℕ). getD s m 0 ∷ drop (suc n) s) (sym e)
+
+four : (s : List ℕ) (at : ℕ) → at + 4 ≤ length s → drop at s ≡ getD s at 0 ∷ getD s (at + 1) 0 ∷ getD s (at + 2) 0 ∷ getD s (at + 3) 0 ∷ drop (at + 4) s
+four s at h =
+    drop-cons s at 0 (omega arith)
+    ∙ ap (λ (l : List ℕ). getD s at 0 ∷ l)
+    (drop-next s at 1 (suc at) (omega arith) (omega arith)
+    ∙ ap (λ (l : List ℕ). getD s (at + 1) 0 ∷ l)
+    (drop-next s at 2 (suc (suc at)) (omega arith) (omega arith)
+    ∙ ap (λ (l : List ℕ). getD s (at + 2) 0 ∷ l)
+    (drop-next s at 3 (suc (suc (suc at))) (omega arith) (omega arith)
+    ∙ ap (λ (n : ℕ). getD s (at + 3) 0 ∷ drop n s) {x = suc (suc (suc (suc at)))} {y = at + 4} (omega arith))))
+
+pub int-at : {A : Type 0} (at : ℕ) (s : List ℕ) (k : ℤ → List ℕ → Read A) → at + 4 ≤ length s → intThen (drop at s) k ≡ k (intAt s at) (drop (at + 4) s)
+int-at at s k h = ap (λ (l : List ℕ). intThen l k) (four s at h)
+
+int-short : {A : Type 0} (l : List ℕ) (k : ℤ → List ℕ → Read A) → length l < 4 → intThen l k ≡ refused 4
+int-short [] k h = refl
+int-short (a ∷ []) k h = refl
+int-short (a ∷ b ∷ []) k h = refl
+int-short (a ∷ b ∷ c ∷ []) k h = refl
+int-short (a ∷ b ∷ c ∷ d ∷ l) k h = absurd (omega arith)
+
+pub int-end : {A : Type 0} (at : ℕ) (s : List ℕ) (k : ℤ → List ℕ → Read A) → length s < at + 4 → intThen (drop at s) k ≡ refused 4
+int-end at s k h = int-short (drop at s) k (subst (λ (n : ℕ). n < 4) (sym (length-drop at s)) (omega arith))
+
+-- a test by its answer
+pub check-is : {A : Type 0} {b c : Bool} (k : ℕ) (r : Read A) → b ≡ c → check b k r ≡ check c k r
+check-is k r e = ap (λ (b : Bool). check b k r) e
+
+-- a signal from low on, below top
+pub signal-low : (low top s : ℕ) → s < low → (leb low s && ltb s top) ≡ false
+signal-low low top s h = and-false-left (leb low s) (ltb s top) (lt-leb low s h)
+
+pub signal-high : (low top s : ℕ) → top ≤ s → (leb low s && ltb s top) ≡ false
+signal-high low top s h = and-false-right (leb low s) (ltb s top) (le-ltb s top h)
+
+pub signal-in : (low top s : ℕ) → low ≤ s → s < top → (leb low s && ltb s top) ≡ true
+signal-in low top s h k = both-true (leb low s) (ltb s top) (le-leb low s h) (lt-ltb s top k)
+
+-- ---- a feed
+
+-- the feed that stands at a place
+abbrev pub feedIn : List ℕ → ℕ → Feed
+feedIn s at = record { signal = getD s at 0; weight = intAt s (at + 1) }
+
+module _ (own low at : ℕ) (s : List ℕ) where
+  feed-int : ℕ → ℤ → List ℕ → Read Feed
+  feed-int x w l = check (weightOk (record { signal = x; weight = w })) 6 (done (record { signal = x; weight = w }) l)
+
+  feed-byte : ℕ → List ℕ → Read Feed
+  feed-byte x l = check (leb low x && ltb x own) 5 (intThen l (feed-int x))
+
+  pub feed-end : length s ≤ at → parseFeed own low (drop at s) ≡ refused 4
+  unfolding feed-byte feed-int
+  feed-end h = byte-end 4 at s feed-byte h
+
+  -- its signal is not one that may stand there
+  pub feed-crossed : at < length s → (leb low (getD s at 0) && ltb (getD s at 0) own) ≡ false → parseFeed own low (drop at s) ≡ refused 5
+  unfolding feed-byte feed-int
+  feed-crossed h e = byte-at 4 at s feed-byte h ∙ check-is 5 (intThen (drop (at + 1) s) (feed-int (getD s at 0))) e
+
+  feed-on : at < length s → low ≤ getD s at 0 → getD s at 0 < own → parseFeed own low (drop at s) ≡ intThen (drop (at + 1) s) (feed-int (getD s at 0))
+  unfolding feed-byte feed-int
+  feed-on h k m = byte-at 4 at s feed-byte h ∙ check-is 5 (intThen (drop (at + 1) s) (feed-int (getD s at 0))) (signal-in low own (getD s at 0) k m)
+
+  pub feed-short : at < length s → low ≤ getD s at 0 → getD s at 0 < own → length s < at + 5 → parseFeed own low (drop at s) ≡ refused 4
+  feed-short h k m n = feed-on h k m ∙ int-end (at + 1) s (feed-int (getD s at 0)) (omega arith)
+
+  feed-whole : low ≤ getD s at 0 → getD s at 0 < own → at + 5 ≤ length s → parseFeed own low (drop at s) ≡ feed-int (getD s at 0) (intAt s (at + 1)) (drop (at + 5) s)
+  feed-whole k m n = feed-on (omega arith) k m ∙ int-at (at + 1) s (feed-int (getD s at 0)) (omega arith) ∙ ap (λ (j : ℕ). feed-int (getD s at 0) (intAt s (at + 1)) (drop j s)) {x = at + 1 + 4} {y = at + 5} (omega arith)
+
+  pub feed-scale : low ≤ getD s at 0 → getD s at 0 < own → at + 5 ≤ length s → weightOk (feedIn s at) ≡ false → parseFeed own low (drop at s) ≡ refused 6
+  unfolding feed-int
+  feed-scale k m n e = feed-whole k m n ∙ check-is 6 (done (feedIn s at) (drop (at + 5) s)) e
+
+  pub feed-got : low ≤ getD s at 0 → getD s at 0 < own → at + 5 ≤ length s → weightOk (feedIn s at) ≡ true → parseFeed own low (drop at s) ≡ done (feedIn s at) (drop (at + 5) s)
+  unfolding feed-int
+  feed-got k m n e = feed-whole k m n ∙ check-is 6 (done (feedIn s at) (drop (at + 5) s)) e
+
+-- ---- a gate
+
+module _ (own at : ℕ) (s : List ℕ) where
+  gate-rest : ℕ → ℤ → List ℕ → Read Gate
+  gate-rest n t l = andThen (parseFeeds own n 0 [] l) (λ fs m. done (record { feeds = fs; threshold = t }) m)
+
+  gate-int : ℕ → ℤ → List ℕ → Read Gate
+  gate-int n t l = check (inScale t) 6 (gate-rest n t l)
+
+  gate-byte : ℕ → List ℕ → Read Gate
+  gate-byte n l = check (leb n 16) 7 (intThen l (gate-int n))
+
+  pub gate-end : length s ≤ at → parseGate own (drop at s) ≡ refused 4
+  unfolding gate-byte gate-int gate-rest
+  gate-end h = byte-end 4 at s gate-byte h
+
+  pub gate-wide : at < length s → 16 < getD s at 0 → parseGate own (drop at s) ≡ refused 7
+  unfolding gate-byte gate-int gate-rest
+  gate-wide h k = byte-at 4 at s gate-byte h ∙ check-is 7 (intThen (drop (at + 1) s) (gate-int (getD s at 0))) (lt-leb (getD s at 0) 16 k)
+
+  gate-on : at < length s → getD s at 0 ≤ 16 → parseGate own (drop at s) ≡ intThen (drop (at + 1) s) (gate-int (getD s at 0))
+  unfolding gate-byte gate-int gate-rest
+  gate-on h k = byte-at 4 at s gate-byte h ∙ check-is 7 (intThen (drop (at + 1) s) (gate-int (getD s at 0))) (le-leb (getD s at 0) 16 k)
+
+  pub gate-short : at < length s → getD s at 0 ≤ 16 → length s < at + 5 → parseGate own (drop at s) ≡ refused 4
+  gate-short h k n = gate-on h k ∙ int-end (at + 1) s (gate-int (getD s at 0)) (omega arith)
+
+  gate-whole : getD s at 0 ≤ 16 → at + 5 ≤ length s → parseGate own (drop at s) ≡ gate-int (getD s at 0) (intAt s (at + 1)) (drop (at + 5) s)
+  gate-whole k n = gate-on (omega arith) k ∙ int-at (at + 1) s (gate-int (getD s at 0)) (omega arith) ∙ ap (λ (j : ℕ). gate-int (getD s at 0) (intAt s (at + 1)) (drop j s)) {x = at + 1 + 4} {y = at + 5} (omega arith)
+
+  pub gate-scale : getD s at 0 ≤ 16 → at + 5 ≤ length s → inScale (intAt s (at + 1)) ≡ false → parseGate own (drop at s) ≡ refused 6
+  unfolding gate-int
+  gate-scale k n e = gate-whole k n ∙ check-is 6 (gate-rest (getD s at 0) (intAt s (at + 1)) (drop (at + 5) s)) e
+
+  pub gate-feeds : getD s at 0 ≤ 16 → at + 5 ≤ length s → inScale (intAt s (at + 1)) ≡ true
+      → parseGate own (drop at s) ≡ andThen (parseFeeds own (getD s at 0) 0 [] (drop (at + 5) s)) (λ fs m. done (record { feeds = fs; threshold = intAt s (at + 1) }) m)
+  unfolding gate-int gate-rest
+  gate-feeds k n e = gate-whole k n ∙ check-is 6 (gate-rest (getD s at 0) (intAt s (at + 1)) (drop (at + 5) s)) e
