@@ -5,13 +5,12 @@ use mathlib.Core.Bool.{Bool, true, false, _&&_}
 use Prim.Native.Nat.{ℕ, zero, suc, _+_, _-_, _<_, _≤_}
 use native.Mathlib.Numerals.{add-one}
 use native.Mathlib.Omega.{arith}
-use borrow.Author.Tests.{lt-ltb, le-ltb, le-leb, lt-leb}
+use borrow.Author.Tests.{le-leb, lt-leb}
 use lib.ListN.{length, getD, drop, length-drop, drop-of-length-le}
 use lib.Seq.{drop-cons}
 use lib.Dec.{ltb, leb}
 use lib.IntN.{ℤ}
 use Rattle.integers.specs.Word.{intAt}
-use Rattle.integers.specs.Tests.{both-true, and-false-left, and-false-right}
 use Rattle.network.specs.Threshold.{Feed, Gate}
 use Rattle.network.specs.Limits.{inScale, weightOk}
 use Rattle.format.specs.Format.{Read, refused, done, byteOr, intThen, check, andThen, parseFeed, parseFeeds, parseGate}
@@ -55,16 +54,6 @@ int-end at s k h = int-short (drop at s) k (subst (λ (n : ℕ). n < 4) (sym (le
 pub check-is : {A : Type 0} {b c : Bool} (k : ℕ) (r : Read A) → b ≡ c → check b k r ≡ check c k r
 check-is k r e = ap (λ (b : Bool). check b k r) e
 
--- a signal from low on, below top
-pub signal-low : (low top s : ℕ) → s < low → (leb low s && ltb s top) ≡ false
-signal-low low top s h = and-false-left (leb low s) (ltb s top) (lt-leb low s h)
-
-pub signal-high : (low top s : ℕ) → top ≤ s → (leb low s && ltb s top) ≡ false
-signal-high low top s h = and-false-right (leb low s) (ltb s top) (le-ltb s top h)
-
-pub signal-in : (low top s : ℕ) → low ≤ s → s < top → (leb low s && ltb s top) ≡ true
-signal-in low top s h k = both-true (leb low s) (ltb s top) (le-leb low s h) (lt-ltb s top k)
-
 -- ---- a feed
 
 -- the feed that stands at a place
@@ -82,28 +71,27 @@ module _ (own low at : ℕ) (s : List ℕ) where
   unfolding feed-byte feed-int
   feed-end h = byte-end 4 at s feed-byte h
 
-  -- its signal is not one that may stand there
+  -- where it does not rise, or is not below its gate
   pub feed-crossed : at < length s → (leb low (getD s at 0) && ltb (getD s at 0) own) ≡ false → parseFeed own low (drop at s) ≡ refused 5
   unfolding feed-byte feed-int
   feed-crossed h e = byte-at 4 at s feed-byte h ∙ check-is 5 (intThen (drop (at + 1) s) (feed-int (getD s at 0))) e
 
-  feed-on : at < length s → low ≤ getD s at 0 → getD s at 0 < own → parseFeed own low (drop at s) ≡ intThen (drop (at + 1) s) (feed-int (getD s at 0))
-  unfolding feed-byte feed-int
-  feed-on h k m = byte-at 4 at s feed-byte h ∙ check-is 5 (intThen (drop (at + 1) s) (feed-int (getD s at 0))) (signal-in low own (getD s at 0) k m)
+  module _ (e : (leb low (getD s at 0) && ltb (getD s at 0) own) ≡ true) where
+    feed-on : at < length s → parseFeed own low (drop at s) ≡ intThen (drop (at + 1) s) (feed-int (getD s at 0))
+    unfolding feed-byte feed-int
+    feed-on h = byte-at 4 at s feed-byte h ∙ check-is 5 (intThen (drop (at + 1) s) (feed-int (getD s at 0))) e
 
-  pub feed-short : at < length s → low ≤ getD s at 0 → getD s at 0 < own → length s < at + 5 → parseFeed own low (drop at s) ≡ refused 4
-  feed-short h k m n = feed-on h k m ∙ int-end (at + 1) s (feed-int (getD s at 0)) (omega arith)
+    pub feed-short : at < length s → length s < at + 5 → parseFeed own low (drop at s) ≡ refused 4
+    feed-short h k = feed-on h ∙ int-end (at + 1) s (feed-int (getD s at 0)) (omega arith)
 
-  feed-whole : low ≤ getD s at 0 → getD s at 0 < own → at + 5 ≤ length s → parseFeed own low (drop at s) ≡ feed-int (getD s at 0) (intAt s (at + 1)) (drop (at + 5) s)
-  feed-whole k m n = feed-on (omega arith) k m ∙ int-at (at + 1) s (feed-int (getD s at 0)) (omega arith) ∙ ap (λ (j : ℕ). feed-int (getD s at 0) (intAt s (at + 1)) (drop j s)) {x = at + 1 + 4} {y = at + 5} (omega arith)
-
-  pub feed-scale : low ≤ getD s at 0 → getD s at 0 < own → at + 5 ≤ length s → weightOk (feedIn s at) ≡ false → parseFeed own low (drop at s) ≡ refused 6
-  unfolding feed-int
-  feed-scale k m n e = feed-whole k m n ∙ check-is 6 (done (feedIn s at) (drop (at + 5) s)) e
-
-  pub feed-got : low ≤ getD s at 0 → getD s at 0 < own → at + 5 ≤ length s → weightOk (feedIn s at) ≡ true → parseFeed own low (drop at s) ≡ done (feedIn s at) (drop (at + 5) s)
-  unfolding feed-int
-  feed-got k m n e = feed-whole k m n ∙ check-is 6 (done (feedIn s at) (drop (at + 5) s)) e
+    -- the whole feed, by the test of its weight
+    pub feed-whole : {b : Bool} → at + 5 ≤ length s → weightOk (feedIn s at) ≡ b → parseFeed own low (drop at s) ≡ check b 6 (done (feedIn s at) (drop (at + 5) s))
+    unfolding feed-int
+    feed-whole h w =
+        feed-on (omega arith)
+        ∙ int-at (at + 1) s (feed-int (getD s at 0)) (omega arith)
+        ∙ ap (λ (j : ℕ). feed-int (getD s at 0) (intAt s (at + 1)) (drop j s)) {x = at + 1 + 4} {y = at + 5} (omega arith)
+        ∙ check-is 6 (done (feedIn s at) (drop (at + 5) s)) w
 
 -- ---- a gate
 
@@ -132,14 +120,12 @@ module _ (own at : ℕ) (s : List ℕ) where
   pub gate-short : at < length s → getD s at 0 ≤ 16 → length s < at + 5 → parseGate own (drop at s) ≡ refused 4
   gate-short h k n = gate-on h k ∙ int-end (at + 1) s (gate-int (getD s at 0)) (omega arith)
 
-  gate-whole : getD s at 0 ≤ 16 → at + 5 ≤ length s → parseGate own (drop at s) ≡ gate-int (getD s at 0) (intAt s (at + 1)) (drop (at + 5) s)
-  gate-whole k n = gate-on (omega arith) k ∙ int-at (at + 1) s (gate-int (getD s at 0)) (omega arith) ∙ ap (λ (j : ℕ). gate-int (getD s at 0) (intAt s (at + 1)) (drop j s)) {x = at + 1 + 4} {y = at + 5} (omega arith)
-
-  pub gate-scale : getD s at 0 ≤ 16 → at + 5 ≤ length s → inScale (intAt s (at + 1)) ≡ false → parseGate own (drop at s) ≡ refused 6
-  unfolding gate-int
-  gate-scale k n e = gate-whole k n ∙ check-is 6 (gate-rest (getD s at 0) (intAt s (at + 1)) (drop (at + 5) s)) e
-
-  pub gate-feeds : getD s at 0 ≤ 16 → at + 5 ≤ length s → inScale (intAt s (at + 1)) ≡ true
-      → parseGate own (drop at s) ≡ andThen (parseFeeds own (getD s at 0) 0 [] (drop (at + 5) s)) (λ fs m. done (record { feeds = fs; threshold = intAt s (at + 1) }) m)
+  -- the whole gate, by the test of its threshold
+  pub gate-whole : {b : Bool} → getD s at 0 ≤ 16 → at + 5 ≤ length s → inScale (intAt s (at + 1)) ≡ b
+      → parseGate own (drop at s) ≡ check b 6 (andThen (parseFeeds own (getD s at 0) 0 [] (drop (at + 5) s)) (λ fs m. done (record { feeds = fs; threshold = intAt s (at + 1) }) m))
   unfolding gate-int gate-rest
-  gate-feeds k n e = gate-whole k n ∙ check-is 6 (gate-rest (getD s at 0) (intAt s (at + 1)) (drop (at + 5) s)) e
+  gate-whole k h w =
+      gate-on (omega arith) k
+      ∙ int-at (at + 1) s (gate-int (getD s at 0)) (omega arith)
+      ∙ ap (λ (j : ℕ). gate-int (getD s at 0) (intAt s (at + 1)) (drop j s)) {x = at + 1 + 4} {y = at + 5} (omega arith)
+      ∙ check-is 6 (gate-rest (getD s at 0) (intAt s (at + 1)) (drop (at + 5) s)) w

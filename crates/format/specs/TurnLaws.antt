@@ -9,7 +9,7 @@ use lib.ListN.{length, getD, drop}
 use lib.Dec.{ltb, leb}
 use Rattle.network.specs.Threshold.{Feed, Gate}
 use Rattle.format.specs.Format.{Read, refused, done, byteOr, check, andThen, parseFeed, parseFeeds, parseGate, parseGates, parseOutputs}
-use Rattle.format.specs.AtLaws.{byte-at, byte-end, check-is, signal-in}
+use Rattle.format.specs.AtLaws.{byte-at, byte-end, check-is}
 
 -- ---- the feeds of the gate with signal own
 module _ (own count i low : ℕ) (acc : List Feed) (l : List ℕ) where
@@ -62,21 +62,14 @@ module _ (low top count i at : ℕ) (acc s : List ℕ) where
   unfolding outputs-byte outputs-next
   outputs-turn h = ap (λ (k : ℕ). parseOutputs low top k acc (drop at s)) {x = count - i} {y = suc (count - (i + 1))} (omega arith)
 
-  outputs-test : {b : Bool} → i < count → at < length s → (leb low (getD s at 0) && ltb (getD s at 0) top) ≡ b
-      → parseOutputs low top (count - i) acc (drop at s) ≡ check b 8 (outputs-next (getD s at 0) (drop (at + 1) s))
-  unfolding outputs-byte
-  outputs-test h k e = outputs-turn h ∙ byte-at 4 at s outputs-byte k ∙ check-is 8 (outputs-next (getD s at 0) (drop (at + 1) s)) e
-
   pub outputs-short : i < count → length s ≤ at → parseOutputs low top (count - i) acc (drop at s) ≡ refused 4
   outputs-short h k = outputs-turn h ∙ byte-end 4 at s outputs-byte k
 
-  pub outputs-stray : i < count → at < length s → (leb low (getD s at 0) && ltb (getD s at 0) top) ≡ false → parseOutputs low top (count - i) acc (drop at s) ≡ refused 8
-  outputs-stray h k e = outputs-test h k e
-
-  pub outputs-more : i < count → at < length s → low ≤ getD s at 0 → getD s at 0 < top
-      → parseOutputs low top (count - i) acc (drop at s) ≡ parseOutputs low top (count - (i + 1)) (acc ++ (getD s at 0 ∷ [])) (drop (at + 1) s)
-  unfolding outputs-next
-  outputs-more h k a b = outputs-test h k (signal-in low top (getD s at 0) a b)
+  -- by the test of the next one
+  pub outputs-more : {b : Bool} → i < count → at < length s → (leb low (getD s at 0) && ltb (getD s at 0) top) ≡ b
+      → parseOutputs low top (count - i) acc (drop at s) ≡ check b 8 (parseOutputs low top (count - (i + 1)) (acc ++ (getD s at 0 ∷ [])) (drop (at + 1) s))
+  unfolding outputs-byte outputs-next
+  outputs-more h k e = outputs-turn h ∙ byte-at 4 at s outputs-byte k ∙ check-is 8 (outputs-next (getD s at 0) (drop (at + 1) s)) e
 
   pub outputs-ended : count ≤ i → parseOutputs low top (count - i) acc (drop at s) ≡ done acc (drop at s)
   outputs-ended h = ap (λ (k : ℕ). parseOutputs low top k acc (drop at s)) {x = count - i} {y = 0} (omega arith)

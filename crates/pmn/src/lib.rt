@@ -12,3 +12,5 @@ pub struct Written {
     pub code: u8,
     pub length: usize,
 }
+
+mod unchecked;

@@ -1,0 +1,108 @@
+use borrow.Author.Needs.{needs}
+use Rattle.pmn.proofs.unchecked.reader.read_feeds.Statement.{statement}
+use Rattle.pmn.proofs.unchecked.reader.read_feeds.Tie as tie
+use Rattle.pmn.proofs.unchecked.reader.read_feeds.Reads as reads
+use Rattle.pmn.proofs.unchecked.reader.read_feeds.Lts as lts
+use Rattle.integers.proofs.wide.Reads as wide-reads
+use Rattle.pmn.proofs.unchecked.reader.no_gate.Reads as no-gate-reads
+use Rattle.pmn.proofs.unchecked.reader.read_feed.Reads as read-feed-reads
+
+abbrev Inv-loop : tie.InvT-loop
+Inv-loop file start own fanin threshold count signals₀ weights₀ at₀ low₀ i₀ signals weights at low i =
+    ?
+
+abbrev μ-loop : tie.MeasureT-loop
+μ-loop file start own fanin threshold count signals₀ weights₀ at₀ low₀ i₀ signals weights at low i =
+    ?
+
+-- src/unchecked/reader.rt:95:9
+wide-requires : tie.Need-wide-requires Inv-loop μ-loop
+wide-requires c κs = search needs
+
+-- src/unchecked/reader.rt:101:5
+loop-holds : tie.Need-loop-holds Inv-loop μ-loop
+loop-holds c = search needs
+
+-- src/unchecked/reader.rt:102:13
+read-feed-requires : tie.Need-read-feed-requires Inv-loop μ-loop
+read-feed-requires c κs = search needs
+
+-- src/unchecked/reader.rt:104:27
+enum-known-f : tie.Need-enum-known-f Inv-loop μ-loop
+enum-known-f c = search needs
+
+-- src/unchecked/reader.rt:105:17
+no-gate-requires : tie.Need-no-gate-requires Inv-loop μ-loop
+no-gate-requires c κs = search needs
+
+-- src/unchecked/reader.rt:105:17
+returns : tie.Need-returns Inv-loop μ-loop
+returns c = search needs
+
+-- src/unchecked/reader.rt:107:29
+enum-known-f-2 : tie.Need-enum-known-f-2 Inv-loop μ-loop
+enum-known-f-2 c = search needs
+
+-- src/unchecked/reader.rt:108:17
+array-write-signals : tie.Need-array-write-signals Inv-loop μ-loop
+array-write-signals c = search needs
+
+-- src/unchecked/reader.rt:109:17
+mul-weights : tie.Need-mul-weights Inv-loop μ-loop
+mul-weights c = search needs
+
+-- src/unchecked/reader.rt:109:17
+array-set-from-weights : tie.Need-array-set-from-weights Inv-loop μ-loop
+array-set-from-weights c = search needs
+
+-- src/unchecked/reader.rt:110:23
+wide-requires-2 : tie.Need-wide-requires-2 Inv-loop μ-loop
+wide-requires-2 c κs = search needs
+
+-- src/unchecked/reader.rt:110:23
+add-low : tie.Need-add-low Inv-loop μ-loop
+add-low c = search needs
+
+-- src/unchecked/reader.rt:111:17
+add-at : tie.Need-add-at Inv-loop μ-loop
+add-at c = search needs
+
+-- src/unchecked/reader.rt:112:17
+add-i : tie.Need-add-i Inv-loop μ-loop
+add-i c = search needs
+
+-- src/unchecked/reader.rt:101:5
+loop-less : tie.Need-loop-less Inv-loop μ-loop
+loop-less c = search needs
+
+-- src/unchecked/reader.rt:101:5
+loop-again : tie.Need-loop-again Inv-loop μ-loop
+loop-again c = search needs
+
+-- src/unchecked/reader.rt:91:1
+returns-2 : tie.Need-returns-2 Inv-loop μ-loop
+returns-2 c = search needs
+
+pub read-feeds-spec : {M : Type 1} → statement M
+read-feeds-spec =
+    tie.close
+    (tie.spec
+    Inv-loop
+    μ-loop
+    wide-requires
+    loop-holds
+    read-feed-requires
+    enum-known-f
+    no-gate-requires
+    returns
+    enum-known-f-2
+    array-write-signals
+    mul-weights
+    array-set-from-weights
+    wide-requires-2
+    add-low
+    add-at
+    add-i
+    loop-less
+    loop-again
+    returns-2)

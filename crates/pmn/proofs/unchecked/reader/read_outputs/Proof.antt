@@ -1,0 +1,85 @@
+use borrow.Author.Needs.{needs}
+use Rattle.pmn.proofs.unchecked.reader.read_outputs.Statement.{statement}
+use Rattle.pmn.proofs.unchecked.reader.read_outputs.Tie as tie
+use Rattle.pmn.proofs.unchecked.reader.read_outputs.Reads as reads
+use Rattle.pmn.proofs.unchecked.reader.read_outputs.Lts as lts
+use Rattle.integers.proofs.wide.Reads as wide-reads
+use Rattle.pmn.proofs.unchecked.reader.no_outputs.Reads as no-outputs-reads
+
+abbrev Inv-loop : tie.InvT-loop
+Inv-loop file start low top count drivers₀ at₀ j₀ drivers at j = ?
+
+abbrev μ-loop : tie.MeasureT-loop
+μ-loop file start low top count drivers₀ at₀ j₀ drivers at j = ?
+
+-- src/unchecked/reader.rt:163:5
+loop-holds : tie.Need-loop-holds Inv-loop μ-loop
+loop-holds c = search needs
+
+-- src/unchecked/reader.rt:165:13
+no-outputs-requires : tie.Need-no-outputs-requires Inv-loop μ-loop
+no-outputs-requires c κs = search needs
+
+-- src/unchecked/reader.rt:165:13
+returns : tie.Need-returns Inv-loop μ-loop
+returns c = search needs
+
+-- src/unchecked/reader.rt:167:22
+shared-slice-read-signal : tie.Need-shared-slice-read-signal Inv-loop μ-loop
+shared-slice-read-signal c = search needs
+
+-- src/unchecked/reader.rt:168:13
+wide-requires : tie.Need-wide-requires Inv-loop μ-loop
+wide-requires c κs = search needs
+
+-- src/unchecked/reader.rt:171:13
+no-outputs-requires-2 : tie.Need-no-outputs-requires-2 Inv-loop μ-loop
+no-outputs-requires-2 c κs = search needs
+
+-- src/unchecked/reader.rt:171:13
+returns-2 : tie.Need-returns-2 Inv-loop μ-loop
+returns-2 c = search needs
+
+-- src/unchecked/reader.rt:173:9
+array-write-drivers : tie.Need-array-write-drivers Inv-loop μ-loop
+array-write-drivers c = search needs
+
+-- src/unchecked/reader.rt:174:9
+add-at : tie.Need-add-at Inv-loop μ-loop
+add-at c = search needs
+
+-- src/unchecked/reader.rt:175:9
+add-j : tie.Need-add-j Inv-loop μ-loop
+add-j c = search needs
+
+-- src/unchecked/reader.rt:163:5
+loop-less : tie.Need-loop-less Inv-loop μ-loop
+loop-less c = search needs
+
+-- src/unchecked/reader.rt:163:5
+loop-again : tie.Need-loop-again Inv-loop μ-loop
+loop-again c = search needs
+
+-- src/unchecked/reader.rt:156:1
+returns-3 : tie.Need-returns-3 Inv-loop μ-loop
+returns-3 c = search needs
+
+pub read-outputs-spec : {M : Type 1} → statement M
+read-outputs-spec =
+    tie.close
+    (tie.spec
+    Inv-loop
+    μ-loop
+    loop-holds
+    no-outputs-requires
+    returns
+    shared-slice-read-signal
+    wide-requires
+    no-outputs-requires-2
+    returns-2
+    array-write-drivers
+    add-at
+    add-j
+    loop-less
+    loop-again
+    returns-3)

@@ -1,0 +1,2 @@
+// The parts of a file. Each public function asks for what its caller has tested.
+pub mod reader;

@@ -1,0 +1,178 @@
+// Reading the parts of a file by their places: a feed, a gate, the outputs. A code of 0 says that the part was read, and that the
+// next one starts at `next`; any other code is the refusal.
+ghost use mathlib.Core.Path.{_≡_};
+ghost use mathlib.Core.Bool.{_&&_, not};
+ghost use mathlib.Core.List.{[]};
+ghost use Prim.Native.Nat.{_+_, _≤_, _<_};
+ghost use lib.ListN.{length, drop};
+ghost use Rattle.network.specs.Limits.{inScale, isZero};
+ghost use Rattle.network.specs.Record.{gateRecord};
+ghost use Rattle.format.specs.Format.{parseFeeds, parseGate, parseOutputs};
+ghost use Rattle.pmn.specs.Seen.{Seen, FeedSeen, gateOf, outputPlaces};
+use network::GateRecord;
+use integers::{wide, magnitude};
+use integers::unchecked::get_int;
+
+// A feed, or the refusal.
+pub enum FeedRead {
+    Bad(u8),
+    Got { signal: u8, weight: i32 },
+}
+
+// A gate, in the form of its 16 places.
+pub struct GateRead {
+    pub code: u8,
+    pub next: usize,
+    pub gate: GateRecord,
+}
+
+// The signals of the outputs; spare places hold 0.
+pub struct OutputsRead {
+    pub code: u8,
+    pub next: usize,
+    pub drivers: [u8; 16],
+}
+
+// Whether a weight or a threshold is within the scale.
+fn in_scale(z: i32) -> bool
+    ensures { λ r. ⌜ r ≡ inScale z ⌝ }
+{
+    magnitude(z) <= 1000000
+}
+
+// Whether a weight is within the scale and not 0.
+fn weight_sound(z: i32) -> bool
+    ensures { λ r. ⌜ r ≡ inScale z && not (isZero z) ⌝ }
+{
+    let size = magnitude(z);
+    (size <= 1000000) & !(size == 0)
+}
+
+// The feed at a place, of the gate with signal own; its signal is low at least.
+fn read_feed(file: &[u8], at: usize, own: usize, low: usize) -> FeedRead
+    ensures { λ r. ⌜ FeedSeen own low at (now (file .entry)) r ⌝ }
+{
+    if file.len() <= at {
+        return FeedRead::Bad(4);
+    }
+    let signal = file[at];
+    let s = wide(signal);
+    let fits = (low <= s) & (s < own);
+    if !fits {
+        return FeedRead::Bad(5);
+    }
+    if file.len() - at < 5 {
+        return FeedRead::Bad(4);
+    }
+    let weight = get_int(file, at + 1);
+    if weight_sound(weight) {
+        FeedRead::Got { signal, weight }
+    } else {
+        FeedRead::Bad(6)
+    }
+}
+
+// The answer for a gate that is refused.
+fn no_gate(code: u8) -> GateRead
+    ensures { λ r. ⌜ (r .code ≡ code) × (r .next ≡ 0) ⌝ }
+{
+    let signals = [0u8; 16];
+    let weights = [0i32; 16];
+    let gate = GateRecord {
+        fanin: 0,
+        threshold: 0,
+        signals,
+        weights,
+    };
+    GateRead { code, next: 0, gate }
+}
+
+// The rest of the gate with signal own, whose feed count and threshold are read: its feeds, from a place on.
+fn read_feeds(file: &[u8], start: usize, own: usize, fanin: u8, threshold: i32) -> GateRead
+    requires { ⌜ (start ≤ length (now file)) × (fanin ≤ 16) ⌝ }
+    ensures { λ r. ⌜ Seen (gateOf threshold) (now (file .entry)) (parseFeeds own fanin 0 [] (drop start (now (file .entry)))) (r .code) (r .next) (r .gate) ⌝ }
+{
+    let count = wide(fanin);
+    let mut signals = [0u8; 16];
+    let mut weights = [0i32; 16];
+    let mut at = start;
+    let mut low: usize = 0;
+    let mut i: usize = 0;
+    while i < count {
+        let f = read_feed(file, at, own, low);
+        match f {
+            FeedRead::Bad(code) => {
+                return no_gate(code);
+            }
+            FeedRead::Got { signal, weight } => {
+                signals[i] = signal;
+                weights[i] = weight;
+                low = wide(signal) + 1;
+                at += 5;
+                i += 1;
+            }
+        }
+    }
+    let gate = GateRecord {
+        fanin,
+        threshold,
+        signals,
+        weights,
+    };
+    GateRead { code: 0, next: at, gate }
+}
+
+// The gate with signal own at a place.
+fn read_gate(file: &[u8], at: usize, own: usize) -> GateRead
+    ensures { λ r. ⌜ Seen gateRecord (now (file .entry)) (parseGate own (drop at (now (file .entry)))) (r .code) (r .next) (r .gate) ⌝ }
+{
+    if file.len() <= at {
+        return no_gate(4);
+    }
+    let fanin = file[at];
+    if 16 < fanin {
+        return no_gate(7);
+    }
+    if file.len() - at < 5 {
+        return no_gate(4);
+    }
+    let threshold = get_int(file, at + 1);
+    if in_scale(threshold) {
+        read_feeds(file, at + 5, own, fanin, threshold)
+    } else {
+        no_gate(6)
+    }
+}
+
+// The answer for outputs that are refused.
+fn no_outputs(code: u8) -> OutputsRead
+    ensures { λ r. ⌜ (r .code ≡ code) × (r .next ≡ 0) ⌝ }
+{
+    let drivers = [0u8; 16];
+    OutputsRead { code, next: 0, drivers }
+}
+
+// count outputs from a place on, each the signal of a gate: low at least, and below top.
+pub fn read_outputs(file: &[u8], start: usize, low: usize, top: usize, count: usize) -> OutputsRead
+    requires { ⌜ (start ≤ length (now file)) × (count ≤ 16) ⌝ }
+    ensures { λ r. ⌜ Seen outputPlaces (now (file .entry)) (parseOutputs low top count [] (drop start (now (file .entry)))) (r .code) (r .next) (count, r .drivers) ⌝ }
+{
+    let mut drivers = [0u8; 16];
+    let mut at = start;
+    let mut j: usize = 0;
+    while j < count {
+        if file.len() <= at {
+            return no_outputs(4);
+        }
+        let signal = file[at];
+        let s = wide(signal);
+        let fits = (low <= s) & (s < top);
+        if !fits {
+            return no_outputs(8);
+        }
+        drivers[j] = signal;
+        at += 1;
+        j += 1;
+    }
+    OutputsRead { code: 0, next: at, drivers }
+}
