@@ -4,3 +4,10 @@ pub mod Record
 pub mod Changes
 pub mod Reading
 pub mod LimitLaws
+pub mod TableLaws
+pub mod Places
+pub mod PasteLaws
+pub mod PlaceLaws
+pub mod TestLaws
+pub mod SpareLaws
+pub mod RecordLaws

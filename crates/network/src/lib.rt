@@ -50,3 +50,5 @@ pub fn blank() -> Network
         drivers,
     }
 }
+
+pub mod unchecked;

@@ -1,0 +1,2 @@
+// Calls that keep a requirement on their caller.
+pub mod places;
