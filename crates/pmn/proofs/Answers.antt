@@ -38,3 +38,11 @@ failed-by f (done a l) code e = let z : _≡_ {A = ℕ} 0 1 = cc in absurd (omeg
 
 pub failed : {A B : Type 0} {f : A → B} {s : List ℕ} {p : Read A} {code next : ℕ} {value : B} → Seen f s p code next value → (code ≡ 0 → ⊥) → p ≡ refused code
 failed {A} {B} {f} {s} {p} {code} {next} {value} h e = failed-by f p code (sym (by-refusal code (done value (drop next s)) e) ∙ h .says)
+
+-- an answer for a read whose value goes through two functions
+mapped-twice : {A B C : Type 0} (f : A → B) (g : B → C) (p : Read A) → mapped (λ a. g (f a)) p ≡ mapped g (mapped f p)
+mapped-twice f g (refused k) = refl
+mapped-twice f g (done a l) = refl
+
+pub seen-through : {A B C : Type 0} (f : A → B) (g : B → C) {s : List ℕ} {p : Read A} {q : Read B} {code next : ℕ} {value : C} → Seen (λ a. g (f a)) s p code next value → q ≡ mapped f p → Seen g s q code next value
+seen-through f g {s} {p} h e = record { inside = h .inside; says = h .says ∙ mapped-twice f g p ∙ sym (ap (mapped g) e) }

@@ -17,18 +17,18 @@ use Rattle.pmn.specs.Seen.{FeedSeen, Seen, mapped, gateOf}
 use Rattle.pmn.proofs.Tables.{tab-end}
 
 -- after i of count feeds: the arrays hold them, and what is left to read stands at a place
-pub record Feeds (s : List ℕ) (start own count : ℕ) (t : ℤ) (signals : List ℕ) (weights : List ℤ) (at low i : ℕ) : Type 0 where
+pub record Feeds (s : List ℕ) (start own count : ℕ) (signals : List ℕ) (weights : List ℤ) (at low i : ℕ) : Type 0 where
   pub taken : List Feed
   pub many : length taken ≡ i
   pub few : i ≤ count
   pub inside : at ≤ length s
-  pub signals-are : signals ≡ gateOf t taken .signals
-  pub weights-are : weights ≡ gateOf t taken .weights
+  pub signals-are : signals ≡ gateOf (pos 0) taken .signals
+  pub weights-are : weights ≡ gateOf (pos 0) taken .weights
   pub rest : parseFeeds own count 0 [] (drop start s) ≡ parseFeeds own (count - i) low taken (drop at s)
 
-pub feeds-start : (s : List ℕ) (start own count : ℕ) (t : ℤ) → start ≤ length s → Feeds s start own count t (replicate 16 0) (replicate 16 (pos 0)) start 0 0
+pub feeds-start : (s : List ℕ) (start own count : ℕ) → start ≤ length s → Feeds s start own count (replicate 16 0) (replicate 16 (pos 0)) start 0 0
 unfolding gateRecord
-feeds-start s start own count t h = record {
+feeds-start s start own count h = record {
   taken = [];
   many = refl;
   few = zero-le;
@@ -38,12 +38,12 @@ feeds-start s start own count t h = record {
   rest = ap (λ (k : ℕ). parseFeeds own k 0 [] (drop start s)) (sym (sub-zero count));
 }
 
-module _ {s : List ℕ} {start own count : ℕ} {t : ℤ} {signals : List ℕ} {weights : List ℤ} {at low i : ℕ} (h : Feeds s start own count t signals weights at low i) where
+module _ {s : List ℕ} {start own count : ℕ} {signals : List ℕ} {weights : List ℤ} {at low i : ℕ} (h : Feeds s start own count signals weights at low i) where
   pub feeds-bad : {k : ℕ} → i < count → FeedSeen own low at s (Bad k) → parseFeeds own count 0 [] (drop start s) ≡ refused k
   feeds-bad j f = h .rest ∙ feeds-refused own count i low (h .taken) (drop at s) j (sym (f .says))
 
   pub feeds-got : {x low′ : ℕ} {w w′ : ℤ} → i < count → count ≤ 16 → FeedSeen own low at s (Got x w) → w′ ≡ w → low′ ≡ suc x
-      → Feeds s start own count t (set signals i x) (set weights i w′) (at + 5) low′ (i + 1)
+      → Feeds s start own count (set signals i x) (set weights i w′) (at + 5) low′ (i + 1)
   unfolding gateRecord
   feeds-got {x} {low′} {w} {w′} j few f ew el =
       let fs = h .taken in
@@ -59,11 +59,14 @@ module _ {s : List ℕ} {start own count : ℕ} {t : ℤ} {signals : List ℕ} {
         rest = h .rest ∙ feeds-more own count i low fs (drop at s) j (sym (f .says)) ∙ rw el;
       }
 
-  pub feeds-end : {r : GateRecord} → count ≤ i → (r .fanin ≡ count) × (r .threshold ≡ t) × (r .signals ≡ signals) × (r .weights ≡ weights)
-      → Seen (gateOf t) s (parseFeeds own count 0 [] (drop start s)) 0 at r
+  pub feeds-end : {n : ℕ} {t t′ : ℤ} → count ≤ i → n ≡ count → t′ ≡ t
+      → Seen (gateOf t) s (parseFeeds own count 0 [] (drop start s)) 0 at (record { fanin = n; threshold = t′; signals = signals; weights = weights })
   unfolding gateRecord
-  feeds-end {r} j e =
+  feeds-end {n} {t} {t′} j en et =
+      let fs = h .taken in
+      let e : n ≡ length fs = omega (arith, h .many, h .few) in
       record {
         inside = h .inside;
-        says = ?;
+        says = (λ x. done (record { fanin = e x; threshold = et x; signals = h .signals-are x; weights = h .weights-are x }) (drop at s))
+            ∙ sym (ap (mapped (gateOf t)) (h .rest ∙ feeds-ended own count i low fs (drop at s) j));
       }

@@ -1,3 +1,4 @@
 pub mod Tables
 pub mod Answers
 pub mod FeedsLoop
+pub mod OutputsLoop

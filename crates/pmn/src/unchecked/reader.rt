@@ -9,9 +9,10 @@ ghost use Rattle.network.specs.Limits.{inScale, isZero};
 ghost use Rattle.network.specs.Record.{gateRecord};
 ghost use Rattle.format.specs.Format.{parseFeeds, parseGate, parseOutputs};
 ghost use Rattle.pmn.specs.Seen.{Seen, FeedSeen, gateOf, outputPlaces};
-use network::GateRecord;
-use integers::{wide, magnitude};
+use integers::magnitude;
 use integers::unchecked::get_int;
+use integers::wide;
+use network::GateRecord;
 
 // A feed, or the refusal.
 pub enum FeedRead {
@@ -65,11 +66,10 @@ fn read_feed(file: &[u8], at: usize, own: usize, low: usize) -> FeedRead
         return FeedRead::Bad(4);
     }
     let weight = get_int(file, at + 1);
-    if weight_sound(weight) {
-        FeedRead::Got { signal, weight }
-    } else {
-        FeedRead::Bad(6)
+    if !weight_sound(weight) {
+        return FeedRead::Bad(6);
     }
+    FeedRead::Got { signal, weight }
 }
 
 // The answer for a gate that is refused.
@@ -84,7 +84,11 @@ fn no_gate(code: u8) -> GateRead
         signals,
         weights,
     };
-    GateRead { code, next: 0, gate }
+    GateRead {
+        code,
+        next: 0,
+        gate,
+    }
 }
 
 // The rest of the gate with signal own, whose feed count and threshold are read: its feeds, from a place on.
@@ -119,7 +123,11 @@ fn read_feeds(file: &[u8], start: usize, own: usize, fanin: u8, threshold: i32) 
         signals,
         weights,
     };
-    GateRead { code: 0, next: at, gate }
+    GateRead {
+        code: 0,
+        next: at,
+        gate,
+    }
 }
 
 // The gate with signal own at a place.
@@ -137,11 +145,10 @@ fn read_gate(file: &[u8], at: usize, own: usize) -> GateRead
         return no_gate(4);
     }
     let threshold = get_int(file, at + 1);
-    if in_scale(threshold) {
-        read_feeds(file, at + 5, own, fanin, threshold)
-    } else {
-        no_gate(6)
+    if !in_scale(threshold) {
+        return no_gate(6);
     }
+    read_feeds(file, at + 5, own, fanin, threshold)
 }
 
 // The answer for outputs that are refused.
@@ -149,7 +156,11 @@ fn no_outputs(code: u8) -> OutputsRead
     ensures { λ r. ⌜ (r .code ≡ code) × (r .next ≡ 0) ⌝ }
 {
     let drivers = [0u8; 16];
-    OutputsRead { code, next: 0, drivers }
+    OutputsRead {
+        code,
+        next: 0,
+        drivers,
+    }
 }
 
 // count outputs from a place on, each the signal of a gate: low at least, and below top.
@@ -174,5 +185,9 @@ pub fn read_outputs(file: &[u8], start: usize, low: usize, top: usize, count: us
         at += 1;
         j += 1;
     }
-    OutputsRead { code: 0, next: at, drivers }
+    OutputsRead {
+        code: 0,
+        next: at,
+        drivers,
+    }
 }

@@ -79,27 +79,25 @@ weight-sound-requires : tie.Need-weight-sound-requires
 weight-sound-requires c κs = search needs
 
 -- the whole feed, by what the test of its weight says
-whole : (c : tie.After-weight-sound) → let a = c .before .before .before .before .before .before .before .before .args in
-    parseFeed (a .own) (a .low) (drop (a .at) (a .file .now)) ≡ check (c .weight-sound .result) 6 (done (feedIn (a .file .now) (a .at)) (drop (a .at + 5) (a .file .now)))
+whole : (c : tie.After-weight-sound) {b : Bool} → c .weight-sound .result ≡ b → let a = c .before .before .before .before .before .before .before .before .args in
+    parseFeed (a .own) (a .low) (drop (a .at) (a .file .now)) ≡ check b 6 (done (feedIn (a .file .now) (a .at)) (drop (a .at + 5) (a .file .now)))
 unfolding weightOk
-whole c =
+whole c e =
     let a = c .before .before .before .before .before .before .before .before .args in
     feed-whole (a .own) (a .low) (a .at) (a .file .now) (signal-is (c .before .before .before .before) ∙ not-false _ (c .before .before .before .if2 .left)) (omega arith)
-      (sym (c .weight-sound .ensures ∙ ap (λ (z : ℤ). inScale z && not (isZero z)) (weight-is (c .before))))
+    (sym (c .weight-sound .ensures ∙ ap (λ (z : ℤ). inScale z && not (isZero z)) (weight-is (c .before))) ∙ e)
 
--- src/unchecked/reader.rt:52:1
 returns-4 : tie.Need-returns-4
-returns-4 c =
+returns-4 c = record { says = sym (whole (c .before) (not-true _ (c .if4 .taken))); inside = omega arith }
+
+returns-5 : tie.Need-returns-5
+returns-5 c =
     let a = c .before .before .before .before .before .before .before .before .before .args in
     record {
       says = ap (λ (z : ℤ). done (record { signal = getD (a .file .now) (a .at) 0; weight = z }) (drop (a .at + 5) (a .file .now))) (weight-is (c .before .before))
-        ∙ sym (whole (c .before) ∙ rw (c .if4 .taken));
+          ∙ sym (whole (c .before) (not-false _ (c .if4 .left)));
       inside = omega arith;
     }
-
--- src/unchecked/reader.rt:52:1
-returns-5 : tie.Need-returns-5
-returns-5 c = record { says = sym (whole (c .before) ∙ rw (c .if4 .left)); inside = omega arith }
 
 pub read-feed-spec : {M : Type 1} → statement M
 read-feed-spec =

@@ -1,4 +1,15 @@
 use borrow.Author.Needs.{needs}
+use native.Mathlib.Omega.{arith}
+use mathlib.Core.Path.{_≡_, refl, subst}
+use mathlib.Core.List.{[]}
+use Prim.Native.Nat.{ℕ, suc, _+_, _-_}
+use lib.ListN.{drop}
+use mir.Syntax.{w32}
+use mir.Facts.{toZ-ofZ}
+use Rattle.format.specs.Format.{parseFeeds}
+use Rattle.pmn.specs.Seen.{FeedSeen, Seen, gateOf}
+use Rattle.pmn.proofs.Answers.{seen-refused}
+use Rattle.pmn.proofs.FeedsLoop.{Feeds, feeds-start, feeds-bad, feeds-got, feeds-end}
 use Rattle.pmn.proofs.unchecked.reader.read_feeds.Statement.{statement}
 use Rattle.pmn.proofs.unchecked.reader.read_feeds.Tie as tie
 use Rattle.pmn.proofs.unchecked.reader.read_feeds.Reads as reads
@@ -9,11 +20,11 @@ use Rattle.pmn.proofs.unchecked.reader.read_feed.Reads as read-feed-rea
 
 abbrev Inv-loop : tie.InvT-loop
 Inv-loop file start own fanin threshold count signals₀ weights₀ at₀ low₀ i₀ signals weights at low i =
-    ?
+    Feeds file start own fanin signals weights at low i
 
 abbrev μ-loop : tie.MeasureT-loop
 μ-loop file start own fanin threshold count signals₀ weights₀ at₀ low₀ i₀ signals weights at low i =
-    ?
+    fanin - i
 
 -- src/unchecked/reader.rt:95:9
 wide-requires : tie.Need-wide-requires Inv-loop μ-loop
@@ -21,7 +32,7 @@ wide-requires c κs = search needs
 
 -- src/unchecked/reader.rt:101:5
 loop-holds : tie.Need-loop-holds Inv-loop μ-loop
-loop-holds c = search needs
+loop-holds c = let a = c .before .before .args in feeds-start (a .file .now) (a .start) (a .own) (a .fanin) (c .before .before .pre .0)
 
 -- src/unchecked/reader.rt:102:13
 read-feed-requires : tie.Need-read-feed-requires Inv-loop μ-loop
@@ -37,7 +48,14 @@ no-gate-requires c κs = search needs
 
 -- src/unchecked/reader.rt:105:17
 returns : tie.Need-returns Inv-loop μ-loop
-returns c = search needs
+returns c =
+    let at-read = c .before .before .before .before in
+    let at-loop = at-read .before .before in
+    let l = at-loop .loop in
+    let a = at-loop .before .before .before .args in
+    let g = c .before .before .f .given in
+    let f = subst (FeedSeen (a .own) (l .low) (l .at) (a .file .now)) (g .1) (at-read .read-feed .ensures) in
+    seen-refused (g .0 .0) (f .inside) (c .no-gate .ensures) (feeds-bad (l .inv) (omega arith) f)
 
 -- src/unchecked/reader.rt:107:29
 enum-known-f-2 : tie.Need-enum-known-f-2 Inv-loop μ-loop
@@ -77,11 +95,18 @@ loop-less c = search needs
 
 -- src/unchecked/reader.rt:101:5
 loop-again : tie.Need-loop-again Inv-loop μ-loop
-loop-again c = search needs
+loop-again c =
+    let at-read = c .before .before .before .before in
+    let at-loop = at-read .before .before in
+    let l = at-loop .loop in
+    let a = at-loop .before .before .before .args in
+    let g = c .before .before .f2 .given in
+    let f = subst (FeedSeen (a .own) (l .low) (l .at) (a .file .now)) (g .1) (at-read .read-feed .ensures) in
+    feeds-got (l .inv) (omega arith) (omega arith) f (toZ-ofZ {w = w32} {z = g .0 .1 .0} (record { sfits = c .before .known-told2 .given .1 .0 .1 })) (omega arith)
 
 -- src/unchecked/reader.rt:91:1
 returns-2 : tie.Need-returns-2 Inv-loop μ-loop
-returns-2 c = search needs
+returns-2 c = feeds-end (c .before .loop .inv) (omega arith) refl (toZ-ofZ (c .before .before .before .before .fits .threshold))
 
 pub read-feeds-spec : {M : Type 1} → statement M
 read-feeds-spec =
