@@ -2,3 +2,4 @@ pub mod Tables
 pub mod Answers
 pub mod FeedsLoop
 pub mod OutputsLoop
+pub mod GatesLoop

@@ -1,12 +1,13 @@
 -- What the readers of a file's parts answer, in the terms of the format. Nothing is proved here.
 use mathlib.Core.Path.{_≡_}
-use mathlib.Core.List.{List}
+use mathlib.Core.List.{List, []}
 use Prim.Native.Nat.{ℕ, zero, suc, _+_, _≤_, _<_}
 use lib.IntN.{ℤ}
 use lib.ListN.{length, drop}
 use Rattle.network.specs.Threshold.{Feed, Gate}
-use Rattle.network.specs.Record.{gateRecord, driversOf}
+use Rattle.network.specs.Record.{gateRecord, driversOf, layout}
 use Rattle.network.specs.declared.GateRecord.{GateRecord}
+use Rattle.network.specs.declared.Network.{Network}
 use Rattle.format.specs.Format.{Read, refused, done, andThen, parseFeed}
 use Rattle.pmn.specs.declared.unchecked.reader.FeedRead.{FeedRead}
 use Rattle.pmn.specs.declared.unchecked.reader.FeedRead.the-variants.{Bad, Got}
@@ -47,6 +48,10 @@ pub record Seen {A B : Type 0} (f : A → B) (s : List ℕ) (p : Read A) (code n
 -- the 16 places of a gate with a threshold, by its feeds
 abbrev pub gateOf : ℤ → List Feed → GateRecord
 gateOf t fs = gateRecord (record { feeds = fs; threshold = t })
+
+-- the record of a network by its gates, with no outputs
+abbrev pub gatesOf : ℕ → List Gate → Network
+gatesOf inputs gs = layout (record { inputs = inputs; gates = gs; outputs = [] })
 
 -- the number of the outputs, and their 16 places
 abbrev pub outputPlaces : List ℕ → ℕ × List ℕ

@@ -7,12 +7,16 @@ ghost use Prim.Native.Nat.{_+_, _≤_, _<_};
 ghost use lib.ListN.{length, drop};
 ghost use Rattle.network.specs.Limits.{inScale, isZero};
 ghost use Rattle.network.specs.Record.{gateRecord};
-ghost use Rattle.format.specs.Format.{parseFeeds, parseGate, parseOutputs};
-ghost use Rattle.pmn.specs.Seen.{Seen, FeedSeen, gateOf, outputPlaces};
+ghost use Rattle.format.specs.Format.{parseFeeds, parseGate, parseGates, parseOutputs};
+ghost use Rattle.pmn.specs.Seen.{Seen, FeedSeen, gateOf, gatesOf, outputPlaces};
 use integers::magnitude;
 use integers::unchecked::get_int;
 use integers::wide;
 use network::GateRecord;
+use network::Network;
+use network::blank;
+use network::unchecked::places::store_signals;
+use network::unchecked::places::store_weights;
 
 // A feed, or the refusal.
 pub enum FeedRead {
@@ -25,6 +29,13 @@ pub struct GateRead {
     pub code: u8,
     pub next: usize,
     pub gate: GateRecord,
+}
+
+// The gates, as the record of a network that has no outputs.
+pub struct GatesRead {
+    pub code: u8,
+    pub next: usize,
+    pub network: Network,
 }
 
 // The signals of the outputs; spare places hold 0.
@@ -149,6 +160,65 @@ fn read_gate(file: &[u8], at: usize, own: usize) -> GateRead
         return no_gate(6);
     }
     read_feeds(file, at + 5, own, fanin, threshold)
+}
+
+// The answer for gates that are refused.
+fn no_gates(code: u8) -> GatesRead
+    ensures { λ r. ⌜ (r .code ≡ code) × (r .next ≡ 0) ⌝ }
+{
+    let network = blank();
+    GatesRead {
+        code,
+        next: 0,
+        network,
+    }
+}
+
+// The gates, from a place on, of a network with so many inputs and gates.
+pub fn read_gates(file: &[u8], start: usize, inputs: usize, gates: usize) -> GatesRead
+    requires { ⌜ (start ≤ length (now file)) × (inputs ≤ 40) × (gates ≤ 128) ⌝ }
+    ensures { λ r. ⌜ Seen (gatesOf inputs) (now (file .entry)) (parseGates inputs gates [] (drop start (now (file .entry)))) (r .code) (r .next) (r .network) ⌝ }
+{
+    let mut fanins = [0u8; 128];
+    let mut signals = [0u8; 2048];
+    let mut weights = [0i32; 2048];
+    let mut thresholds = [0i32; 128];
+    let mut at = start;
+    let mut g: usize = 0;
+    while g < gates {
+        let r = read_gate(file, at, inputs + g);
+        let code = r.code;
+        if code != 0 {
+            return no_gates(code);
+        }
+        let gate = r.gate;
+        let fanin = gate.fanin;
+        let threshold = gate.threshold;
+        let row_signals = gate.signals;
+        let row_weights = gate.weights;
+        fanins[g] = fanin;
+        thresholds[g] = threshold;
+        store_signals(&mut signals, 16 * g, row_signals);
+        store_weights(&mut weights, 16 * g, row_weights);
+        at = r.next;
+        g += 1;
+    }
+    let drivers = [0u8; 16];
+    let network = Network {
+        inputs,
+        gates,
+        outputs: 0,
+        fanins,
+        signals,
+        weights,
+        thresholds,
+        drivers,
+    };
+    GatesRead {
+        code: 0,
+        next: at,
+        network,
+    }
 }
 
 // The answer for outputs that are refused.
