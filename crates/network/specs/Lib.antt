@@ -11,3 +11,4 @@ pub mod PlaceLaws
 pub mod TestLaws
 pub mod SpareLaws
 pub mod RecordLaws
+pub mod RecordTests

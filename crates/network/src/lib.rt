@@ -52,3 +52,4 @@ pub fn blank() -> Network
 }
 
 pub mod unchecked;
+pub mod soundness;

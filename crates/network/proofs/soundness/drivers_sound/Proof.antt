@@ -1,0 +1,64 @@
+-- The proof of `drivers_sound`: ok and the test of the outputs that are left make up the whole test. Assumes nothing.
+use mathlib.Core.Path.{_≡_, sym, ap, _∙_}
+use mathlib.Core.Bool.{_&&_}
+use mathlib.Core.List.{map}
+use Prim.Native.Nat.{_≤_, _-_}
+use native.Mathlib.Omega.{arith}
+use borrow.Author.Needs.{needs}
+use lib.ListN.{getD}
+use Rattle.integers.specs.Lists.{all, range, tab}
+use Rattle.integers.specs.Tests.{and-true, and-assoc}
+use Rattle.network.specs.RecordTests.{gateSignal}
+use Rattle.network.proofs.RangeLaws.{range-end, all-step}
+use Rattle.network.proofs.soundness.drivers_sound.Statement.{statement}
+use Rattle.network.proofs.soundness.drivers_sound.Tie as tie
+
+abbrev Inv-loop : tie.InvT-loop
+Inv-loop drivers inputs gates outputs ok₀ j₀ ok j =
+    (j ≤ outputs)
+    × (ok && all (gateSignal inputs gates) (map (λ i. getD drivers i 0) (range j (outputs - j))) ≡ all (gateSignal inputs gates) (tab outputs (λ i. getD drivers i 0)))
+
+abbrev μ-loop : tie.MeasureT-loop
+μ-loop drivers inputs gates outputs ok₀ j₀ ok j = outputs - j
+
+loop-holds : tie.Need-loop-holds Inv-loop μ-loop
+loop-holds c = (omega arith, rw (let e : c .args .outputs - 0 ≡ c .args .outputs = omega arith in e))
+
+element-copy-out-is-gate : tie.Need-element-copy-out-is-gate Inv-loop μ-loop
+element-copy-out-is-gate c = search needs
+
+is-gate-requires : tie.Need-is-gate-requires Inv-loop μ-loop
+is-gate-requires c κs = search needs
+
+add-j : tie.Need-add-j Inv-loop μ-loop
+add-j c = search needs
+
+loop-less : tie.Need-loop-less Inv-loop μ-loop
+loop-less c = search needs
+
+loop-again : tie.Need-loop-again Inv-loop μ-loop
+loop-again c =
+    let l = c .before .before .before .loop in
+    let drivers = c .before .before .before .before .args .drivers .now in (
+      omega arith,
+      rw (c .is-gate .ensures) (and-assoc (l .ok) _ _)
+          ∙ ap (λ b. l .ok && b) (sym (all-step _ (λ i. getD drivers i 0) (l .j) _ (c .before .before .loop-test .taken))) ∙ l .inv .1,
+    )
+
+returns : tie.Need-returns Inv-loop μ-loop
+unfolding all
+returns c = sym (and-true _) ∙ rw (range-end _ _ (c .loop-test .left)) at (c .before .loop .inv .1)
+
+pub drivers-sound-spec : {M : Type 1} → statement M
+drivers-sound-spec =
+    tie.close
+    (tie.spec
+    Inv-loop
+    μ-loop
+    loop-holds
+    element-copy-out-is-gate
+    is-gate-requires
+    add-j
+    loop-less
+    loop-again
+    returns)
