@@ -6,11 +6,11 @@ use Prim.Native.Nat.{ℕ, zero, suc, _+_, _≤_, _<_}
 use native.Mathlib.Omega.{arith}
 use lib.ListN.{length, drop, getD, drop-of-length-le}
 use lib.Seq.{drop-cons}
-use lib.Dec.{eqb}
 use Rattle.integers.specs.Lists.{between}
 use Rattle.network.specs.Threshold.{Gate, Net}
+use Rattle.network.specs.RecordTests.{countsOk}
 use Rattle.format.specs.Format.{Read, refused, done, check, andThen, atEnd, parseGates, parseOutputs, parseBody, parseHead, parseFile}
-use Rattle.format.specs.AtLaws.{check-is}
+use Rattle.format.specs.Head.{markOk, versionOk, headCounts, readBody}
 
 -- ---- the header
 
@@ -41,25 +41,14 @@ check-both : {A : Type 0} (a b : Bool) (k : ℕ) (r : Read A) → check a k (che
 check-both true b k r = refl
 check-both false b k r = refl
 
--- the tests of the header
-abbrev pub markOk : List ℕ → Bool
-markOk s = eqb (getD s 0 0) 80 && (eqb (getD s 1 0) 77 && eqb (getD s 2 0) 78)
-
-abbrev pub versionOk : List ℕ → Bool
-versionOk s = eqb (getD s 3 0) 1 && eqb (getD s 4 0) 0
-
-abbrev pub countsOk : List ℕ → Bool
-countsOk s = between 1 40 (getD s 5 0) && (between 1 128 (getD s 6 0) && between 1 16 (getD s 7 0))
-
--- what follows the header
-abbrev pub bodyOf : List ℕ → Read Net
-bodyOf s = parseBody (getD s 5 0) (getD s 6 0) (getD s 7 0) (drop 8 s)
-
 module _ (s : List ℕ) (h : 8 ≤ length s) where
-  head-tests : parseFile s ≡ check (markOk s) 1 (check (versionOk s) 2 (check (countsOk s) 3 (bodyOf s)))
-  head-tests = eight s h ∙ ap (λ (r : Read Net). check (markOk s) 1 (check (versionOk s) 2 r))
-      (ap (check (between 1 40 (getD s 5 0)) 3) (check-both (between 1 128 (getD s 6 0)) (between 1 16 (getD s 7 0)) 3 (bodyOf s))
-      ∙ check-both (between 1 40 (getD s 5 0)) (between 1 128 (getD s 6 0) && between 1 16 (getD s 7 0)) 3 (bodyOf s))
+  head-tests : parseFile s ≡ check (markOk s) 1 (check (versionOk s) 2 (check (headCounts s) 3 (readBody s)))
+  unfolding countsOk
+  head-tests =
+      let i = between 1 40 (getD s 5 0) in
+      let g = between 1 128 (getD s 6 0) in
+      let o = between 1 16 (getD s 7 0) in
+      eight s h ∙ ap (λ (r : Read Net). check (markOk s) 1 (check (versionOk s) 2 r)) (check-both i g 3 (check o 3 (readBody s)) ∙ check-both (i && g) o 3 (readBody s))
 
   pub head-mark : markOk s ≡ false → parseFile s ≡ refused 1
   head-mark e = head-tests ∙ rw e
@@ -67,10 +56,10 @@ module _ (s : List ℕ) (h : 8 ≤ length s) where
   pub head-version : markOk s ≡ true → versionOk s ≡ false → parseFile s ≡ refused 2
   head-version e f = head-tests ∙ rw (e, f)
 
-  pub head-counts : markOk s ≡ true → versionOk s ≡ true → countsOk s ≡ false → parseFile s ≡ refused 3
+  pub head-counts : markOk s ≡ true → versionOk s ≡ true → headCounts s ≡ false → parseFile s ≡ refused 3
   head-counts e f g = head-tests ∙ rw (e, f, g)
 
-  pub head-done : markOk s ≡ true → versionOk s ≡ true → countsOk s ≡ true → parseFile s ≡ bodyOf s
+  pub head-done : markOk s ≡ true → versionOk s ≡ true → headCounts s ≡ true → parseFile s ≡ readBody s
   head-done e f g = head-tests ∙ rw (e, f, g)
 
 -- ---- the body: gates, outputs, and no byte after them

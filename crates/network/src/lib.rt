@@ -51,5 +51,5 @@ pub fn blank() -> Network
     }
 }
 
-pub mod unchecked;
 pub mod soundness;
+pub mod unchecked;

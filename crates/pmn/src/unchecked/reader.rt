@@ -1,20 +1,19 @@
 // Reading the parts of a file by their places: a feed, a gate, the outputs. A code of 0 says that the part was read, and that the
 // next one starts at `next`; any other code is the refusal.
 ghost use mathlib.Core.Path.{_≡_};
-ghost use mathlib.Core.Bool.{_&&_, not};
 ghost use mathlib.Core.List.{[]};
 ghost use Prim.Native.Nat.{_+_, _≤_, _<_};
 ghost use lib.ListN.{length, drop};
-ghost use Rattle.network.specs.Limits.{inScale, isZero};
 ghost use Rattle.network.specs.Record.{gateRecord};
 ghost use Rattle.format.specs.Format.{parseFeeds, parseGate, parseGates, parseOutputs};
 ghost use Rattle.pmn.specs.Seen.{Seen, FeedSeen, gateOf, gatesOf, outputPlaces};
-use integers::magnitude;
 use integers::unchecked::get_int;
 use integers::wide;
 use network::GateRecord;
 use network::Network;
 use network::blank;
+use network::soundness::in_scale;
+use network::soundness::weight_sound;
 use network::unchecked::places::store_signals;
 use network::unchecked::places::store_weights;
 
@@ -43,21 +42,6 @@ pub struct OutputsRead {
     pub code: u8,
     pub next: usize,
     pub drivers: [u8; 16],
-}
-
-// Whether a weight or a threshold is within the scale.
-fn in_scale(z: i32) -> bool
-    ensures { λ r. ⌜ r ≡ inScale z ⌝ }
-{
-    magnitude(z) <= 1000000
-}
-
-// Whether a weight is within the scale and not 0.
-fn weight_sound(z: i32) -> bool
-    ensures { λ r. ⌜ r ≡ inScale z && not (isZero z) ⌝ }
-{
-    let size = magnitude(z);
-    (size <= 1000000) & !(size == 0)
 }
 
 // The feed at a place, of the gate with signal own; its signal is low at least.

@@ -20,7 +20,6 @@ use Rattle.pmn.proofs.unchecked.reader.read_feed.Reads as reads
 use Rattle.pmn.proofs.unchecked.reader.read_feed.Lts as lts
 use Rattle.integers.proofs.unchecked.get_int.Reads as get-int-reads
 use Rattle.integers.proofs.wide.Reads as wide-reads
-use Rattle.pmn.proofs.unchecked.reader.weight_sound.Reads as weight-sound-reads
 
 -- the signal that was read, as the format tests it
 signal-is : (c : tie.After-wide) → let a = c .before .before .before .before .args in

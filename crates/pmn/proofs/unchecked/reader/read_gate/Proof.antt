@@ -23,7 +23,6 @@ use Rattle.pmn.proofs.unchecked.reader.read_gate.Tie as tie
 use Rattle.pmn.proofs.unchecked.reader.read_gate.Reads as reads
 use Rattle.pmn.proofs.unchecked.reader.read_gate.Lts as lts
 use Rattle.integers.proofs.unchecked.get_int.Reads as get-int-reads
-use Rattle.pmn.proofs.unchecked.reader.in_scale.Reads as in-scale-reads
 use Rattle.pmn.proofs.unchecked.reader.no_gate.Reads as no-gate-reads
 use Rattle.pmn.proofs.unchecked.reader.read_feeds.Reads as read-feeds-reads
 
