@@ -4,3 +4,10 @@ pub mod AtLaws
 pub mod TurnLaws
 pub mod Head
 pub mod HeadLaws
+pub mod ScaleLaws
+pub mod StepLaws
+pub mod WriteReadLaws
+pub mod ReadWriteLaws
+pub mod CodeLaws
+pub mod LengthLaws
+pub mod PartLaws

@@ -3,3 +3,4 @@ pub mod Answers
 pub mod FeedsLoop
 pub mod OutputsLoop
 pub mod GatesLoop
+mod PartWrites

@@ -1,0 +1,76 @@
+-- The loop's invariant: the total is 8 and the length of the first g gates, at most 85 for each.
+use mathlib.Core.Path.{_≡_, ap}
+use Prim.Native.Nat.{_+_, _*_, _-_, _≤_, zero-le}
+use native.Mathlib.Omega.{arith}
+use borrow.Author.Needs.{needs}
+use Rattle.pmn.specs.Writing.{gatesLength}
+use Rattle.pmn.specs.WritingLaws.{gatesLength-none, gatesLength-more}
+use Rattle.pmn.proofs.unchecked.writer.file_length.Statement.{statement}
+use Rattle.pmn.proofs.unchecked.writer.file_length.Tie as tie
+
+abbrev Inv-loop : tie.InvT-loop
+Inv-loop fanins gates outputs total₀ g₀ total g = (g ≤ gates) × (total ≡ 8 + gatesLength fanins g) × (total ≤ 8 + 85 * g)
+
+abbrev μ-loop : tie.MeasureT-loop
+μ-loop fanins gates outputs total₀ g₀ total g = gates - g
+
+loop-holds : tie.Need-loop-holds Inv-loop μ-loop
+loop-holds c = let e = gatesLength-none (c .args .fanins .now) in (zero-le, omega arith, omega arith)
+
+element-copy-out-wide : tie.Need-element-copy-out-wide Inv-loop μ-loop
+element-copy-out-wide c = search needs
+
+wide-requires : tie.Need-wide-requires Inv-loop μ-loop
+wide-requires c κs = search needs
+
+mul-total : tie.Need-mul-total Inv-loop μ-loop
+mul-total c = search needs
+
+add-total : tie.Need-add-total Inv-loop μ-loop
+add-total c = search needs
+
+add-total-2 : tie.Need-add-total-2 Inv-loop μ-loop
+add-total-2 c = search needs
+
+add-g : tie.Need-add-g Inv-loop μ-loop
+add-g c = search needs
+
+loop-less : tie.Need-loop-less Inv-loop μ-loop
+loop-less c = search needs
+
+loop-again : tie.Need-loop-again Inv-loop μ-loop
+loop-again c =
+    let l = c .before .before .before .loop in
+    let start = c .before .before .before .before in
+    let e = gatesLength-more (start .args .fanins .now) (l .g) in
+    let m = start .pre .0 .few-feeds (l .g) (omega arith) in
+    (omega arith, omega arith, omega arith)
+
+add-result : tie.Need-add-result Inv-loop μ-loop
+add-result c = search needs
+
+returns : tie.Need-returns Inv-loop μ-loop
+returns c =
+    let l = c .before .loop in
+    let start = c .before .before in
+    let e : l .g ≡ start .args .gates = omega arith in
+    let f = ap (gatesLength (start .args .fanins .now)) e in
+    omega arith
+
+pub file-length-spec : {M : Type 1} → statement M
+file-length-spec =
+    tie.close
+    (tie.spec
+    Inv-loop
+    μ-loop
+    loop-holds
+    element-copy-out-wide
+    wide-requires
+    mul-total
+    add-total
+    add-total-2
+    add-g
+    loop-less
+    loop-again
+    add-result
+    returns)

@@ -1,0 +1,110 @@
+-- The loop's invariant: the first i feeds stand at the front, and after them what stood there at first.
+use mathlib.Core.Path.{_≡_, refl, sym, ap, _∙_}
+use mathlib.Core.List.{List, _∷_, _++_}
+use Prim.Native.Nat.{ℕ, _+_, _*_, _-_, _≤_, zero-le}
+use native.Mathlib.Omega.{arith}
+use lib.ListN.{length, take, drop, getD}
+use lib.IntN.{ℤ, pos}
+use mir.Syntax.{w32}
+use mir.Facts.{toZ-ofZ}
+use borrow.Author.Needs.{needs}
+use Rattle.integers.specs.Word.{intBytes}
+use Rattle.network.specs.Record.{feedAt}
+use Rattle.format.specs.Format.{feedBytes}
+use Rattle.pmn.specs.Writing.{firstFeeds}
+use Rattle.pmn.specs.WritingLaws.{firstFeeds-none, firstFeeds-more, firstFeeds-length}
+use Rattle.pmn.proofs.PartWrites.{write-on}
+use Rattle.pmn.proofs.unchecked.writer.put_feeds.Statement.{statement}
+use Rattle.pmn.proofs.unchecked.writer.put_feeds.Tie as tie
+
+abbrev Inv-loop : tie.InvT-loop
+Inv-loop out₀ signals weights count i₀ out i = (i ≤ count) × (out ≡ firstFeeds signals weights i ++ drop (5 * i) out₀) × (length out ≡ length out₀)
+
+abbrev μ-loop : tie.MeasureT-loop
+μ-loop out₀ signals weights count i₀ out i = count - i
+
+loop-holds : tie.Need-loop-holds Inv-loop μ-loop
+loop-holds c =
+    let start = c .before in
+    (zero-le, sym (ap (λ (l : List ℕ). l ++ start .args .out .now) (firstFeeds-none (start .args .signals .now) (start .args .weights .now))), refl)
+
+mul-at : tie.Need-mul-at Inv-loop μ-loop
+mul-at c = search needs
+
+sub-put-pair : tie.Need-sub-put-pair Inv-loop μ-loop
+sub-put-pair c = search needs
+
+part-put-pair-start : tie.Need-part-put-pair-start Inv-loop μ-loop
+part-put-pair-start c = search needs
+
+part-put-pair-end : tie.Need-part-put-pair-end Inv-loop μ-loop
+part-put-pair-end c = search needs
+
+element-copy-out-put-pair : tie.Need-element-copy-out-put-pair Inv-loop μ-loop
+element-copy-out-put-pair c = search needs
+
+mul-put-pair : tie.Need-mul-put-pair Inv-loop μ-loop
+mul-put-pair c = search needs
+
+element-copy-out-put-pair-2 : tie.Need-element-copy-out-put-pair-2 Inv-loop μ-loop
+element-copy-out-put-pair-2 c = search needs
+
+put-pair-requires : tie.Need-put-pair-requires Inv-loop μ-loop
+put-pair-requires c κs = search needs
+
+add-i : tie.Need-add-i Inv-loop μ-loop
+add-i c = search needs
+
+loop-less : tie.Need-loop-less Inv-loop μ-loop
+loop-less c = search needs
+
+loop-again : tie.Need-loop-again Inv-loop μ-loop
+unfolding feedAt
+loop-again c =
+    let put = c .before .before in
+    let at-loop = put .before .before .before .before .before in
+    let l = at-loop .loop in
+    let start = at-loop .before .before in
+    let ss = start .args .signals .now in
+    let ws = start .args .weights .now in
+    let x₀ = start .args .out .now in
+    let f = feedAt ss ws (l .i) in
+    let n : 5 * (l .i + 1) ≡ 5 * l .i + 5 = omega arith in (
+      omega arith,
+      write-on x₀ (l .out) (put .put-pair .last .0) (firstFeeds ss ws (l .i)) (feedBytes f) (5 * l .i) 5 (l .inv .1) (firstFeeds-length ss ws (l .i)) refl (omega arith)
+          (put .put-pair .ensures
+          ∙ ap (λ (z : ℤ). (getD ss (l .i) 0 ∷ intBytes z) ++ drop 5 (take (length (l .out) - 5 * l .i) (drop (5 * l .i) (l .out)))) (toZ-ofZ {w = w32} {z = getD ws (l .i) (pos 0)} (record { sfits = put .before .put-pair-arg3 .given })))
+          ∙ ap (λ (p : List ℕ). p ++ drop (5 * l .i + 5) x₀) (sym (firstFeeds-more ss ws (l .i)))
+          ∙ ap (λ (k : ℕ). firstFeeds ss ws (l .i + 1) ++ drop k x₀) (sym n),
+      c .before .out .given .1 ∙ l .inv .2,
+    )
+
+same-length : tie.Need-same-length Inv-loop μ-loop
+same-length c = c .before .loop .inv .2
+
+returns : tie.Need-returns Inv-loop μ-loop
+returns c =
+    let l = c .before .loop in
+    let start = c .before .before .before in
+    l .inv .1 ∙ ap (λ (k : ℕ). firstFeeds (start .args .signals .now) (start .args .weights .now) k ++ drop (5 * k) (start .args .out .now)) (let e : l .i ≡ start .args .count = omega arith in e)
+
+pub put-feeds-spec : {M : Type 1} → statement M
+put-feeds-spec =
+    tie.close
+    (tie.spec
+    Inv-loop
+    μ-loop
+    loop-holds
+    mul-at
+    sub-put-pair
+    part-put-pair-start
+    part-put-pair-end
+    element-copy-out-put-pair
+    mul-put-pair
+    element-copy-out-put-pair-2
+    put-pair-requires
+    add-i
+    loop-less
+    loop-again
+    same-length
+    returns)

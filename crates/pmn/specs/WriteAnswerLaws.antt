@@ -1,0 +1,72 @@
+-- Laws of what `write` answers: the limits of a sound record, and each of the three answers. Assumes nothing.
+use mathlib.Core.Path.{_≡_, sym, ap, _∙_}
+use mathlib.Core.Bool.{true, false}
+use mathlib.Core.List.{List, _++_}
+use Prim.Native.Nat.{ℕ, _≤_, _<_}
+use native.Mathlib.Omega.{arith}
+use borrow.Author.Tests.{le-leb, lt-leb}
+use lib.Dec.{leb}
+use lib.ListN.{length, drop, getD}
+use Rattle.integers.specs.Refusals.{Answer, accepted, refused}
+use Rattle.integers.specs.RefusalLaws.{checks-first, checks-next, checks-none}
+use Rattle.integers.specs.Tests.{T-is}
+use Rattle.network.specs.declared.Network.{Network}
+use Rattle.network.specs.Threshold.{Gate}
+use Rattle.network.specs.Record.{gateFrom, netOf, noGate, soundRecord}
+use Rattle.network.specs.LimitLaws.{gates-at}
+use Rattle.network.specs.PlaceLaws.{length-feeds}
+use Rattle.network.specs.RecordLaws.{count-gates, count-outputs, gate-within, sound-net}
+use Rattle.format.specs.Format.{fileBytes}
+use Rattle.pmn.specs.Answers.{writeAnswer, asWritten, written, bytesOf, bytesAfter}
+use Rattle.pmn.specs.Writing.{Counted}
+
+-- the counts of a record are within the limits
+pub record Bounded (r : Network) : Type 0 where
+  pub few-inputs : r .inputs ≤ 40
+  pub few-outputs : r .outputs ≤ 16
+  pub counted : Counted (r .fanins) (r .gates)
+
+pub sound-bounded : (r : Network) → soundRecord r ≡ true → Bounded r
+unfolding netOf gateFrom
+sound-bounded r t =
+    let s = sound-net r (T-is (soundRecord r) t) in
+    record {
+      few-inputs = s .few-inputs .1;
+      few-outputs = omega (arith, s .few-outputs .1, count-outputs r);
+      counted = record {
+        few-gates = omega (arith, s .few-gates .1, count-gates r);
+        few-feeds = λ g h.
+            let k = gates-at (r .inputs) g (netOf r .gates) noGate (s .all-gates) (omega (arith, count-gates r)) .few in
+            let e = ap (λ (x : Gate). length (x .feeds)) (gate-within r g h) ∙ length-feeds (r .signals) (r .weights) _ (getD (r .fanins) g 0) in
+            omega arith;
+      };
+    }
+
+-- 20, broken record
+pub write-broken : (r : Network) (room : ℕ) → soundRecord r ≡ false → writeAnswer r room ≡ refused 20
+unfolding writeAnswer
+write-broken r room h = checks-first (soundRecord r) 20 _ _ h
+
+-- 18, short buffer
+pub write-short : (r : Network) (room : ℕ) → soundRecord r ≡ true → room < length (fileBytes (netOf r)) → writeAnswer r room ≡ refused 18
+unfolding writeAnswer
+write-short r room h k =
+    checks-next (soundRecord r) 20 _ _ h ∙ checks-first (leb (length (fileBytes (netOf r))) room) 18 _ _ (lt-leb (length (fileBytes (netOf r))) room k)
+
+-- the file's length
+pub write-whole : (r : Network) (room : ℕ) → soundRecord r ≡ true → length (fileBytes (netOf r)) ≤ room → writeAnswer r room ≡ accepted (length (fileBytes (netOf r)))
+unfolding writeAnswer
+write-whole r room h k =
+    checks-next (soundRecord r) 20 _ _ h ∙ checks-next (leb (length (fileBytes (netOf r))) room) 18 _ _ (le-leb (length (fileBytes (netOf r))) room k) ∙ checks-none _
+
+-- a refusal's number, and the bytes untouched
+pub written-refused : (r : Network) (k : ℕ) (out : List ℕ) → writeAnswer r (length out) ≡ refused k
+    → (record { code = k; length = 0 } ≡ written r (length out)) × (out ≡ bytesAfter r out)
+unfolding written asWritten bytesAfter bytesOf
+written-refused r k out e = (sym (ap asWritten e), sym (ap (λ (a : Answer ℕ). bytesOf a (fileBytes (netOf r)) out) e))
+
+-- the file's length, and the file at the front
+pub written-whole : (r : Network) (n : ℕ) (out : List ℕ) → writeAnswer r (length out) ≡ accepted n
+    → (record { code = 0; length = n } ≡ written r (length out)) × (fileBytes (netOf r) ++ drop n out ≡ bytesAfter r out)
+unfolding written asWritten bytesAfter bytesOf
+written-whole r n out e = (sym (ap asWritten e), sym (ap (λ (a : Answer ℕ). bytesOf a (fileBytes (netOf r)) out) e))

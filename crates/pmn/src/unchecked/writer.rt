@@ -1,0 +1,135 @@
+// Writing the parts of a file, each at the front of the lent bytes. The bytes after a part stay as they were.
+use crate::Written;
+use network::GateRecord;
+use network::Network;
+ghost use mathlib.Core.Path.{_≡_};
+ghost use mathlib.Core.Bool.{true};
+ghost use mathlib.Core.List.{_++_, _∷_};
+ghost use Prim.Native.Nat.{_+_, _*_, _≤_, _<_};
+ghost use lib.ListN.{length, drop};
+ghost use Rattle.integers.specs.Word.{intBytes};
+ghost use Rattle.network.specs.Record.{gateIn, soundRecord};
+ghost use Rattle.format.specs.Format.{gateBytes};
+ghost use Rattle.pmn.specs.Answers.{written, bytesAfter};
+ghost use Rattle.pmn.specs.Writing.{header, firstFeeds, firstGates, gatesLength, firstOutputs, Counted};
+
+// A byte and a signed number.
+fn put_pair(out: &mut [u8], byte: u8, number: i32)
+    requires { ⌜ 5 ≤ length (now out) ⌝ }
+    ensures { λ _. ⌜ now (out .exit) ≡ (byte ∷ intBytes number) ++ drop 5 (now (out .entry)) ⌝ }
+{
+    out[0] = byte;
+    integers::unchecked::put_int(&mut out[1..], number);
+}
+
+// The first count feeds of a gate's places.
+fn put_feeds<'a>(out: &mut [u8], signals: &'a [u8; 16], weights: &'a [i32; 16], count: usize)
+    requires { ⌜ (count ≤ 16) × (5 * count ≤ length (now out)) ⌝ }
+    ensures { λ _. ⌜ now (out .exit) ≡ firstFeeds (now (signals .entry)) (now (weights .entry)) count ++ drop (5 * count) (now (out .entry)) ⌝ }
+{
+    for i in 0..count {
+        let at = 5 * i;
+        put_pair(&mut out[at..], signals[i], weights[i]);
+    }
+}
+
+// One gate: its feed count, its threshold and its feeds. The answer is its length.
+pub fn put_gate(out: &mut [u8], gate: GateRecord) -> usize
+    requires { ⌜ (gate .fanin ≤ 16) × (5 + 5 * gate .fanin ≤ length (now out)) ⌝ }
+    ensures { λ r. ⌜ r ≡ 5 + 5 * gate .fanin ⌝ }
+    ensures { λ r. ⌜ now (out .exit) ≡ gateBytes (gateIn gate) ++ drop r (now (out .entry)) ⌝ }
+{
+    let count = integers::wide(gate.fanin);
+    put_pair(out, gate.fanin, gate.threshold);
+    put_feeds(&mut out[5..], &gate.signals, &gate.weights, count);
+    5 + 5 * count
+}
+
+// The gates of a record whose arrays are lent, each from the place where its predecessor ended. The answer is their length.
+pub fn put_gates<'a>(
+    out: &mut [u8],
+    fanins: &'a [u8; 128],
+    thresholds: &'a [i32; 128],
+    signals: &'a [u8; 2048],
+    weights: &'a [i32; 2048],
+    gates: usize,
+) -> usize
+    requires { ⌜ Counted (now fanins) gates ⌝ }
+    requires { ⌜ gatesLength (now fanins) gates ≤ length (now out) ⌝ }
+    ensures { λ r. ⌜ r ≡ gatesLength (now (fanins .entry)) gates ⌝ }
+    ensures { λ r. ⌜ now (out .exit) ≡ firstGates (now (fanins .entry)) (now (thresholds .entry)) (now (signals .entry)) (now (weights .entry)) gates ++ drop r (now (out .entry)) ⌝ }
+{
+    let mut at: usize = 0;
+    for g in 0..gates {
+        let gate = network::unchecked::places::gate_at(fanins, thresholds, signals, weights, g);
+        let step = put_gate(&mut out[at..], gate);
+        at += step;
+    }
+    at
+}
+
+// The header with these counts.
+pub fn put_header(out: &mut [u8], inputs: usize, gates: usize, outputs: usize)
+    requires { ⌜ (inputs < 256) × (gates < 256) × (outputs < 256) ⌝ }
+    requires { ⌜ 8 ≤ length (now out) ⌝ }
+    ensures { λ _. ⌜ now (out .exit) ≡ header inputs gates outputs ++ drop 8 (now (out .entry)) ⌝ }
+{
+    out[0] = 80;
+    out[1] = 77;
+    out[2] = 78;
+    out[3] = 1;
+    out[4] = 0;
+    out[5] = inputs as u8;
+    out[6] = gates as u8;
+    out[7] = outputs as u8;
+}
+
+// The outputs.
+pub fn put_outputs(out: &mut [u8], drivers: &[u8; 16], outputs: usize)
+    requires { ⌜ (outputs ≤ 16) × (outputs ≤ length (now out)) ⌝ }
+    ensures { λ _. ⌜ now (out .exit) ≡ firstOutputs (now (drivers .entry)) outputs ++ drop outputs (now (out .entry)) ⌝ }
+{
+    for j in 0..outputs {
+        out[j] = drivers[j];
+    }
+}
+
+// How long the file of a record is.
+pub fn file_length(fanins: &[u8; 128], gates: usize, outputs: usize) -> usize
+    requires { ⌜ Counted (now fanins) gates ⌝ }
+    requires { ⌜ outputs ≤ 16 ⌝ }
+    ensures { λ r. ⌜ r ≡ 8 + gatesLength (now (fanins .entry)) gates + outputs ⌝ }
+{
+    let mut total: usize = 8;
+    for g in 0..gates {
+        total += 5 + 5 * integers::wide(fanins[g]);
+    }
+    total + outputs
+}
+
+// Writes the file of a sound record at the front of the lent bytes, or refuses where the file is longer than these.
+pub fn write_sound(network: Network, out: &mut [u8]) -> Written
+    requires { ⌜ soundRecord network ≡ true ⌝ }
+    ensures { λ r. ⌜ r ≡ written network (length (now (out .entry))) ⌝ }
+    ensures { λ _. ⌜ now (out .exit) ≡ bytesAfter network (now (out .entry)) ⌝ }
+{
+    let length = file_length(&network.fanins, network.gates, network.outputs);
+    if out.len() < length {
+        return Written {
+            code: 18,
+            length: 0,
+        };
+    }
+    put_header(out, network.inputs, network.gates, network.outputs);
+    let gates = put_gates(
+        &mut out[8..],
+        &network.fanins,
+        &network.thresholds,
+        &network.signals,
+        &network.weights,
+        network.gates,
+    );
+    let at = 8 + gates;
+    put_outputs(&mut out[at..], &network.drivers, network.outputs);
+    Written { code: 0, length }
+}
