@@ -6,11 +6,11 @@ use Prim.Native.Nat.{ℕ, zero, suc, _+_, _≤_, _<_}
 use native.Mathlib.Omega.{arith}
 use lib.ListN.{length, drop, getD, drop-of-length-le}
 use lib.Seq.{drop-cons}
+use lib.Dec.{eqb}
 use Rattle.integers.specs.Lists.{between}
 use Rattle.network.specs.Threshold.{Gate, Net}
 use Rattle.network.specs.RecordTests.{countsOk}
 use Rattle.format.specs.Format.{Read, refused, done, check, andThen, atEnd, parseGates, parseOutputs, parseBody, parseHead, parseFile}
-use Rattle.format.specs.Head.{markOk, versionOk, headCounts, readBody}
 
 -- ---- the header
 
@@ -40,6 +40,19 @@ eight (a ∷ b ∷ c ∷ d ∷ e ∷ f ∷ g ∷ i ∷ l) h = refl
 check-both : {A : Type 0} (a b : Bool) (k : ℕ) (r : Read A) → check a k (check b k r) ≡ check (a && b) k r
 check-both true b k r = refl
 check-both false b k r = refl
+
+-- the tests of the header, and what follows it
+abbrev markOk : List ℕ → Bool
+markOk s = eqb (getD s 0 0) 80 && (eqb (getD s 1 0) 77 && eqb (getD s 2 0) 78)
+
+abbrev versionOk : List ℕ → Bool
+versionOk s = eqb (getD s 3 0) 1 && eqb (getD s 4 0) 0
+
+abbrev headCounts : List ℕ → Bool
+headCounts s = countsOk (getD s 5 0) (getD s 6 0) (getD s 7 0)
+
+abbrev readBody : List ℕ → Read Net
+readBody s = parseBody (getD s 5 0) (getD s 6 0) (getD s 7 0) (drop 8 s)
 
 module _ (s : List ℕ) (h : 8 ≤ length s) where
   head-tests : parseFile s ≡ check (markOk s) 1 (check (versionOk s) 2 (check (headCounts s) 3 (readBody s)))

@@ -4,8 +4,8 @@ use mathlib.Core.List.{List}
 use Prim.Native.Nat.{ℕ, zero, suc, _≤_, _<_}
 use native.Mathlib.Omega.{arith}
 use lib.ListN.{length, drop}
-use Rattle.format.specs.Format.{Read, refused, done}
-use Rattle.pmn.specs.Seen.{byCode, mapped, Seen}
+use Rattle.format.specs.Format.{Read, refused, done, parseBody, parseFile}
+use Rattle.pmn.specs.Seen.{byCode, HeadSeen, mapped, Seen}
 
 -- a code that is not 0
 pub by-refusal : {A : Type 0} (code : ℕ) (r : Read A) → (code ≡ 0 → ⊥) → byCode code r ≡ refused code
@@ -46,3 +46,10 @@ mapped-twice f g (done a l) = refl
 
 pub seen-through : {A B C : Type 0} (f : A → B) (g : B → C) {s : List ℕ} {p : Read A} {q : Read B} {code next : ℕ} {value : C} → Seen (λ a. g (f a)) s p code next value → q ≡ mapped f p → Seen g s q code next value
 seen-through f g {s} {p} h e = record { inside = h .inside; says = h .says ∙ mapped-twice f g p ∙ sym (ap (mapped g) e) }
+
+-- the answer for a header that is refused
+pub head-refused : {s : List ℕ} {code inputs gates outputs : ℕ} (k : ℕ) → 0 < k → code ≡ k → parseFile s ≡ refused k → HeadSeen s code inputs gates outputs
+head-refused {s} {code} {inputs} {gates} {outputs} k h e r = record {
+  says = r ∙ ap refused (sym e) ∙ sym (by-refusal code (parseBody inputs gates outputs (drop 8 s)) (λ z. omega arith));
+  counts = λ z. absurd (omega arith);
+}

@@ -4,3 +4,4 @@ pub mod FeedsLoop
 pub mod OutputsLoop
 pub mod GatesLoop
 mod PartWrites
+pub mod Body

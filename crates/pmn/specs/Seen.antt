@@ -8,9 +8,28 @@ use Rattle.network.specs.Threshold.{Feed, Gate}
 use Rattle.network.specs.Record.{gateRecord, driversOf, layout}
 use Rattle.network.specs.declared.GateRecord.{GateRecord}
 use Rattle.network.specs.declared.Network.{Network}
-use Rattle.format.specs.Format.{Read, refused, done, andThen, parseFeed}
+use Rattle.format.specs.Format.{Read, refused, done, andThen, parseFeed, parseBody, parseFile}
 use Rattle.pmn.specs.declared.unchecked.reader.FeedRead.{FeedRead}
 use Rattle.pmn.specs.declared.unchecked.reader.FeedRead.the-variants.{Bad, Got}
+
+-- the refusal where the code is not 0, else r
+abbrev pub byCode : {A : Type 0} → ℕ → Read A → Read A
+byCode zero r = r
+byCode (suc k) r = refused (suc k)
+
+-- ---- the header
+
+-- a header with counts that are within the limits
+pub record Counted (s : List ℕ) (inputs gates outputs : ℕ) : Type 0 where
+  pub long : 8 ≤ length s
+  pub few-inputs : inputs ≤ 40
+  pub few-gates : gates ≤ 128
+  pub few-outputs : outputs ≤ 16
+
+-- an answer for the header of the file s: where the code is 0, what follows the header decides; else the code is the file's refusal
+pub record HeadSeen (s : List ℕ) (code inputs gates outputs : ℕ) : Type 0 where
+  pub says : parseFile s ≡ byCode code (parseBody inputs gates outputs (drop 8 s))
+  pub counts : code ≡ 0 → Counted s inputs gates outputs
 
 -- ---- a feed
 
@@ -29,11 +48,6 @@ pub record FeedSeen (own low at : ℕ) (s : List ℕ) (r : FeedRead) : Type 0 wh
   pub inside : feedInside s at r
 
 -- ---- longer parts
-
--- the refusal where the code is not 0, else r
-abbrev pub byCode : {A : Type 0} → ℕ → Read A → Read A
-byCode zero r = r
-byCode (suc k) r = refused (suc k)
 
 -- a read with its value put through f
 abbrev pub mapped : {A B : Type 0} → (A → B) → Read A → Read B

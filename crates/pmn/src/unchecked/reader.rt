@@ -1,21 +1,32 @@
-// Reading the parts of a file by their places: a feed, a gate, the outputs. A code of 0 says that the part was read, and that the
-// next one starts at `next`; any other code is the refusal.
+// Reading the parts of a file by their places: the header, a feed, a gate, the gates, the outputs. A code of 0 says that the part
+// was read, and that the next one starts at `next`; any other code is the refusal.
 ghost use mathlib.Core.Path.{_≡_};
 ghost use mathlib.Core.List.{[]};
 ghost use Prim.Native.Nat.{_+_, _≤_, _<_};
 ghost use lib.ListN.{length, drop};
 ghost use Rattle.network.specs.Record.{gateRecord};
-ghost use Rattle.format.specs.Format.{parseFeeds, parseGate, parseGates, parseOutputs};
-ghost use Rattle.pmn.specs.Seen.{Seen, FeedSeen, gateOf, gatesOf, outputPlaces};
+ghost use Rattle.format.specs.Format.{refused, parseFeeds, parseGate, parseGates, parseOutputs, parseBody};
+ghost use Rattle.pmn.specs.Answers.{asLoaded};
+ghost use Rattle.pmn.specs.Seen.{HeadSeen, Counted, FeedSeen, Seen, gateOf, gatesOf, outputPlaces};
+use crate::Loaded;
 use integers::unchecked::get_int;
 use integers::wide;
 use network::GateRecord;
 use network::Network;
 use network::blank;
+use network::soundness::counts_sound;
 use network::soundness::in_scale;
 use network::soundness::weight_sound;
 use network::unchecked::places::store_signals;
 use network::unchecked::places::store_weights;
+
+// The counts of a header.
+pub struct HeadRead {
+    pub code: u8,
+    pub inputs: usize,
+    pub gates: usize,
+    pub outputs: usize,
+}
 
 // A feed, or the refusal.
 pub enum FeedRead {
@@ -42,6 +53,47 @@ pub struct OutputsRead {
     pub code: u8,
     pub next: usize,
     pub drivers: [u8; 16],
+}
+
+// The answer for a header that is refused.
+fn no_head(code: u8) -> HeadRead
+    ensures { λ r. ⌜ r .code ≡ code ⌝ }
+{
+    HeadRead {
+        code,
+        inputs: 0,
+        gates: 0,
+        outputs: 0,
+    }
+}
+
+// The header.
+pub fn read_head(file: &[u8]) -> HeadRead
+    ensures { λ r. ⌜ HeadSeen (now (file .entry)) (r .code) (r .inputs) (r .gates) (r .outputs) ⌝ }
+{
+    if file.len() < 8 {
+        return no_head(1);
+    }
+    let mark = (file[0] == 80) & ((file[1] == 77) & (file[2] == 78));
+    if !mark {
+        return no_head(1);
+    }
+    let version = (file[3] == 1) & (file[4] == 0);
+    if !version {
+        return no_head(2);
+    }
+    let inputs = wide(file[5]);
+    let gates = wide(file[6]);
+    let outputs = wide(file[7]);
+    if !counts_sound(inputs, gates, outputs) {
+        return no_head(3);
+    }
+    HeadRead {
+        code: 0,
+        inputs,
+        gates,
+        outputs,
+    }
 }
 
 // The feed at a place, of the gate with signal own; its signal is low at least.
@@ -244,4 +296,37 @@ pub fn read_outputs(file: &[u8], start: usize, low: usize, top: usize, count: us
         next: at,
         drivers,
     }
+}
+
+// The answer for a file that is refused.
+pub fn refuse(code: u8) -> Loaded
+    ensures { λ r. ⌜ r ≡ asLoaded (refused code) ⌝ }
+{
+    let network = blank();
+    Loaded { code, network }
+}
+
+// What follows the header of a file with so many inputs, gates and outputs.
+pub fn read_body(file: &[u8], inputs: usize, gates: usize, outputs: usize) -> Loaded
+    requires { ⌜ Counted (now file) inputs gates outputs ⌝ }
+    ensures { λ r. ⌜ r ≡ asLoaded (parseBody inputs gates outputs (drop 8 (now (file .entry)))) ⌝ }
+{
+    let body = read_gates(file, 8, inputs, gates);
+    let code = body.code;
+    if code != 0 {
+        return refuse(code);
+    }
+    let ends = read_outputs(file, body.next, inputs, inputs + gates, outputs);
+    let code = ends.code;
+    if code != 0 {
+        return refuse(code);
+    }
+    if ends.next < file.len() {
+        return refuse(9);
+    }
+    let mut network = body.network;
+    let drivers = ends.drivers;
+    network.outputs = outputs;
+    network.drivers = drivers;
+    Loaded { code: 0, network }
 }
