@@ -9,7 +9,7 @@ use Rattle.integers.specs.ListLaws.{Each}
 use Rattle.network.specs.Threshold.{Feed, Gate, Net}
 use Rattle.network.specs.Limits.{signalsOf}
 use Rattle.network.specs.LimitLaws.{Rise, GateOk, Gates, Sound}
-use Rattle.format.specs.Format.{feedBytes, feedsBytes, gateBytes, gatesBytes, fileBytes, Bytes}
+use Rattle.format.specs.Format.{feedBytes, feedsBytes, gateBytes, gatesBytes, headerBytes, fileBytes, Bytes}
 
 -- ---- lengths
 pub feedsBytes-length : (fs : List Feed) → length (feedsBytes fs) ≡ 5 * length fs
@@ -59,34 +59,19 @@ outputs-bytes : (low top : ℕ) (ss : List ℕ) → top ≤ 256 → Each (λ s. 
 outputs-bytes low top [] k h = tt
 outputs-bytes low top (s ∷ ss) k h = (omega (arith, h .0 .1), outputs-bytes low top ss k (h .1))
 
+header-bytes : (N : Net) → Sound N → Bytes (headerBytes N)
+header-bytes N s =
+    let i = s .few-inputs in
+    let g = s .few-gates in
+    let o = s .few-outputs in
+    bytes-append (80 ∷ 77 ∷ 78 ∷ 1 ∷ 0 ∷ []) (N .inputs ∷ length (N .gates) ∷ length (N .outputs) ∷ [])
+    (omega arith, (omega arith, (omega arith, (omega arith, (omega arith, tt))))) (omega arith, (omega arith, (omega arith, tt)))
+
 -- the file of a sound network is a list of bytes
 pub file-bytes : (N : Net) → Sound N → Bytes (fileBytes N)
 file-bytes N s =
     let i = s .few-inputs in
     let g = s .few-gates in
-    let o = s .few-outputs in (
-      omega arith,
-      (
-        omega arith,
-        (
-          omega arith,
-          (
-            omega arith,
-            (
-              omega arith,
-              (
-                omega arith,
-                (
-                  omega arith,
-                  (
-                    omega arith,
-                    bytes-append (gatesBytes (N .gates)) (N .outputs) (gates-bytes (N .inputs) (N .gates) (omega arith) (s .all-gates))
-                        (outputs-bytes (N .inputs) (N .inputs + length (N .gates)) (N .outputs) (omega arith) (s .all-outputs)),
-                  ),
-                ),
-              ),
-            ),
-          ),
-        ),
-      ),
-    )
+    bytes-append (headerBytes N) (gatesBytes (N .gates) ++ N .outputs) (header-bytes N s)
+    (bytes-append (gatesBytes (N .gates)) (N .outputs) (gates-bytes (N .inputs) (N .gates) (omega arith) (s .all-gates))
+    (outputs-bytes (N .inputs) (N .inputs + length (N .gates)) (N .outputs) (omega arith) (s .all-outputs)))

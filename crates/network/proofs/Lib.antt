@@ -1,2 +1,5 @@
+pub mod SumLaws
+pub mod SignalLaws
+pub mod OutputLaws
 pub mod RangeLaws
 pub mod SoundnessLaws

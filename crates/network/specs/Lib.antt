@@ -4,6 +4,10 @@ pub mod Record
 pub mod Changes
 pub mod Reading
 pub mod LimitLaws
+pub mod Evaluation
+pub mod WordLaws
+pub mod SoundLaws
+pub mod RecordTests
 pub mod TableLaws
 pub mod Places
 pub mod PasteLaws
@@ -11,4 +15,5 @@ pub mod PlaceLaws
 pub mod TestLaws
 pub mod SpareLaws
 pub mod RecordLaws
-pub mod RecordTests
+pub mod ReplaceLaws
+pub mod RemoveLaws

@@ -84,6 +84,10 @@ gateIn-gateRecord g h = λ x. record {
   threshold = g .threshold;
 }
 
+-- a gate's 16 places are those of the gate that they stand for
+pub gateRecord-again : (g : Gate) → length (g .feeds) ≤ 16 → gateRecord g ≡ gateRecord (gateIn (gateRecord g))
+gateRecord-again g h = ap gateRecord (sym (gateIn-gateRecord g h))
+
 -- ---- one gate changed or added
 
 -- hs is gs but for gate g, which is x

@@ -9,15 +9,15 @@ use native.Mathlib.Omega.{arith}
 use lib.Dec.{T, T-not, ltb, lt→ltb, ltb→lt}
 use lib.IntN.{pos}
 use lib.ListN.{length, getD, List·getD-eq-default}
-use Rattle.integers.specs.Tests.{T-and, and-T}
+use Rattle.integers.specs.Tests.{T-is, T-and, and-T}
 use Rattle.integers.specs.ListLaws.{length-tab, getD-tab, tab-of, tab-same}
 use Rattle.network.specs.declared.Network.{Network}
 use Rattle.network.specs.Threshold.{Feed, Gate, Net}
-use Rattle.network.specs.Limits.{sound}
-use Rattle.network.specs.LimitLaws.{Has, Sound, sound-of, of-sound, gates-at}
+use Rattle.network.specs.Limits.{isGate, sound}
+use Rattle.network.specs.LimitLaws.{Has, has-of, Sound, sound-of, of-sound, gates-at}
 use Rattle.network.specs.Record.{feedAt, gateFrom, gateOf, netOf, noFeed, noGate, nthGate, placeOf, faninsOf, thresholdsOf, placeSignals, placeWeights, driversOf, layout, usedPlace, spareClear, soundRecord, gateRecord}
 use Rattle.network.specs.Changes.{gateAt}
-use Rattle.network.specs.Places.{rowAt}
+use Rattle.network.specs.Places.{rowAt, SoundGate}
 use Rattle.network.specs.TestLaws.{test-case}
 use Rattle.network.specs.SpareLaws.{Spare, spare-of, of-spare}
 use Rattle.network.specs.PlaceLaws.{place-at, length-feeds, feeds-at, gate-beyond, has-gate, place-beyond, place-read, gate-back}
@@ -199,3 +199,10 @@ unfolding gateAt netOf
 row-gateAt r v t h =
     let l : v - r .inputs < r .gates = omega (arith, h, count-gates r) in
     row-gate r (v - r .inputs) t l ∙ ap gateRecord (sym (gate-within r (v - r .inputs) l))
+
+-- where the gate with signal v stands
+pub gate-number : (r : Network) (v : ℕ) → SoundGate r v → (r .inputs ≤ v) × (v - r .inputs < r .gates) × (r .gates ≤ 128)
+unfolding netOf
+gate-number r v s =
+    let h = has-of (netOf r) v (T-is (isGate (netOf r) v) (s .gate)) in
+    omega (arith, h, count-gates r, sound-net r (T-is (soundRecord r) (s .sound)) .few-gates)

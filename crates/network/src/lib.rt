@@ -1,6 +1,12 @@
 // Threshold networks: the record of a network, the test of its soundness, and the reading of a frame.
+pub mod soundness;
+pub mod unchecked;
+
 ghost use mathlib.Core.Path.{_≡_};
+ghost use Prim.Native.Nat.{_≤_};
+ghost use Rattle.network.specs.Threshold.{fitsFrame};
 ghost use Rattle.network.specs.Record.{blankRecord};
+ghost use Rattle.network.specs.Reading.{reading};
 
 // A network record: the counts, each gate's feed count and threshold, 2,048 feed places (128 gates of 16) and the outputs'
 // signals. Gate g's feed i stands at place 16 g + i; spare places hold 0.
@@ -51,5 +57,34 @@ pub fn blank() -> Network
     }
 }
 
-pub mod soundness;
-pub mod unchecked;
+// Whether a frame has no bit at an input's number or above.
+fn fits_frame(inputs: usize, frame: u64) -> bool
+    requires { ⌜ inputs ≤ 40 ⌝ }
+    ensures { λ r. ⌜ r ≡ fitsFrame inputs frame ⌝ }
+{
+    (frame >> inputs) == 0
+}
+
+fn refused(code: u8) -> Reading
+    ensures { λ r. ⌜ r ≡ record { code = code; bits = 0; ones = 0 } ⌝ }
+{
+    Reading {
+        code,
+        bits: 0,
+        ones: 0,
+    }
+}
+
+// The outputs on a frame. Refusals: 20 broken record, 10 long frame.
+pub fn read_frame(network: Network, frame: u64) -> Reading
+    ensures { λ r. ⌜ r ≡ reading network frame ⌝ }
+{
+    if !soundness::is_sound(network) {
+        return refused(20);
+    }
+    let inputs = network.inputs;
+    if !fits_frame(inputs, frame) {
+        return refused(10);
+    }
+    unchecked::evaluation::read_outputs(network, frame)
+}

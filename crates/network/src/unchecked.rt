@@ -1,2 +1,3 @@
-// Calls that keep a requirement on their caller.
+// Calls on records that the caller has tested. Each public one asks for a sound record, or for places in range.
+pub mod evaluation;
 pub mod places;

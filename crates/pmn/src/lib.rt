@@ -1,10 +1,9 @@
 // The PMN file: reading it into a record, writing a record as a file, and the bytes of one gate.
-ghost use mathlib.Core.Path.{_≡_};
-ghost use Rattle.pmn.specs.Answers.{loaded};
 use network::Network;
-use unchecked::reader::read_body;
-use unchecked::reader::read_head;
-use unchecked::reader::refuse;
+use unchecked::reader;
+ghost use mathlib.Core.Path.{_≡_};
+ghost use lib.ListN.{length};
+ghost use Rattle.pmn.specs.Answers.{loaded, written, bytesAfter};
 
 // What `read` answers: 0 or the refusal, and the network; the blank record on refusal.
 pub struct Loaded {
@@ -22,12 +21,28 @@ pub struct Written {
 pub fn read(file: &[u8]) -> Loaded
     ensures { λ r. ⌜ r ≡ loaded (now (file .entry)) ⌝ }
 {
-    let head = read_head(file);
+    let head = reader::read_head(file);
     let code = head.code;
     if code != 0 {
-        return refuse(code);
+        return reader::refuse(code);
     }
-    read_body(file, head.inputs, head.gates, head.outputs)
+    reader::read_body(file, head.inputs, head.gates, head.outputs)
+}
+
+// Writes the file of a record at the front of the lent bytes. The answer is the file's length, or 20 for a broken record, or 18 where
+// the file is longer than the lent bytes.
+pub fn write(network: Network, out: &mut [u8]) -> Written
+    ensures { λ r. ⌜ r ≡ written network (length (now (out .entry))) ⌝ }
+    ensures { λ _. ⌜ now (out .exit) ≡ bytesAfter network (now (out .entry)) ⌝ }
+{
+    if network::soundness::is_sound(network) {
+        unchecked::writer::write_sound(network, out)
+    } else {
+        Written {
+            code: 20,
+            length: 0,
+        }
+    }
 }
 
 mod unchecked;

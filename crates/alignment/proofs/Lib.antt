@@ -1,0 +1,4 @@
+pub mod Combine
+pub mod Gather
+pub mod Mix
+pub mod Store

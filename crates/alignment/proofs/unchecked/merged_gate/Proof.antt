@@ -1,0 +1,172 @@
+-- `merged_gate` meets its contract: of the first i distinct feeds those with a sum other than 0 are listed. Assumes nothing.
+use mathlib.Core.Path.{_≡_, refl, sym, _∙_}
+use mathlib.Core.Logic.{⊎-elim}
+use Prim.Native.Nat.{_≤_, _<_, _-_}
+use native.Mathlib.Omega.{arith}
+use lib.IntN.{pos, natAbs}
+use lib.ListN.{length, getD}
+use mir.Syntax.{w32}
+use mir.Val.{toZ, ofZ}
+use borrow.Author.Needs.{sfits-of}
+use borrow.Author.Tests.{eq-eqb, ne-eqb}
+use Rattle.integers.specs.Size.{read-back}
+use Rattle.network.specs.Limits.{isZero}
+use Rattle.folding.specs.Aligned.{level, mix}
+use Rattle.alignment.specs.Alignments.{alignedIn, Mixable}
+use Rattle.alignment.proofs.Combine.{mix-at, weight-mixable, level-mixable, Combined, combined-none, combined-few, combined-drop, combined-store, combined-all}
+use borrow.Author.Needs.{needs}
+use Rattle.alignment.proofs.unchecked.merged_gate.Statement.{statement}
+use Rattle.alignment.proofs.unchecked.merged_gate.Tie as tie
+
+abbrev Inv-loop : tie.InvT-loop
+Inv-loop k l a signals₀ weights₀ fanin₀ count i₀ signals weights fanin i =
+    (i ≤ a .count) × Combined a k l i fanin signals weights
+
+abbrev μ-loop : tie.MeasureT-loop
+μ-loop k l a signals₀ weights₀ fanin₀ count i₀ signals weights fanin i = a .count - i
+
+-- bounds
+i-low : (c : tie.In-loop Inv-loop μ-loop) → c .before .loop .i < 16
+i-low c = omega (arith, c .loop-test .taken, c .before .before .pre .few)
+
+fanin-low : (c : tie.In-loop Inv-loop μ-loop) → c .before .loop .fanin < 16
+fanin-low c =
+    let a = c .before .before .args in
+    let l = c .before .loop in
+    omega (arith, i-low c, combined-few (a .t1) (a .k) (a .l) (l .i) (l .fanin) (l .signals) (l .weights) (l .inv .1))
+
+-- the two weights at i, and their mix
+x-is : (c : tie.After-mixed-weight-arg Inv-loop μ-loop) → toZ w32 (ofZ w32 (getD (c .before .before .before .args .t1 .us) (c .before .before .loop .i) (pos 0))) ≡ getD (c .before .before .before .args .t1 .us) (c .before .before .loop .i) (pos 0)
+x-is c = read-back w32 {r = getD (c .before .before .before .args .t1 .us) (c .before .before .loop .i) (pos 0)} (c .mixed-weight-arg .given) refl
+
+y-is : (c : tie.After-mixed-weight-arg2 Inv-loop μ-loop) → toZ w32 (ofZ w32 (getD (c .before .before .before .before .args .t1 .vs) (c .before .before .before .loop .i) (pos 0))) ≡ getD (c .before .before .before .before .args .t1 .vs) (c .before .before .before .loop .i) (pos 0)
+y-is c = read-back w32 {r = getD (c .before .before .before .before .args .t1 .vs) (c .before .before .before .loop .i) (pos 0)} (c .mixed-weight-arg2 .given) refl
+
+mixable : (c : tie.After-mixed-weight-arg2 Inv-loop μ-loop) → Mixable (getD (c .before .before .before .before .args .t1 .us) (c .before .before .before .loop .i) (pos 0)) (getD (c .before .before .before .before .args .t1 .vs) (c .before .before .before .loop .i) (pos 0)) (c .before .before .before .before .args .k) (c .before .before .before .before .args .l)
+mixable c =
+    let s = c .before .before .before .before in
+    let n : length (s .args .t1 .us) ≡ 16 = search needs in
+    weight-mixable (s .args .t1) (s .args .k) (s .args .l) (s .pre) n (c .before .before .before .loop .i) (c .before .before .loop-test .taken) (sfits-of (c .before .mixed-weight-arg .given)) (sfits-of (c .mixed-weight-arg2 .given))
+
+w-is : (c : tie.After-mixed-weight Inv-loop μ-loop) → toZ w32 (ofZ w32 (c .mixed-weight .result)) ≡ mix (alignedIn (c .before .before .before .before .before .args .t1)) (c .before .before .before .before .before .args .k) (c .before .before .before .before .before .args .l) (c .before .before .before .before .loop .i)
+w-is c =
+    let a = c .before .before .before .before .before .args in
+    read-back w32 (c .mixed-weight .ok) (rw (x-is (c .before .before), y-is (c .before)) at (c .mixed-weight .ensures) ∙ sym (mix-at (a .t1) (a .k) (a .l) (c .before .before .before .before .loop .i) (c .before .before .before .loop-test .taken)))
+
+-- the thresholds and b, as the machine reads them back
+tu-is : (c : tie.Start Inv-loop μ-loop) → toZ w32 (ofZ w32 (c .args .t1 .tu)) ≡ c .args .t1 .tu
+tu-is c = search needs
+
+tv-is : (c : tie.Start Inv-loop μ-loop) → toZ w32 (ofZ w32 (c .args .t1 .tv)) ≡ c .args .t1 .tv
+tv-is c = search needs
+
+b-is : (c : tie.Start Inv-loop μ-loop) → toZ w32 (ofZ w32 (c .args .t1 .b)) ≡ c .args .t1 .b
+b-is c = search needs
+
+loop-holds : tie.Need-loop-holds Inv-loop μ-loop
+loop-holds c = (omega arith, combined-none (c .args .t1) (c .args .k) (c .args .l))
+
+mul-mixed-weight : tie.Need-mul-mixed-weight Inv-loop μ-loop
+mul-mixed-weight c = search needs
+
+element-copy-out-mixed-weight : tie.Need-element-copy-out-mixed-weight Inv-loop μ-loop
+element-copy-out-mixed-weight c = i-low c
+
+mul-mixed-weight-2 : tie.Need-mul-mixed-weight-2 Inv-loop μ-loop
+mul-mixed-weight-2 c = search needs
+
+element-copy-out-mixed-weight-2 : tie.Need-element-copy-out-mixed-weight-2 Inv-loop μ-loop
+element-copy-out-mixed-weight-2 c = i-low (c .before)
+
+mixed-weight-requires : tie.Need-mixed-weight-requires Inv-loop μ-loop
+mixed-weight-requires c κs = rw (x-is (c .before), y-is c) (mixable c)
+
+magnitude-requires : tie.Need-magnitude-requires Inv-loop μ-loop
+magnitude-requires c κs = search needs
+
+element-copy-out-signals : tie.Need-element-copy-out-signals Inv-loop μ-loop
+element-copy-out-signals c = i-low (c .before .before .before .before .before)
+
+array-write-signals : tie.Need-array-write-signals Inv-loop μ-loop
+array-write-signals c = fanin-low (c .before .before .before .before .before .before)
+
+mul-weights : tie.Need-mul-weights Inv-loop μ-loop
+mul-weights c = record { fits = omega (arith, fanin-low (c .before .before .before .before .before .before)) }
+
+array-set-from-weights : tie.Need-array-set-from-weights Inv-loop μ-loop
+array-set-from-weights c = fanin-low (c .before .before .before .before .before .before)
+
+add-fanin : tie.Need-add-fanin Inv-loop μ-loop
+add-fanin c = record { fits = omega (arith, fanin-low (c .before .before .before .before .before .before)) }
+
+add-i : tie.Need-add-i Inv-loop μ-loop
+add-i c = search needs
+
+loop-less : tie.Need-loop-less Inv-loop μ-loop
+loop-less c = search needs
+
+loop-again : tie.Need-loop-again Inv-loop μ-loop
+unfolding isZero
+loop-again c =
+    let a = c .before .before .before .before .before .before .before .args in
+    let l = c .before .before .before .before .before .before .loop in
+    let m = c .before .before in
+    let z = toZ w32 (ofZ w32 (m .mixed-weight .result)) in
+    let size = c .before .magnitude .ensures in (
+      omega arith,
+      ⊎-elim
+          (λ w.
+          rw (w .2, w .3, w .4)
+          (combined-store (a .t1) (a .k) (a .l) (l .i) (l .fanin) (l .signals) (l .weights) (l .inv .1) z (w-is m) (ne-eqb (natAbs z) 0 (λ q. w .0 .taken (size ∙ q)))))
+          (λ w.
+          rw (w .1, w .2, w .3)
+          (combined-drop (a .t1) (a .k) (a .l) (l .i) (l .fanin) (l .signals) (l .weights) (l .inv .1) z (w-is m) (eq-eqb (natAbs z) 0 (sym size ∙ w .0 .left))))
+          (c .if1 .came),
+    )
+
+mixed-level-requires : tie.Need-mixed-level-requires Inv-loop μ-loop
+mixed-level-requires c κs =
+    let s = c .before .before .before .before .before in
+    rw (tu-is s, tv-is s, b-is s) (level-mixable (s .args .t1) (s .args .k) (s .args .l) (s .pre) (search needs) (search needs) (search needs))
+
+cast-t33 : tie.Need-cast-t33 Inv-loop μ-loop
+cast-t33 c =
+    let a = c .before .before .before .before .before .before in
+    let l = c .before .before .before .before .before .loop in
+    record { fits = omega (arith, a .pre .few, l .inv .0, combined-few (a .args .t1) (a .args .k) (a .args .l) (l .i) (l .fanin) (l .signals) (l .weights) (l .inv .1)) }
+
+returns : tie.Need-returns Inv-loop μ-loop
+unfolding level alignedIn
+returns c =
+    let s = c .before .before .before .before .before .before in
+    let a = s .args in
+    let l = c .before .before .before .before .before .loop in
+    let end : l .i ≡ a .t1 .count = omega (arith, l .inv .0, c .before .before .before .before .loop-test .left) in
+    let t = read-back w32 (c .mixed-level .ok) (rw (tu-is s, tv-is s, b-is s) at (c .mixed-level .ensures)) in
+    (λ j. record { fanin = l .fanin; threshold = t j; signals = l .signals; weights = l .weights })
+    ∙ combined-all (a .t1) (a .k) (a .l) (l .fanin) (l .signals) (l .weights) (rw end at (l .inv .1))
+
+pub merged-gate-spec : {M : Type 1} → statement M
+merged-gate-spec =
+    tie.close
+    (tie.spec
+    Inv-loop
+    μ-loop
+    loop-holds
+    mul-mixed-weight
+    element-copy-out-mixed-weight
+    mul-mixed-weight-2
+    element-copy-out-mixed-weight-2
+    mixed-weight-requires
+    magnitude-requires
+    element-copy-out-signals
+    array-write-signals
+    mul-weights
+    array-set-from-weights
+    add-fanin
+    add-i
+    loop-less
+    loop-again
+    mixed-level-requires
+    cast-t33
+    returns)

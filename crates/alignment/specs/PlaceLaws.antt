@@ -1,0 +1,98 @@
+-- Laws of tables and of the 16 places of a list: a store, and one member more. Assumes nothing.
+use mathlib.Core.Path.{_≡_, refl, sym, ap, _∙_}
+use mathlib.Core.Bool.{Bool, true, false, cond}
+use mathlib.Core.List.{List, [], _∷_, _++_, map}
+use Prim.Native.Nat.{ℕ, zero, suc, _≤_, _<_}
+use native.Mathlib.Omega.{arith}
+use lib.Dec.{eqb, eqb·zero-suc, eqb·suc-zero, eqb·suc-suc}
+use lib.ListN.{length, getD, take, set, replicate, length-set, length-map}
+use lib.Seq.{length-take-le, ext-getD, getD-set-same, getD-set-other, getD-take, set-out}
+use borrow.Author.Tests.{eqb-true, eqb-false}
+use Rattle.integers.specs.Lists.{keep, tab}
+use Rattle.integers.specs.ListLaws.{length-tab, getD-tab, tab-same, tab-replicate}
+use Rattle.alignment.specs.Alignments.{places}
+
+module _ {A : Type 0} where
+  -- ---- a store into a table
+
+  pub set-tab : (n : ℕ) (f : ℕ → A) (i : ℕ) (x : A) → set (tab n f) i x ≡ tab n (λ j. cond (eqb i j) x (f j))
+  set-tab n f i x = ext-getD x (set (tab n f) i x) (tab n (λ j. cond (eqb i j) x (f j)))
+      (length-set (tab n f) i x ∙ length-tab n f ∙ sym (length-tab n (λ j. cond (eqb i j) x (f j))))
+      λ j h. at j (omega (arith, h, length-set (tab n f) i x, length-tab n f)) ∙ sym (getD-tab x n (λ j. cond (eqb i j) x (f j)) j (omega (arith, h, length-set (tab n f) i x, length-tab n f)))
+    where
+      at : (j : ℕ) → j < n → getD (set (tab n f) i x) j x ≡ cond (eqb i j) x (f j)
+      at j h = elim (eqb i j) as (λ b. eqb i j ≡ b → getD (set (tab n f) i x) j x ≡ cond b x (f j)) [
+        | true ↦ λ e. rw (eqb-true i j e) (getD-set-same (tab n f) j x x (omega (arith, length-tab n f)))
+        | false ↦ λ e. getD-set-other (tab n f) i j x x (λ q. eqb-false i j e (sym q)) ∙ getD-tab x n f j h
+      ] refl
+
+  -- ---- one member more at the end
+
+  pub getD-last : (xs : List A) (x d : A) (i : ℕ) → getD (xs ++ (x ∷ [])) i d ≡ cond (eqb (length xs) i) x (getD xs i d)
+  getD-last [] x d zero = refl
+  getD-last [] x d (suc i) = rw (eqb·zero-suc i)
+  getD-last (y ∷ ys) x d zero = rw (eqb·suc-zero (length ys))
+  getD-last (y ∷ ys) x d (suc i) = rw (eqb·suc-suc (length ys) i) (getD-last ys x d i)
+
+  pub keep-last : (p : A → Bool) (xs : List A) (x : A) → keep p (xs ++ (x ∷ [])) ≡ cond (p x) (keep p xs ++ (x ∷ [])) (keep p xs)
+  unfolding keep
+  keep-last p [] x = refl
+  keep-last p (y ∷ ys) x = rw (keep-last p ys x) (swap (p y) (p x))
+    where
+      swap : (a b : Bool) → cond a (y ∷ cond b (keep p ys ++ (x ∷ [])) (keep p ys)) (cond b (keep p ys ++ (x ∷ [])) (keep p ys))
+          ≡ cond b (cond a (y ∷ keep p ys) (keep p ys) ++ (x ∷ [])) (cond a (y ∷ keep p ys) (keep p ys))
+      swap true true = refl
+      swap true false = refl
+      swap false true = refl
+      swap false false = refl
+
+  -- ---- the 16 places
+
+  pub length-places : (d : A) (xs : List A) → length (places d xs) ≡ 16
+  unfolding places
+  length-places d xs = length-tab 16 (λ i. getD xs i d)
+
+  pub places-none : (d : A) → replicate 16 d ≡ places d []
+  unfolding places
+  places-none d = sym (tab-replicate 16 d)
+
+  -- a store behind the last member; behind the last place it changes nothing
+  pub places-last : (d : A) (xs : List A) (x : A) → set (places d xs) (length xs) x ≡ places d (xs ++ (x ∷ []))
+  unfolding places
+  places-last d xs x = set-tab 16 (λ i. getD xs i d) (length xs) x ∙ tab-same 16 _ _ (λ i h. sym (getD-last xs x d i))
+
+  pub places-full : (d : A) (xs : List A) (x : A) → 16 ≤ length xs → places d xs ≡ places d (xs ++ (x ∷ []))
+  places-full d xs x h = sym (set-out (places d xs) (length xs) x (omega (arith, length-places d xs))) ∙ places-last d xs x
+
+  pub getD-places : (d : A) (xs : List A) (i : ℕ) → i < 16 → getD (places d xs) i d ≡ getD xs i d
+  unfolding places
+  getD-places d xs i h = getD-tab d 16 (λ i. getD xs i d) i h
+
+  -- at most 16 members are all there
+  pub take-places : (d : A) (xs : List A) → length xs ≤ 16 → take (length xs) (places d xs) ≡ xs
+  take-places d xs h = ext-getD d (take (length xs) (places d xs)) xs
+      (length-take-le (length xs) (places d xs) (omega (arith, length-places d xs)))
+      λ i k. let l : i < length xs = omega (arith, k, length-take-le (length xs) (places d xs) (omega (arith, length-places d xs))) in
+      getD-take (length xs) (places d xs) i d l ∙ getD-places d xs i (omega arith)
+
+-- ---- one property of each member
+
+pub map-last : {A B : Type 0} (f : A → B) (xs : List A) (x : A) → map f (xs ++ (x ∷ [])) ≡ map f xs ++ (f x ∷ [])
+map-last f [] x = refl
+map-last f (y ∷ ys) x = ap (λ l. f y ∷ l) (map-last f ys x)
+
+pub map-at : {A B : Type 0} (f : A → B) (xs : List A) (d : B) (a : A) (i : ℕ) → i < length xs → getD (map f xs) i d ≡ f (getD xs i a)
+map-at f [] d a i h = absurd (omega arith)
+map-at f (x ∷ xs) d a zero h = refl
+map-at f (x ∷ xs) d a (suc i) h = map-at f xs d a i (omega arith)
+
+-- the 16 places of one property of each member, with a member more: stored, or with no room
+module _ {A B : Type 0} (d : B) (f : A → B) (xs : List A) (x : A) (n : ℕ) (t : List B) (same : t ≡ places d (map f xs)) (counted : n ≡ length xs) where
+  long : n ≡ length (map f xs)
+  long = counted ∙ sym (length-map xs f)
+
+  pub placed-last : (y : B) → y ≡ f x → set t n y ≡ places d (map f (xs ++ (x ∷ [])))
+  placed-last y e = rw (same, long, e, map-last f xs x) (places-last d (map f xs) (f x))
+
+  pub placed-full : 16 ≤ n → t ≡ places d (map f (xs ++ (x ∷ [])))
+  placed-full h = rw (same, map-last f xs x) (places-full d (map f xs) (f x) (omega (arith, long)))

@@ -1,0 +1,126 @@
+// Two gates aligned by their distinct feeds, and merged. The caller has tested the gates, the edge and the limits.
+use crate::Alignment;
+use integers::magnitude;
+use integers::wide;
+use integers::widened;
+use network::GateRecord;
+ghost use mathlib.Core.Path.{_≡_};
+ghost use mathlib.Core.Bool.{not, _||_};
+ghost use Prim.Native.Nat.{_≤_};
+ghost use lib.IntN.{_-ℤ_};
+ghost use Rattle.network.specs.Limits.{isZero};
+ghost use Rattle.network.specs.Record.{gateIn, gateRecord};
+ghost use Rattle.alignment.specs.Alignments.{weightTable, edgeIn, Alignable, alignmentOf, mixOf, Mixable, mergedOf, Mergeable};
+
+// The weight of each signal, 0 where it is no feed. The last feed is stored first.
+fn spread(gate: GateRecord) -> [i32; 256]
+    requires { ⌜ gate .fanin ≤ 16 ⌝ }
+    ensures { λ r. ⌜ r ≡ weightTable (gateIn gate .feeds) ⌝ }
+{
+    let mut table = [0i32; 256];
+    let mut i = wide(gate.fanin);
+    while 0 < i {
+        i -= 1;
+        let s = wide(gate.signals[i]);
+        table[s] = gate.weights[i];
+    }
+    table
+}
+
+// Whether one of two weights is not 0.
+fn either(x: i32, y: i32) -> bool
+    ensures { λ r. ⌜ r ≡ not (isZero x) || not (isZero y) ⌝ }
+{
+    (magnitude(x) != 0) | (magnitude(y) != 0)
+}
+
+// Two gates by their distinct feeds: all are counted, and the first 16 listed. u is none of them, so its weight in v is taken out
+// before.
+pub fn align(gate_u: GateRecord, gate_v: GateRecord, u: usize, v: usize) -> Alignment
+    requires { ⌜ Alignable (edgeIn «gate_u» «gate_v» u v) ⌝ }
+    ensures { λ r. ⌜ r ≡ alignmentOf (edgeIn «gate_u» «gate_v» u v) ⌝ }
+{
+    let in_u = spread(gate_u);
+    let mut in_v = spread(gate_v);
+    let b = in_v[u];
+    in_v[u] = 0;
+    let mut signals = [0u8; 16];
+    let mut us = [0i32; 16];
+    let mut vs = [0i32; 16];
+    let mut count: usize = 0;
+    for s in 0..v {
+        let x = in_u[s];
+        let y = in_v[s];
+        if either(x, y) {
+            if count < 16 {
+                signals[count] = s as u8;
+                us[count] = x;
+                vs[count] = y;
+            }
+            count += 1;
+        }
+    }
+    let tu = gate_u.threshold;
+    let tv = gate_v.threshold;
+    Alignment {
+        count,
+        signals,
+        us,
+        vs,
+        tu,
+        tv,
+        b,
+    }
+}
+
+// k times x plus l times y, which is on the scale.
+fn mixed(x: i64, y: i64, k: usize, l: usize) -> i32
+    requires { ⌜ Mixable x y k l ⌝ }
+    ensures { λ r. ⌜ r ≡ mixOf x y k l ⌝ }
+{
+    let m = k as i64;
+    let n = l as i64;
+    (m * x + n * y) as i32
+}
+
+// The merged gate's weight at a distinct feed, from u's and v's.
+fn mixed_weight(x: i32, y: i32, k: usize, l: usize) -> i32
+    requires { ⌜ Mixable x y k l ⌝ }
+    ensures { λ r. ⌜ r ≡ mixOf x y k l ⌝ }
+{
+    mixed(widened(x), widened(y), k, l)
+}
+
+// The merged gate's threshold, from u's and v's and the weight with which u feeds v.
+fn mixed_level(tu: i32, tv: i32, b: i32, k: usize, l: usize) -> i32
+    requires { ⌜ Mixable tu (tv -ℤ b) k l ⌝ }
+    ensures { λ r. ⌜ r ≡ mixOf tu (tv -ℤ b) k l ⌝ }
+{
+    mixed(widened(tu), widened(tv) - widened(b), k, l)
+}
+
+// The gate of two aligned gates merged with k and l.
+pub fn merged_gate(a: Alignment, k: usize, l: usize) -> GateRecord
+    requires { ⌜ Mergeable a k l ⌝ }
+    ensures { λ r. ⌜ r ≡ gateRecord (mergedOf a k l) ⌝ }
+{
+    let mut signals = [0u8; 16];
+    let mut weights = [0i32; 16];
+    let mut fanin: usize = 0;
+    let count = a.count;
+    for i in 0..count {
+        let w = mixed_weight(a.us[i], a.vs[i], k, l);
+        if magnitude(w) != 0 {
+            signals[fanin] = a.signals[i];
+            weights[fanin] = w;
+            fanin += 1;
+        }
+    }
+    let threshold = mixed_level(a.tu, a.tv, a.b, k, l);
+    GateRecord {
+        fanin: fanin as u8,
+        threshold,
+        signals,
+        weights,
+    }
+}

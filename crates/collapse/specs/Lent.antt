@@ -1,0 +1,46 @@
+-- The gates in the lent arrays of a sound record, and the pairs of a collapse. Nothing is proved here.
+use mathlib.Core.Path.{_≡_}
+use mathlib.Core.Bool.{cond}
+use mathlib.Core.List.{List}
+use Prim.Native.Nat.{ℕ, _-_, _≤_, _<_}
+use lib.Dec.{T}
+use lib.IntN.{ℤ}
+use lib.ListN.{getD}
+use Rattle.integers.specs.Lists.{tab}
+use Rattle.network.specs.Threshold.{Gate}
+use Rattle.network.specs.Record.{gateFrom, gateRecord}
+use Rattle.network.specs.Places.{rowAt}
+use Rattle.network.specs.LimitLaws.{Gates}
+use Rattle.folding.specs.Merge.{Edge, silent, reads, merged}
+
+-- the gates
+abbrev pub gatesIn : List ℕ → List ℤ → List ℕ → List ℤ → ℕ → List Gate
+gatesIn fanins thresholds signals weights gates = tab gates (gateFrom fanins thresholds signals weights)
+
+-- gates u and v, by their signals, as an edge
+abbrev pub edgeIn : List ℕ → List ℤ → List ℕ → List ℤ → ℕ → ℕ → ℕ → Edge
+edgeIn fanins thresholds signals weights inputs u v = record {
+  u = u;
+  v = v;
+  gateU = gateFrom fanins thresholds signals weights (u - inputs);
+  gateV = gateFrom fanins thresholds signals weights (v - inputs);
+}
+
+-- the arrays are those of a sound record: every gate is within the limits, and its places hold it and nothing more
+pub record Lent (fanins : List ℕ) (thresholds : List ℤ) (signals : List ℕ) (weights : List ℤ) (inputs gates : ℕ) : Type 0 where
+  pub some-inputs : 1 ≤ inputs
+  pub few-inputs : inputs ≤ 40
+  pub few-gates : gates ≤ 128
+  pub all-gates : Gates inputs (gatesIn fanins thresholds signals weights gates)
+  pub rows : (g : ℕ) → g < gates → rowAt fanins thresholds signals weights g ≡ gateRecord (gateFrom fanins thresholds signals weights g)
+
+-- s is the signal of one of the gates
+pub record Within (inputs gates s : ℕ) : Type 0 where
+  pub low : inputs ≤ s
+  pub high : s - inputs < gates
+
+-- v reads u, both being gates
+pub record Joined (fanins : List ℕ) (thresholds : List ℤ) (signals : List ℕ) (weights : List ℤ) (inputs gates u v : ℕ) : Type 0 where
+  pub u-gate : Within inputs gates u
+  pub v-gate : Within inputs gates v
+  pub joined : T (reads u (gateFrom fanins thresholds signals weights (v - inputs)))

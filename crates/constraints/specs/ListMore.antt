@@ -1,0 +1,54 @@
+-- More laws of lists: what holds of each member of joined lists, of a list of values and of a range, and which member stands where.
+-- Assumes nothing.
+use mathlib.Core.Path.{_≡_, refl}
+use mathlib.Core.List.{List, [], _∷_, _++_, map}
+use Prim.Native.Nat.{ℕ, zero, suc, _+_, _<_}
+use native.Mathlib.Omega.{arith}
+use lib.ListN.{length, getD}
+use lib.Seq.{getD-append-add}
+use Rattle.integers.specs.Lists.{range}
+use Rattle.integers.specs.ListLaws.{Each}
+
+module _ {A : Type 0} where
+  -- ---- joined lists
+  pub each-append : (P : A → Type 0) (xs ys : List A) → Each P xs → Each P ys → Each P (xs ++ ys)
+  each-append P [] ys h k = k
+  each-append P (x ∷ xs) ys h k = (h .0, each-append P xs ys (h .1) k)
+
+  pub append-left : (P : A → Type 0) (xs ys : List A) → Each P (xs ++ ys) → Each P xs
+  append-left P [] ys h = tt
+  append-left P (x ∷ xs) ys h = (h .0, append-left P xs ys (h .1))
+
+  pub append-right : (P : A → Type 0) (xs ys : List A) → Each P (xs ++ ys) → Each P ys
+  append-right P [] ys h = h
+  append-right P (x ∷ xs) ys h = append-right P xs ys (h .1)
+
+  -- member i of the second list stands behind the first list's members
+  pub getD-behind : (xs ys : List A) (d : A) (n i : ℕ) → n ≡ length xs → getD (xs ++ ys) (n + i) d ≡ getD ys i d
+  getD-behind xs ys d n i e = rw e (getD-append-add xs ys i d)
+
+  -- two facts of each member
+  pub each-both : (P Q : A → Type 0) (xs : List A) → Each P xs → Each Q xs → Each (λ x. P x × Q x) xs
+  each-both P Q [] h k = tt
+  each-both P Q (x ∷ xs) h k = ((h .0, k .0), each-both P Q xs (h .1) (k .1))
+
+-- ---- a list of values
+module _ {A B : Type 0} where
+  pub getD-map : (f : A → B) (xs : List A) (i : ℕ) (a : A) (b : B) → i < length xs → getD (map f xs) i b ≡ f (getD xs i a)
+  getD-map f [] i a b h = absurd (omega arith)
+  getD-map f (x ∷ xs) zero a b h = refl
+  getD-map f (x ∷ xs) (suc i) a b h = getD-map f xs i a b (omega arith)
+
+  pub each-map : (P : B → Type 0) (f : A → B) (xs : List A) → Each (λ x. P (f x)) xs → Each P (map f xs)
+  each-map P f [] h = tt
+  each-map P f (x ∷ xs) h = (h .0, each-map P f xs (h .1))
+
+  pub map-each : (P : B → Type 0) (f : A → B) (xs : List A) → Each P (map f xs) → Each (λ x. P (f x)) xs
+  map-each P f [] h = tt
+  map-each P f (x ∷ xs) h = (h .0, map-each P f xs (h .1))
+
+-- ---- a range
+pub each-range : (P : ℕ → Type 0) (a n : ℕ) → ((i : ℕ) → i < a + n → P i) → Each P (range a n)
+unfolding range
+each-range P a zero h = tt
+each-range P a (suc n) h = (h a (omega arith), each-range P (suc a) n λ i k. h i (omega arith))

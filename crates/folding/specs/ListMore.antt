@@ -1,0 +1,66 @@
+-- More laws of lists: what holds of each member, with its place, of joined lists and of ranges; and lists in rising order. Assumes
+-- nothing.
+use mathlib.Core.Path.{_≡_, subst}
+use mathlib.Core.List.{List, [], _∷_, _++_, map}
+use Prim.Native.Nat.{ℕ, zero, suc, _+_, _≤_, _<_}
+use native.Mathlib.Decide.{decLt}
+use native.Mathlib.Omega.{arith}
+use lib.ListN.{length, getD}
+use Rattle.integers.specs.Lists.{range}
+use Rattle.integers.specs.ListLaws.{Each}
+
+module _ {A : Type 0} where
+  -- each member with its number, the first with number n
+  abbrev pub EachFrom : (ℕ → A → Type 0) → ℕ → List A → Type 0
+  EachFrom P n [] = Unit {0}
+  EachFrom P n (x ∷ xs) = P n x × EachFrom P (suc n) xs
+
+  pub each-from : (P : ℕ → A → Type 0) (n : ℕ) (xs : List A) (d : A) → ((i : ℕ) → i < length xs → P (n + i) (getD xs i d)) → EachFrom P n xs
+  each-from P n [] d h = tt
+  each-from P n (x ∷ xs) d h = (
+    subst (λ m. P m x) (let e : n + 0 ≡ n = omega arith in e) (h 0 (omega arith)),
+    each-from P (suc n) xs d λ i k. subst (λ m. P m (getD xs i d)) (let e : n + suc i ≡ suc n + i = omega arith in e) (h (suc i) (omega arith)),
+  )
+
+  -- ---- joined lists
+  pub each-append : (P : A → Type 0) (xs ys : List A) → Each P xs → Each P ys → Each P (xs ++ ys)
+  each-append P [] ys h k = k
+  each-append P (x ∷ xs) ys h k = (h .0, each-append P xs ys (h .1) k)
+
+  pub append-left : (P : A → Type 0) (xs ys : List A) → Each P (xs ++ ys) → Each P xs
+  append-left P [] ys h = tt
+  append-left P (x ∷ xs) ys h = (h .0, append-left P xs ys (h .1))
+
+  pub append-right : (P : A → Type 0) (xs ys : List A) → Each P (xs ++ ys) → Each P ys
+  append-right P [] ys h = h
+  append-right P (x ∷ xs) ys h = append-right P xs ys (h .1)
+
+  -- ---- rising order
+
+  -- each member comes before those after it
+  abbrev pub Ascending : (A → A → Type 0) → List A → Type 0
+  Ascending R [] = Unit {0}
+  Ascending R (x ∷ xs) = Each (R x) xs × Ascending R xs
+
+  pub ascending-append : (R : A → A → Type 0) (xs ys : List A) → Ascending R xs → Ascending R ys → Each (λ x. Each (R x) ys) xs → Ascending R (xs ++ ys)
+  ascending-append R [] ys h k b = k
+  ascending-append R (x ∷ xs) ys h k b = (each-append (R x) xs ys (h .0) (b .0), ascending-append R xs ys (h .1) k (b .1))
+
+  -- ---- the values of a function on a range
+  pub each-range : (P : A → Type 0) (f : ℕ → A) (a n : ℕ) → ((i : ℕ) → a ≤ i → i < a + n → P (f i)) → Each P (map f (range a n))
+  unfolding range
+  each-range P f a zero h = tt
+  each-range P f a (suc n) h = (h a (omega arith) (omega arith), each-range P f (suc a) n λ i j k. h i (omega arith) (omega arith))
+
+  pub range-each : (P : A → Type 0) (f : ℕ → A) (a n : ℕ) → Each P (map f (range a n)) → (i : ℕ) → a ≤ i → i < a + n → P (f i)
+  unfolding range
+  range-each P f a zero h i j k = absurd (omega arith)
+  range-each P f a (suc n) h i j k = elim (decLt a i) as (λ d. P (f i)) [
+    | yes l ↦ range-each P f (suc a) n (h .1) i l (omega arith)
+    | no l ↦ rw (let e : i ≡ a = omega arith in e) (h .0)
+  ]
+
+  pub ascending-range : (R : A → A → Type 0) (f : ℕ → A) (a n : ℕ) → ((i j : ℕ) → a ≤ i → i < j → j < a + n → R (f i) (f j)) → Ascending R (map f (range a n))
+  unfolding range
+  ascending-range R f a zero h = tt
+  ascending-range R f a (suc n) h = (each-range (R (f a)) f (suc a) n λ i j k. h a i (omega arith) (omega arith) (omega arith), ascending-range R f (suc a) n λ i j p q r. h i j (omega arith) q (omega arith))

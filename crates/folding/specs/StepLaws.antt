@@ -1,0 +1,150 @@
+-- What each accepted merge, drop and collapse keeps: the network that it leaves is sound and simulates the one before. Assumes nothing.
+use mathlib.Core.Path.{_≡_, refl, ap, _∙_, subst}
+use mathlib.Core.Bool.{_&&_}
+use mathlib.Core.List.{List, [], _∷_, map}
+use mathlib.Core.Logic.{_≢_, _↔_}
+use Prim.Native.Nat.{ℕ, suc, _-_}
+use native.Mathlib.Omega.{arith}
+use lib.Dec.{T, leb→le}
+use lib.ListN.{length}
+use lib.Seq.{map-set-same}
+use Rattle.integers.specs.Lists.{all, range, other}
+use Rattle.integers.specs.Tests.{T-and, cond-case, or-case, other-ne}
+use Rattle.integers.specs.ListLaws.{Each, each-of, each-imp, kept, all-other}
+use Rattle.integers.specs.Refusals.{accepted, _else_}
+use Rattle.integers.specs.RefusalLaws.{Passed, accepted-inj, checks-accepted, passed-checks, bind-accepted}
+use Rattle.network.specs.Threshold.{Gate, Net, Assignment, bit}
+use Rattle.network.specs.Limits.{isGate, sound}
+use Rattle.network.specs.Record.{noGate}
+use Rattle.network.specs.Changes.{gateAt, withGate}
+use Rattle.network.specs.LimitLaws.{GateOk, Gates, Has, has-of, sound-of, gate-ok}
+use Rattle.equivalence.specs.ConsistentLaws.{own-bit, sim-trans, replaced}
+use Rattle.folding.specs.Merge.{Edge, edge, silent, reads, among, distinct, merged, narrow, agrees, limits, merge}
+use Rattle.folding.specs.Pair.{pairOf}
+use Rattle.folding.specs.Collapse.{unread, drop, fuse, fuseAll, withGates, collapse}
+use Rattle.folding.specs.Guarantee.{Alike, Kept}
+use Rattle.folding.specs.LowerLaws.{Free, silent-free, without-sim}
+use Rattle.folding.specs.AgreeLaws.{merged-signals, merged-bit, alike-of, of-alike}
+use Rattle.folding.specs.SoundLaws.{merged-ok, reader-above, both-low, resized-sound, withGate-sound, without-size, without-sound}
+use Rattle.folding.specs.PairLaws.{qualified-of, pairOf-found}
+
+-- ---- merge
+pub merge-kept : (N : Net) (u v k l : ℕ) (M : Net) → merge N u v k l ≡ accepted M → Kept N M
+unfolding merge limits withGate gateAt narrow edge
+merge-kept N u v k l M h =
+    let a = checks-accepted (limits N u v k l) _ h in
+    let b = checks-accepted ((agrees e k l else 15) ∷ []) _ (a .1) in
+    let p = a .0 in
+    let s = sound-of N (p .0) in
+    let g = T-and (isGate N u) (isGate N v) (p .1 .0) in
+    let hu = has-of N u (g .0) in
+    let hv = has-of N v (g .1) in
+    let low = both-low e (gate-ok N u s hu) (gate-ok N v s hv) (p .1 .1 .0) in
+    subst (Kept N) (accepted-inj (b .1)) (record {
+      sim = replaced N _ λ ρ r. map-set-same (bit ρ) (N .gates) (v - N .inputs) (merged e k l) noGate (merged-bit e k l low (b .0 .0) ρ (own-bit N u ρ hu r));
+      sound = withGate-sound N v (merged e k l) hv (merged-ok e k l (leb→le _ 16 (p .1 .1 .1 .1 .1 .0)) (p .1 .1 .1 .1 .1 .1 .0)) s;
+    })
+  where
+    e : Edge
+    e = edge N u v
+
+-- a merge within the limits is accepted exactly when merged gate and composed pair are alike
+pub merge-exact : (N : Net) (u v k l : ℕ) → Passed (limits N u v k l) → (merge N u v k l ≡ accepted (withGate N v (merged (edge N u v) k l))) ↔ Alike (edge N u v) k l
+unfolding merge
+merge-exact N u v k l p = (
+  (λ h. alike-of (edge N u v) k l (checks-accepted ((agrees (edge N u v) k l else 15) ∷ []) _ (checks-accepted (limits N u v k l) _ h .1) .0 .0)),
+  (λ h. passed-checks (limits N u v k l) _ p ∙ passed-checks ((agrees (edge N u v) k l else 15) ∷ []) _ (of-alike (edge N u v) k l h, tt)),
+)
+
+pub merge-net : (N : Net) (u v k l : ℕ) (M : Net) → merge N u v k l ≡ accepted M → merge N u v k l ≡ accepted (withGate N v (merged (edge N u v) k l))
+unfolding merge
+merge-net N u v k l M h =
+    let a = checks-accepted (limits N u v k l) _ h in
+    let b = checks-accepted ((agrees (edge N u v) k l else 15) ∷ []) _ (a .1) in
+    passed-checks (limits N u v k l) _ (a .0) ∙ passed-checks ((agrees (edge N u v) k l else 15) ∷ []) _ (b .0)
+
+-- ---- drop
+pub drop-kept : (N : Net) (u : ℕ) (M : Net) → drop N u ≡ accepted M → Kept N M
+unfolding drop unread
+drop-kept N u M h =
+    let a = checks-accepted ((sound N else 20) ∷ (isGate N u else 11) ∷ (unread N u else 17) ∷ []) _ h in
+    let r = T-and (all (silent u) (N .gates)) (all (other u) (N .outputs)) (a .0 .1 .1 .0) in
+    let g = has-of N u (a .0 .1 .0) in
+    let f = each-of (silent u) (Free u) (silent-free u) (N .gates) (r .0) in
+    let o = all-other u (N .outputs) (r .1) in
+    subst (Kept N) (accepted-inj (a .1)) (record { sim = without-sim N u g f o; sound = without-sound N u g f o (sound-of N (a .0 .0)) })
+
+-- ---- collapse
+merged-free : (e : Edge) (k l : ℕ) → GateOk (e .u) (e .gateU) → Free (e .u) (merged e k l)
+unfolding merged distinct among reads silent
+merged-free e k l o = merged-signals (λ s. s ≢ e .u) e k l (distinct e) (each-imp (λ s. T (among e s)) (λ s. s ≢ e .u)
+    (λ s t. or-case (reads s (e .gateU)) (other (e .u) s && reads s (e .gateV)) t
+    (λ a. let h = reader-above s (e .u) (e .gateU) o a in omega arith)
+    (λ b. other-ne (e .u) s (T-and (other (e .u) s) (reads s (e .gateV)) b .0)))
+    (distinct e) (kept (among e) (range 0 (e .v))))
+
+-- what becomes of a gate: the same bit where u has its own, no feed u, within the limits
+record Fused (e : Edge) (h : Gate) : Type 0 where
+  bits : (ρ : Assignment) → ρ (e .u) ≡ bit ρ (e .gateU) → bit ρ h ≡ bit ρ (e .gateV)
+  free : Free (e .u) h
+  good : GateOk (e .v) h
+
+fuse-fused : (e : Edge) (h : Gate) → GateOk (e .u) (e .gateU) → GateOk (e .v) (e .gateV) → fuse e ≡ accepted h → Fused e h
+unfolding fuse narrow reads
+fuse-fused e h ou ov q = cond-case (λ x. x ≡ accepted h → Fused e h) (silent (e .u) (e .gateV))
+    (λ t q. subst (Fused e) (accepted-inj q) (record { bits = λ ρ r. refl; free = silent-free (e .u) (e .gateV) t; good = ov }))
+    (λ t q.
+    let b = bind-accepted (pairOf e) _ q in
+    let p = b .0 in
+    let f = pairOf-found e p (b .1) in
+    let d = qualified-of e p (f .best .qualified) in
+    subst (Fused e) (accepted-inj (b .2)) (record {
+      bits = merged-bit e (p .k) (p .l) (both-low e ou ov t) (d .agreed);
+      free = merged-free e (p .k) (p .l) ou;
+      good = merged-ok e (p .k) (p .l) (leb→le _ 16 (f .passed .1 .0)) (d .scaled);
+    })) q
+
+-- the same of the gates from signal n on
+record FusedAll (u : ℕ) (gateU : Gate) (n : ℕ) (gs hs : List Gate) : Type 0 where
+  bits : (ρ : Assignment) → ρ u ≡ bit ρ gateU → map (bit ρ) hs ≡ map (bit ρ) gs
+  free : Each (Free u) hs
+  good : Gates n hs
+  size : length hs ≡ length gs
+
+fuseAll-fused : (u : ℕ) (gateU : Gate) (n : ℕ) (gs hs : List Gate) → GateOk u gateU → Gates n gs → fuseAll u gateU n gs ≡ accepted hs → FusedAll u gateU n gs hs
+unfolding fuseAll
+fuseAll-fused u gateU n [] hs ou os q = subst (FusedAll u gateU n []) (accepted-inj q) (record { bits = λ ρ r. refl; free = tt; good = tt; size = refl })
+fuseAll-fused u gateU n (g ∷ gs) hs ou os q =
+    let a = bind-accepted (fuse (record { u = u; v = n; gateU = gateU; gateV = g })) _ q in
+    let b = bind-accepted (fuseAll u gateU (suc n) gs) _ (a .2) in
+    let h = fuse-fused (record { u = u; v = n; gateU = gateU; gateV = g }) (a .0) ou (os .0) (a .1) in
+    let r = fuseAll-fused u gateU (suc n) gs (b .0) ou (os .1) (b .1) in
+    subst (FusedAll u gateU n (g ∷ gs)) (accepted-inj (b .2)) (record {
+      bits = λ ρ x. rw (h .bits ρ x, r .bits ρ x);
+      free = (h .free, r .free);
+      good = (h .good, r .good);
+      size = ap suc (r .size);
+    })
+
+-- what an accepted collapse leaves: all that is kept, and one gate less
+pub record Collapsed (N M : Net) : Type 0 where
+  pub all-kept : Kept N M
+  pub fewer : suc (length (M .gates)) ≡ length (N .gates)
+
+pub collapse-kept : (N : Net) (u : ℕ) (M : Net) → collapse N u ≡ accepted M → Collapsed N M
+unfolding collapse withGates
+collapse-kept N u M h =
+    let a = checks-accepted ((sound N else 20) ∷ (isGate N u else 11) ∷ (all (other u) (N .outputs) else 17) ∷ []) _ h in
+    let d = bind-accepted (fuseAll u (gateAt N u) (N .inputs) (N .gates)) _ (a .1) in
+    let s = sound-of N (a .0 .0) in
+    let g = has-of N u (a .0 .1 .0) in
+    let f = fuseAll-fused u (gateAt N u) (N .inputs) (N .gates) (d .0) (gate-ok N u s g) (s .all-gates) (d .1) in
+    let o = all-other u (N .outputs) (a .0 .1 .1 .0) in
+    let k : Has (withGates N (d .0)) u = omega (arith, f .size, g) in
+    subst (Collapsed N) (accepted-inj (d .2)) (record {
+      all-kept = record {
+        sim = sim-trans (replaced N (d .0) λ ρ r. f .bits ρ (own-bit N u ρ g r)) (without-sim (withGates N (d .0)) u k (f .free) o);
+        sound = without-sound (withGates N (d .0)) u k (f .free) o (resized-sound N (d .0) (f .size) (f .good) s);
+      };
+      fewer = without-size (withGates N (d .0)) u k ∙ f .size;
+    })

@@ -1,0 +1,29 @@
+-- The test is the definition of a sound record. A broken one gives 20.
+use mathlib.Core.Path.{sym, _∙_}
+use lib.ListN.{length}
+use borrow.Author.Needs.{needs}
+use Rattle.pmn.specs.WriteAnswerLaws.{write-broken, written-refused}
+use Rattle.pmn.proofs.write.Statement.{statement}
+use Rattle.pmn.proofs.write.Tie as tie
+
+is-sound-requires : tie.Need-is-sound-requires
+is-sound-requires c κs = search needs
+
+write-sound-requires : tie.Need-write-sound-requires
+write-sound-requires c κs = sym (c .before .before .is-sound .ensures) ∙ c .before .if1 .taken
+
+same-length : tie.Need-same-length
+same-length c = search needs
+
+returns : tie.Need-returns
+returns c = search needs
+
+returns-2 : tie.Need-returns-2
+returns-2 c =
+    let a = c .before .before .before .args in
+    written-refused (a .network) 20 (a .out .now)
+    (write-broken (a .network) (length (a .out .now)) (sym (c .before .is-sound .ensures) ∙ c .if1 .left))
+
+pub write-spec : {M : Type 1} → statement M
+write-spec =
+    tie.close (tie.spec is-sound-requires write-sound-requires same-length returns returns-2)

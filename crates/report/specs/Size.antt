@@ -1,0 +1,57 @@
+-- Cost and levels of a network, and what the size report answers. Document 01, "Size report and `fold`". Nothing is proved here.
+use mathlib.Core.Bool.{cond}
+use mathlib.Core.List.{List, [], _∷_}
+use Prim.Native.Nat.{ℕ, suc, _+_, max}
+use lib.Dec.{eqb}
+use lib.IntN.{natAbs}
+use lib.ListN.{length}
+use Rattle.integers.specs.Refusals.{Answer, accepted, refused, _else_, checks}
+use Rattle.network.specs.Threshold.{Feed, Gate, Net}
+use Rattle.network.specs.Record.{netOf, soundRecord}
+use Rattle.network.specs.declared.Network.{Network}
+use Rattle.report.specs.declared.Report.{Report}
+
+-- ---- "Cost: sum over gates of |weights| and |T|"
+
+unfoldable pub weightsCost : List Feed → ℕ
+weightsCost [] = 0
+weightsCost (f ∷ fs) = natAbs (f .weight) + weightsCost fs
+
+unfoldable pub gateCost : Gate → ℕ
+gateCost g = natAbs (g .threshold) + weightsCost (g .feeds)
+
+unfoldable pub cost : List Gate → ℕ
+cost [] = 0
+cost (g ∷ gs) = gateCost g + cost gs
+
+-- ---- "Levels: an input has level 0, a gate one more than its highest feed, a gate without feeds level 1; the network has the highest"
+
+-- the highest level among the feeds, 0 without feeds
+unfoldable pub highest : (ℕ → ℕ) → List Feed → ℕ
+highest levelOf [] = 0
+highest levelOf (f ∷ fs) = max (levelOf (f .signal)) (highest levelOf fs)
+
+-- the level of a gate, given the levels of the signals before it: the one rule of levels
+unfoldable pub gateLevel : (ℕ → ℕ) → Gate → ℕ
+gateLevel levelOf g = suc (highest levelOf (g .feeds))
+
+-- levelOf with level h at signal n
+unfoldable pub withLevel : (ℕ → ℕ) → ℕ → ℕ → ℕ → ℕ
+withLevel levelOf n h = λ s. cond (eqb s n) h (levelOf s)
+
+-- the highest level of the gates in order, the first with signal n
+unfoldable pub levelsFrom : ℕ → List Gate → (ℕ → ℕ) → ℕ
+levelsFrom n [] levelOf = 0
+levelsFrom n (g ∷ gs) levelOf = max (gateLevel levelOf g) (levelsFrom (suc n) gs (withLevel levelOf n (gateLevel levelOf g)))
+
+unfoldable pub levels : Net → ℕ
+levels N = levelsFrom (N .inputs) (N .gates) (λ s. 0)
+
+-- ---- the report: order 20
+
+unfoldable pub reportOf : Answer Net → Report
+reportOf (accepted N) = record { code = 0; gates = length (N .gates); cost = cost (N .gates); levels = levels N }
+reportOf (refused c) = record { code = c; gates = 0; cost = 0; levels = 0 }
+
+unfoldable pub reported : Network → Report
+reported r = reportOf (checks ((soundRecord r else 20) ∷ []) (accepted (netOf r)))

@@ -1,0 +1,437 @@
+//! Document 01 written out as it stands, with no regard for speed: what the library is compared with. It was written from the paper
+//! and shares nothing with the library.
+
+/// A gate: its feeds, each a signal with a weight, and its threshold.
+#[derive(Clone, PartialEq, Eq, Debug)]
+pub struct Gate {
+    pub feeds: Vec<(usize, i64)>,
+    pub threshold: i64,
+}
+
+/// A network: inputs have signals below `inputs`, gate g has signal `inputs + g`, and each output is the signal of a gate.
+#[derive(Clone, PartialEq, Eq, Debug)]
+pub struct Net {
+    pub inputs: usize,
+    pub gates: Vec<Gate>,
+    pub outputs: Vec<usize>,
+}
+
+pub type Answer<T> = Result<T, u8>;
+
+const SCALE: i64 = 1_000_000;
+
+// ---- the file
+
+struct Cursor<'a> {
+    bytes: &'a [u8],
+    at: usize,
+}
+
+impl Cursor<'_> {
+    fn byte(&mut self) -> Answer<usize> {
+        let b = *self.bytes.get(self.at).ok_or(4)?;
+        self.at += 1;
+        Ok(b as usize)
+    }
+
+    fn signed(&mut self) -> Answer<i64> {
+        let field = self.bytes.get(self.at..self.at + 4).ok_or(4)?;
+        self.at += 4;
+        Ok(i32::from_le_bytes(field.try_into().unwrap()) as i64)
+    }
+}
+
+fn off_scale(z: i64) -> bool {
+    !(-SCALE..=SCALE).contains(&z)
+}
+
+pub fn read(file: &[u8]) -> Answer<Net> {
+    if file.len() < 8 || &file[..3] != b"PMN" {
+        return Err(1);
+    }
+    if u16::from_le_bytes([file[3], file[4]]) != 1 {
+        return Err(2);
+    }
+    let (inputs, gates, outputs) = (file[5] as usize, file[6] as usize, file[7] as usize);
+    if !(1..=40).contains(&inputs) || !(1..=128).contains(&gates) || !(1..=16).contains(&outputs) {
+        return Err(3);
+    }
+    let mut c = Cursor { bytes: file, at: 8 };
+    let mut net = Net { inputs, gates: vec![], outputs: vec![] };
+    for g in 0..gates {
+        let count = c.byte()?;
+        if count > 16 {
+            return Err(7);
+        }
+        let threshold = c.signed()?;
+        if off_scale(threshold) {
+            return Err(6);
+        }
+        let mut feeds: Vec<(usize, i64)> = vec![];
+        for _ in 0..count {
+            let signal = c.byte()?;
+            if signal >= inputs + g || feeds.last().is_some_and(|&(last, _)| signal <= last) {
+                return Err(5);
+            }
+            let weight = c.signed()?;
+            if weight == 0 || off_scale(weight) {
+                return Err(6);
+            }
+            feeds.push((signal, weight));
+        }
+        net.gates.push(Gate { feeds, threshold });
+    }
+    for _ in 0..outputs {
+        let signal = c.byte()?;
+        if !net.is_gate(signal) {
+            return Err(8);
+        }
+        net.outputs.push(signal);
+    }
+    if c.at < file.len() {
+        return Err(9);
+    }
+    Ok(net)
+}
+
+fn gate_bytes(gate: &Gate) -> Vec<u8> {
+    let mut out = vec![gate.feeds.len() as u8];
+    out.extend((gate.threshold as i32).to_le_bytes());
+    for &(signal, weight) in &gate.feeds {
+        out.push(signal as u8);
+        out.extend((weight as i32).to_le_bytes());
+    }
+    out
+}
+
+pub fn write(net: &Net) -> Vec<u8> {
+    let mut out = b"PMN\x01\x00".to_vec();
+    out.extend([net.inputs as u8, net.gates.len() as u8, net.outputs.len() as u8]);
+    for gate in &net.gates {
+        out.extend(gate_bytes(gate));
+    }
+    out.extend(net.outputs.iter().map(|&s| s as u8));
+    out
+}
+
+/// The bytes of the gate with a signal.
+pub fn part(file: &[u8], signal: u64) -> Answer<Vec<u8>> {
+    let net = read(file)?;
+    if signal > 255 || !net.is_gate(signal as usize) {
+        return Err(11);
+    }
+    Ok(gate_bytes(net.gate(signal as usize)))
+}
+
+// ---- networks
+
+impl Net {
+    pub fn is_gate(&self, signal: usize) -> bool {
+        signal >= self.inputs && signal - self.inputs < self.gates.len()
+    }
+
+    pub fn gate(&self, signal: usize) -> &Gate {
+        &self.gates[signal - self.inputs]
+    }
+
+    fn readers(&self, signal: usize) -> Vec<usize> {
+        (self.inputs..self.inputs + self.gates.len()).filter(|&v| self.gate(v).weight(signal).is_some()).collect()
+    }
+}
+
+impl Gate {
+    fn weight(&self, signal: usize) -> Option<i64> {
+        self.feeds.iter().find(|f| f.0 == signal).map(|f| f.1)
+    }
+
+    fn bit(&self, value: impl Fn(usize) -> bool) -> bool {
+        self.feeds.iter().filter(|f| value(f.0)).map(|f| f.1).sum::<i64>() >= self.threshold
+    }
+}
+
+/// The output bits on a frame, output j in bit j, and how many of them are 1.
+pub fn frame(net: &Net, frame: u64) -> Answer<(u64, u64)> {
+    if frame >> net.inputs != 0 {
+        return Err(10);
+    }
+    let mut values: Vec<bool> = (0..net.inputs).map(|i| frame >> i & 1 == 1).collect();
+    for gate in &net.gates {
+        let bit = gate.bit(|s| values[s]);
+        values.push(bit);
+    }
+    let mut bits = 0;
+    for (j, &s) in net.outputs.iter().enumerate() {
+        bits |= (values[s] as u64) << j;
+    }
+    Ok((bits, net.outputs.iter().filter(|&&s| values[s]).count() as u64))
+}
+
+// ---- merge, pair, drop, collapse, sweep
+
+/// u and v with the weight b, and the distinct feeds.
+struct Edge<'a> {
+    u: usize,
+    gate_u: &'a Gate,
+    gate_v: &'a Gate,
+    b: i64,
+    distinct: Vec<usize>,
+}
+
+fn edge(net: &Net, u: u64, v: u64) -> Answer<Edge<'_>> {
+    if u > 255 || v > 255 || !net.is_gate(u as usize) || !net.is_gate(v as usize) {
+        return Err(11);
+    }
+    let (u, v) = (u as usize, v as usize);
+    let (gate_u, gate_v) = (net.gate(u), net.gate(v));
+    let b = gate_v.weight(u).ok_or(12)?;
+    if b < 0 {
+        return Err(13);
+    }
+    let mut distinct: Vec<usize> = gate_u.feeds.iter().chain(&gate_v.feeds).map(|f| f.0).filter(|&s| s != u).collect();
+    distinct.sort();
+    distinct.dedup();
+    Ok(Edge { u, gate_u, gate_v, b, distinct })
+}
+
+fn merged(e: &Edge, k: i64, l: i64) -> Answer<Gate> {
+    let weight = |s: usize| k * e.gate_u.weight(s).unwrap_or(0) + l * e.gate_v.weight(s).unwrap_or(0);
+    let feeds: Vec<(usize, i64)> = e.distinct.iter().map(|&s| (s, weight(s))).filter(|f| f.1 != 0).collect();
+    let threshold = k * e.gate_u.threshold + l * (e.gate_v.threshold - e.b);
+    if off_scale(threshold) || feeds.iter().any(|f| off_scale(f.1)) {
+        return Err(6);
+    }
+    Ok(Gate { feeds, threshold })
+}
+
+fn agrees(e: &Edge, gate: &Gate) -> bool {
+    (0..1u32 << e.distinct.len()).all(|setting| {
+        let value = |s: usize| setting >> e.distinct.binary_search(&s).unwrap() & 1 == 1;
+        let bit_u = e.gate_u.bit(value);
+        gate.bit(value) == e.gate_v.bit(|s| if s == e.u { bit_u } else { value(s) })
+    })
+}
+
+fn with_gate(net: &Net, v: usize, gate: Gate) -> Net {
+    let mut out = net.clone();
+    out.gates[v - net.inputs] = gate;
+    out
+}
+
+pub fn merge(net: &Net, u: u64, v: u64, k: u64, l: u64) -> Answer<Net> {
+    let e = edge(net, u, v)?;
+    if !(1..=32).contains(&k) || !(1..=32).contains(&l) {
+        return Err(14);
+    }
+    if e.distinct.len() > 16 {
+        return Err(7);
+    }
+    let gate = merged(&e, k as i64, l as i64)?;
+    if !agrees(&e, &gate) {
+        return Err(15);
+    }
+    Ok(with_gate(net, v as usize, gate))
+}
+
+pub fn pair(net: &Net, u: u64, v: u64) -> Answer<(u64, u64)> {
+    let e = edge(net, u, v)?;
+    if e.distinct.len() > 16 {
+        return Err(7);
+    }
+    for sum in 2..=64i64 {
+        for k in 1..=32i64 {
+            let l = sum - k;
+            if (1..=32).contains(&l) && merged(&e, k, l).is_ok_and(|gate| agrees(&e, &gate)) {
+                return Ok((k as u64, l as u64));
+            }
+        }
+    }
+    Err(16)
+}
+
+fn without(net: &Net, u: usize) -> Net {
+    let lower = |s: usize| if s > u { s - 1 } else { s };
+    let mut out = net.clone();
+    out.gates.remove(u - net.inputs);
+    for gate in &mut out.gates {
+        for feed in &mut gate.feeds {
+            feed.0 = lower(feed.0);
+        }
+    }
+    for s in &mut out.outputs {
+        *s = lower(*s);
+    }
+    out
+}
+
+pub fn drop_gate(net: &Net, s: u64) -> Answer<Net> {
+    if s > 255 || !net.is_gate(s as usize) {
+        return Err(11);
+    }
+    let s = s as usize;
+    if net.outputs.contains(&s) || !net.readers(s).is_empty() {
+        return Err(17);
+    }
+    Ok(without(net, s))
+}
+
+pub fn collapse(net: &Net, s: u64) -> Answer<Net> {
+    if s > 255 || !net.is_gate(s as usize) {
+        return Err(11);
+    }
+    let u = s as usize;
+    if net.outputs.contains(&u) {
+        return Err(17);
+    }
+    let mut pairs = vec![];
+    for v in net.readers(u) {
+        pairs.push((v, pair(net, s, v as u64)?));
+    }
+    let mut out = net.clone();
+    for (v, (k, l)) in pairs {
+        let gate = merged(&edge(net, s, v as u64)?, k as i64, l as i64)?;
+        out = with_gate(&out, v, gate);
+    }
+    Ok(without(&out, u))
+}
+
+/// The network after a sweep, and the number of collapses.
+pub fn sweep(net: &Net, b: u64) -> Answer<(Net, u64)> {
+    if b > 128 {
+        return Err(14);
+    }
+    let mut net = net.clone();
+    let mut count = 0;
+    'again: loop {
+        for u in net.inputs..net.inputs + net.gates.len() {
+            if net.readers(u).len() as u64 <= b {
+                if let Ok(next) = collapse(&net, u as u64) {
+                    net = next;
+                    count += 1;
+                    continue 'again;
+                }
+            }
+        }
+        return Ok((net, count));
+    }
+}
+
+// ---- the report
+
+pub fn cost(net: &Net) -> u64 {
+    net.gates.iter().map(|g| g.threshold.unsigned_abs() + g.feeds.iter().map(|f| f.1.unsigned_abs()).sum::<u64>()).sum()
+}
+
+pub fn levels(net: &Net) -> u64 {
+    let mut levels = vec![0u64; net.inputs];
+    for gate in &net.gates {
+        let highest = gate.feeds.iter().map(|f| levels[f.0]).max().unwrap_or(0);
+        levels.push(highest + 1);
+    }
+    *levels[net.inputs..].iter().max().unwrap()
+}
+
+// ---- the question
+
+fn line(terms: &[(i64, usize)], right: i64) -> String {
+    let terms: String = terms.iter().map(|(c, v)| format!("{c:+} x{v} ")).collect();
+    format!("{terms}>= {right} ;\n")
+}
+
+fn gate_lines(gate: &Gate, variable: impl Fn(usize) -> usize, y: usize) -> [String; 2] {
+    let highest: i64 = gate.feeds.iter().map(|f| f.1.max(0)).sum();
+    let lowest: i64 = gate.feeds.iter().map(|f| f.1.min(0)).sum();
+    let mut upper: Vec<(i64, usize)> = gate.feeds.iter().map(|f| (-f.1, variable(f.0))).collect();
+    let mut lower: Vec<(i64, usize)> = gate.feeds.iter().map(|f| (f.1, variable(f.0))).collect();
+    upper.push((highest - gate.threshold + 1, y));
+    lower.push((lowest - gate.threshold, y));
+    [line(&upper, 1 - gate.threshold), line(&lower, lowest)]
+}
+
+/// The lines of the question, the header first.
+pub fn question(first: &Net, second: &Net) -> Answer<Vec<String>> {
+    if first.inputs != second.inputs || first.outputs.len() != second.outputs.len() {
+        return Err(19);
+    }
+    let shift = first.gates.len();
+    let of_first = |s: usize| s + 1;
+    let of_second = |s: usize| if s < first.inputs { s + 1 } else { s + shift + 1 };
+    let difference = first.inputs + first.gates.len() + second.gates.len() + 1;
+    let mut lines = vec![];
+    for (g, gate) in first.gates.iter().enumerate() {
+        lines.extend(gate_lines(gate, of_first, of_first(first.inputs + g)));
+    }
+    for (g, gate) in second.gates.iter().enumerate() {
+        lines.extend(gate_lines(gate, of_second, of_second(second.inputs + g)));
+    }
+    for j in 0..first.outputs.len() {
+        let (p, q, d) = (of_first(first.outputs[j]), of_second(second.outputs[j]), difference + j);
+        lines.push(line(&[(1, p), (1, q), (-1, d)], 0));
+        lines.push(line(&[(-1, p), (-1, q), (-1, d)], -2));
+    }
+    let all: Vec<(i64, usize)> = (0..first.outputs.len()).map(|j| (1, difference + j)).collect();
+    lines.push(line(&all, 1));
+    let variables = difference + first.outputs.len() - 1;
+    lines.insert(0, format!("* #variable= {variables} #constraint= {}\n", lines.len()));
+    Ok(lines)
+}
+
+// ---- the program
+
+/// What `fold` prints for a file.
+pub fn fold(file: &[u8]) -> String {
+    let net = match read(file) {
+        Ok(net) => net,
+        Err(code) => return format!("refused {code}\n"),
+    };
+    let (after, count) = sweep(&net, 128).unwrap();
+    let mut out = format!(
+        "gates {} {}\ncost {} {}\nlevels {} {}\nfolded {count}\n",
+        net.gates.len(),
+        after.gates.len(),
+        cost(&net),
+        cost(&after),
+        levels(&net),
+        levels(&after),
+    );
+    for line in question(&net, &after).unwrap() {
+        out += &line;
+    }
+    out
+}
+
+#[cfg(test)]
+mod tests {
+    use super::*;
+
+    const F: &[u8] = b"PMN\x01\x00\x03\x02\x01\x02\x05\0\0\0\x00\x04\0\0\0\x01\x03\0\0\0\x02\x03\0\0\0\x02\x01\0\0\0\x03\x02\0\0\0\x04";
+
+    #[test]
+    fn the_paper_prints_this_for_f() {
+        let want = "gates 2 1\ncost 18 18\nlevels 2 1\nfolded 1\n* #variable= 7 #constraint= 9\n-4 x1 -3 x2 +3 x4 >= -4 ;\n+4 x1 +3 x2 -5 x4 >= 0 ;\n-1 x3 -2 x4 +1 x5 >= -2 ;\n+1 x3 +2 x4 -3 x5 >= 0 ;\n-4 x1 -3 x2 -3 x3 +3 x6 >= -7 ;\n+4 x1 +3 x2 +3 x3 -8 x6 >= 0 ;\n+1 x5 +1 x6 -1 x7 >= 0 ;\n-1 x5 -1 x6 -1 x7 >= -2 ;\n+1 x7 >= 1 ;\n";
+        assert_eq!(fold(F), want);
+        assert_eq!(write(&read(F).unwrap()), F);
+    }
+
+    #[test]
+    fn the_bench_gates() {
+        let net = |u: &[(usize, i64)], tu, v: &[(usize, i64)], tv| Net {
+            inputs: 3,
+            gates: vec![Gate { feeds: u.to_vec(), threshold: tu }, Gate { feeds: v.to_vec(), threshold: tv }],
+            outputs: vec![4],
+        };
+        let f = read(F).unwrap();
+        assert_eq!(merge(&f, 3, 4, 1, 3).unwrap().gates[1], Gate { feeds: vec![(0, 4), (1, 3), (2, 3)], threshold: 8 });
+        assert_eq!(merge(&f, 3, 4, 1, 2), Err(15));
+        assert_eq!(pair(&f, 3, 4), Ok((1, 3)));
+        assert!(merge(&f, 3, 4, 1, 32).is_ok());
+        assert_eq!(merge(&f, 3, 4, 1, 33), Err(14));
+        let p8 = net(&[(0, 1)], 1, &[(0, -1), (3, 1)], 0);
+        assert_eq!(merge(&p8, 3, 4, 1, 1).unwrap().gates[1], Gate { feeds: vec![], threshold: 0 });
+        assert_eq!(pair(&net(&[(0, -1), (1, -1)], 0, &[(0, 1), (1, 1), (3, 2)], 2), 3, 4), Err(16));
+        assert!(merge(&net(&[(0, 500_000)], 500_000, &[(3, 1)], 1), 3, 4, 2, 1).is_ok());
+        assert_eq!(merge(&net(&[(0, 500_001)], 500_001, &[(3, 1)], 1), 3, 4, 2, 1), Err(6));
+        let p11 = net(&[(0, 1), (1, 1)], 1, &[(0, 1), (3, 1)], 2);
+        assert_eq!(merge(&p11, 3, 4, 1, 1).unwrap().gates[1], Gate { feeds: vec![(0, 2), (1, 1)], threshold: 2 });
+        assert_eq!((frame(&f, 7), frame(&f, 8)), (Ok((1, 1)), Err(10)));
+    }
+}

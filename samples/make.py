@@ -1,0 +1,90 @@
+#!/usr/bin/env python3
+"""Writes the sample files of this folder: python3 samples/make.py
+
+Each sample is a PMN file, version 1, of a mask that a mechanic would recognise. A gate is a list of feeds (signal, weight) and a
+threshold; inputs have the signals 0 to inputs - 1, and gates follow in order.
+"""
+import os
+import struct
+
+HERE = os.path.dirname(os.path.abspath(__file__))
+
+
+class Mask:
+    def __init__(self, inputs):
+        self.inputs = inputs
+        self.gates = []
+
+    def gate(self, feeds, threshold):
+        """Adds a gate and returns its signal."""
+        self.gates.append((sorted(feeds), threshold))
+        return self.inputs + len(self.gates) - 1
+
+    def at_least(self, count, signals):
+        """A vote: 1 if at least count of the signals are 1."""
+        return self.gate([(s, 1) for s in signals], count)
+
+    def write(self, name, outputs):
+        data = b"PMN" + struct.pack("<HBBB", 1, self.inputs, len(self.gates), len(outputs))
+        for feeds, threshold in self.gates:
+            data += struct.pack("<Bi", len(feeds), threshold)
+            for signal, weight in feeds:
+                data += struct.pack("<Bi", signal, weight)
+        data += bytes(outputs)
+        with open(os.path.join(HERE, name), "wb") as file:
+            file.write(data)
+        print(f"{name}: {len(data)} bytes, {len(self.gates)} gates")
+
+
+def f():
+    """File F of the paper: two patches that outweigh a limit, and a third beside them."""
+    mask = Mask(3)
+    u = mask.gate([(0, 4), (1, 3)], 5)
+    v = mask.gate([(2, 1), (u, 2)], 3)
+    mask.write("f.pmn", [v])
+
+
+def full_rack():
+    """Ten pins of four patches each: a pin stands if its two upper patches are both lit, or one of them with both lower ones."""
+    mask = Mask(40)
+    pins = []
+    for pin in range(10):
+        upper, lower = [4 * pin, 4 * pin + 1], [4 * pin + 2, 4 * pin + 3]
+        foot = mask.at_least(2, lower)
+        pins.append(mask.gate([(upper[0], 1), (upper[1], 1), (foot, 1)], 2))
+    mask.write("full_rack.pmn", pins)
+
+
+def corner_pin():
+    """One corner pin of eight patches, with a shadow that votes against: the shadow's gate does not fold."""
+    mask = Mask(8)
+    head = mask.at_least(2, [0, 1, 2])
+    body = mask.at_least(2, [3, 4, 5])
+    shadow = mask.at_least(2, [6, 7])
+    pin = mask.gate([(head, 2), (body, 2), (shadow, -1)], 2)
+    mask.write("corner_pin.pmn", [pin])
+
+
+def far_fold():
+    """A chain in which every gate asks for one patch more: it folds into a single gate."""
+    mask = Mask(13)
+    signal = mask.at_least(2, [0, 1])
+    for patch in range(2, 13):
+        signal = mask.at_least(2, [signal, patch])
+    mask.write("far_fold.pmn", [signal])
+
+
+def no_fold():
+    """Exactly one of two patches, four times over: no gate of it can be folded into its reader."""
+    mask = Mask(8)
+    outputs = []
+    for pair in range(4):
+        a, b = 2 * pair, 2 * pair + 1
+        both = mask.at_least(2, [a, b])
+        outputs.append(mask.gate([(a, 1), (b, 1), (both, -2)], 1))
+    mask.write("no_fold.pmn", outputs)
+
+
+if __name__ == "__main__":
+    for sample in (f, full_rack, corner_pin, far_fold, no_fold):
+        sample()
