@@ -5,3 +5,4 @@ pub mod OutputsLoop
 pub mod GatesLoop
 mod PartWrites
 pub mod Body
+pub mod PartFiles
