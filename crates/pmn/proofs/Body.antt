@@ -1,16 +1,15 @@
 -- What follows the header, from the answers for its gates and its outputs. Assumes nothing.
-use mathlib.Core.Path.{_≡_, refl, sym, ap, _∙_}
+use mathlib.Core.Path.{_≡_, sym, ap, _∙_}
 use mathlib.Core.List.{List, []}
 use Prim.Native.Nat.{ℕ, _+_, _≤_, _<_}
 use lib.ListN.{length, drop}
-use Rattle.network.specs.Threshold.{Net}
 use Rattle.network.specs.Record.{layout}
 use Rattle.network.specs.declared.Network.{Network}
-use Rattle.format.specs.Format.{Read, refused, done, parseGates, parseOutputs, parseBody}
+use Rattle.format.specs.Format.{refused, parseGates, parseOutputs, parseBody}
 use Rattle.format.specs.HeadLaws.{body-gates-refused, body-outputs-refused, body-tail, body-done}
 use Rattle.pmn.specs.Answers.{asLoaded}
-use Rattle.pmn.specs.Seen.{Seen, gatesOf, outputPlaces}
-use Rattle.pmn.proofs.Answers.{Found, found, failed}
+use Rattle.pmn.specs.Seen.{Seen, gatesRecord, outputPlaces}
+use Rattle.pmn.proofs.SeenLaws.{found, failed}
 
 -- a record with outputs
 abbrev pub withOutputs : Network → ℕ → List ℕ → Network
@@ -25,7 +24,7 @@ withOutputs r outputs drivers = record {
   drivers = drivers;
 }
 
-module _ (i g o : ℕ) {s : List ℕ} {code next : ℕ} {network : Network} (h : Seen (gatesOf i) s (parseGates i g [] (drop 8 s)) code next network) where
+module _ (i g o : ℕ) {s : List ℕ} {code next : ℕ} {network : Network} (h : Seen (gatesRecord i) s (parseGates i g [] (drop 8 s)) code next network) where
   pub gates-failed : (code ≡ 0 → ⊥) → asLoaded (refused code) ≡ asLoaded (parseBody i g o (drop 8 s))
   gates-failed e = sym (ap asLoaded (body-gates-refused i g o (drop 8 s) (failed h e)))
 

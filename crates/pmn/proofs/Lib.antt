@@ -1,5 +1,5 @@
 pub mod Tables
-pub mod Answers
+pub mod SeenLaws
 pub mod FeedsLoop
 pub mod OutputsLoop
 pub mod GatesLoop

@@ -9,8 +9,8 @@ use Rattle.network.specs.Record.{gateRecord, driversOf, layout}
 use Rattle.network.specs.declared.GateRecord.{GateRecord}
 use Rattle.network.specs.declared.Network.{Network}
 use Rattle.format.specs.Format.{Read, refused, done, andThen, parseFeed, parseBody, parseFile}
-use Rattle.pmn.specs.declared.unchecked.reader.FeedRead.{FeedRead}
-use Rattle.pmn.specs.declared.unchecked.reader.FeedRead.the-variants.{Bad, Got}
+use Rattle.pmn.specs.declared.unchecked.gate_reader.FeedRead.{FeedRead}
+use Rattle.pmn.specs.declared.unchecked.gate_reader.FeedRead.the-variants.{Bad, Got}
 
 -- the refusal where the code is not 0, else r
 abbrev pub byCode : {A : Type 0} → ℕ → Read A → Read A
@@ -20,7 +20,7 @@ byCode (suc k) r = refused (suc k)
 -- ---- the header
 
 -- a header with counts that are within the limits
-pub record Counted (s : List ℕ) (inputs gates outputs : ℕ) : Type 0 where
+pub record Header (s : List ℕ) (inputs gates outputs : ℕ) : Type 0 where
   pub long : 8 ≤ length s
   pub few-inputs : inputs ≤ 40
   pub few-gates : gates ≤ 128
@@ -29,7 +29,7 @@ pub record Counted (s : List ℕ) (inputs gates outputs : ℕ) : Type 0 where
 -- an answer for the header of the file s: where the code is 0, what follows the header decides; else the code is the file's refusal
 pub record HeadSeen (s : List ℕ) (code inputs gates outputs : ℕ) : Type 0 where
   pub says : parseFile s ≡ byCode code (parseBody inputs gates outputs (drop 8 s))
-  pub counts : code ≡ 0 → Counted s inputs gates outputs
+  pub counts : code ≡ 0 → Header s inputs gates outputs
 
 -- ---- a feed
 
@@ -60,12 +60,12 @@ pub record Seen {A B : Type 0} (f : A → B) (s : List ℕ) (p : Read A) (code n
   pub says : byCode code (done value (drop next s)) ≡ mapped f p
 
 -- the 16 places of a gate with a threshold, by its feeds
-abbrev pub gateOf : ℤ → List Feed → GateRecord
-gateOf t fs = gateRecord (record { feeds = fs; threshold = t })
+abbrev pub rowOf : ℤ → List Feed → GateRecord
+rowOf t fs = gateRecord (record { feeds = fs; threshold = t })
 
 -- the record of a network by its gates, with no outputs
-abbrev pub gatesOf : ℕ → List Gate → Network
-gatesOf inputs gs = layout (record { inputs = inputs; gates = gs; outputs = [] })
+abbrev pub gatesRecord : ℕ → List Gate → Network
+gatesRecord inputs gs = layout (record { inputs = inputs; gates = gs; outputs = [] })
 
 -- the number of the outputs, and their 16 places
 abbrev pub outputPlaces : List ℕ → ℕ × List ℕ

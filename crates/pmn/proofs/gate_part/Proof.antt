@@ -1,27 +1,20 @@
+-- A number of 0 says that the file is that of a network with the gate; its count bytes lead to the gate's bytes.
 use borrow.Author.Needs.{needs}
 use native.Mathlib.Omega.{arith}
-use mathlib.Core.Path.{_≡_, sym, ap, _∙_}
+use mathlib.Core.Path.{_≡_, sym, _∙_}
 use Prim.Native.Nat.{_-_}
 use Rattle.format.specs.Part.{partAnswer}
 use Rattle.format.specs.LengthLaws.{bytes-of}
 use Rattle.pmn.proofs.PartFiles.{PartFile, no-part, part-file, inputs-at, long, gate-file, part-is}
 use Rattle.pmn.proofs.gate_part.Statement.{statement}
 use Rattle.pmn.proofs.gate_part.Tie as tie
-use Rattle.pmn.proofs.gate_part.Reads as reads
-use Rattle.pmn.proofs.gate_part.Lts as lts
-use Rattle.integers.proofs.wide.Reads as wide-reads
-use Rattle.pmn.proofs.gate_part_code.Reads as gate-part-code-reads
-use Rattle.pmn.proofs.unchecked.parts.gate_bytes.Reads as gate-bytes-reads
 
--- src/lib.rt:58:8
 gate-part-code-requires : tie.Need-gate-part-code-requires
 gate-part-code-requires c κs = search needs
 
--- src/lib.rt:59:9
 slice-aggregate-result : tie.Need-slice-aggregate-result
 slice-aggregate-result c = search needs
 
--- src/lib.rt:59:9
 returns : tie.Need-returns
 returns c = let a = c .before .before .before .before .args in sym (no-part (partAnswer (a .file .now) (a .signal)) (λ h. c .before .if1 .taken (c .before .before .gate-part-code .ensures ∙ h)))
 
@@ -34,23 +27,18 @@ file-of c =
 place : (c : tie.After-wide) → c .before .before .before .before .before .args .signal - c .wide .result ≡ c .before .before .before .before .before .args .signal - file-of (c .before .before) .net .inputs
 place c = rw (c .wide .ensures .0, inputs-at (file-of (c .before .before)))
 
--- src/lib.rt:61:23
 shared-slice-read-wide : tie.Need-shared-slice-read-wide
 shared-slice-read-wide c = omega (arith, long (file-of (c .before)))
 
--- src/lib.rt:61:9
 wide-requires : tie.Need-wide-requires
 wide-requires c κs = search needs
 
--- src/lib.rt:62:40
 sub-gate-bytes : tie.Need-sub-gate-bytes
 sub-gate-bytes c = omega (arith, c .wide .ensures .0, inputs-at (file-of (c .before .before)), file-of (c .before .before) .has)
 
--- src/lib.rt:62:5
 gate-bytes-requires : tie.Need-gate-bytes-requires
 gate-bytes-requires c κs = gate-file (file-of (c .before .before)) (place c)
 
--- src/lib.rt:55:1
 returns-2 : tie.Need-returns-2
 returns-2 c = c .gate-bytes .ensures ∙ part-is (file-of (c .before .before .before)) (place (c .before))
 

@@ -1,6 +1,7 @@
+-- The read refuses the file, or gives its network, whose counts decide whether the signal is a gate's.
 use borrow.Author.Needs.{needs}
 use native.Mathlib.Omega.{arith}
-use mathlib.Core.Path.{_≡_, sym, ap, _∙_}
+use mathlib.Core.Path.{sym, ap}
 use Rattle.integers.specs.Tests.{is-true}
 use Rattle.network.specs.Limits.{isGate}
 use Rattle.network.specs.LimitLaws.{of-has}
@@ -10,11 +11,7 @@ use Rattle.format.specs.LengthLaws.{bytes-of}
 use Rattle.pmn.proofs.PartFiles.{Opened, opened, closed, not-gate}
 use Rattle.pmn.proofs.gate_part_code.Statement.{statement}
 use Rattle.pmn.proofs.gate_part_code.Tie as tie
-use Rattle.pmn.proofs.gate_part_code.Reads as reads
-use Rattle.pmn.proofs.gate_part_code.Lts as lts
-use Rattle.pmn.proofs.read.Reads as read-reads
 
--- src/lib.rt:38:9
 read-requires : tie.Need-read-requires
 read-requires c κs = search needs
 
@@ -22,27 +19,23 @@ read-requires c κs = search needs
 open-file : (c : tie.Else1) → Opened (c .before .before .before .args .file .now) (c .before .read .result)
 open-file c = opened (c .before .before .before .args .file .now) (c .before .read .ensures) (c .if1 .left)
 
--- src/lib.rt:41:9
 returns : tie.Need-returns
 returns c =
     let a = c .before .before .before .args in
     sym (ap asCode (part-refused (a .file .now) (a .signal) _ (closed (a .file .now) (c .before .read .ensures) (c .if1 .taken))))
 
--- src/lib.rt:46:9
 returns-2 : tie.Need-returns-2
 returns-2 c =
     let a = c .before .before .before .before .args in
     let o = open-file (c .before) in
     sym (ap asCode (part-stray (a .file .now) (a .signal) (o .net) (o .rest) (o .reads) (not-gate (o .net) (a .signal) (λ h. omega (arith, o .inputs)))))
 
--- src/lib.rt:49:9
 returns-3 : tie.Need-returns-3
 returns-3 c =
     let a = c .before .before .before .before .before .args in
     let o = open-file (c .before .before) in
     sym (ap asCode (part-stray (a .file .now) (a .signal) (o .net) (o .rest) (o .reads) (not-gate (o .net) (a .signal) (λ h. omega (arith, o .inputs, o .gates)))))
 
--- src/lib.rt:35:1
 returns-4 : tie.Need-returns-4
 returns-4 c =
     let a = c .before .before .before .before .before .args in

@@ -1,24 +1,20 @@
-// Reading the parts of a file by their places: the header, a feed, a gate, the gates, the outputs. A code of 0 says that the part
-// was read, and that the next one starts at `next`; any other code is the refusal.
-ghost use mathlib.Core.Path.{_≡_};
-ghost use mathlib.Core.List.{[]};
-ghost use Prim.Native.Nat.{_+_, _≤_, _<_};
-ghost use lib.ListN.{length, drop};
-ghost use Rattle.network.specs.Record.{gateRecord};
-ghost use Rattle.format.specs.Format.{refused, parseFeeds, parseGate, parseGates, parseOutputs, parseBody};
-ghost use Rattle.pmn.specs.Answers.{asLoaded};
-ghost use Rattle.pmn.specs.Seen.{HeadSeen, Counted, FeedSeen, Seen, gateOf, gatesOf, outputPlaces};
+// Reading the parts of a file: the header, the gates, the outputs, and the network that they make. A code of 0 says that the part was
+// read, and that the next one starts at `next`; any other code is the refusal.
+use super::gate_reader::read_gate;
 use crate::Loaded;
-use integers::unchecked::get_int;
 use integers::wide;
-use network::GateRecord;
 use network::Network;
 use network::blank;
 use network::soundness::counts_sound;
-use network::soundness::in_scale;
-use network::soundness::weight_sound;
 use network::unchecked::places::store_signals;
 use network::unchecked::places::store_weights;
+ghost use mathlib.Core.Path.{_≡_};
+ghost use mathlib.Core.List.{[]};
+ghost use Prim.Native.Nat.{_≤_};
+ghost use lib.ListN.{length, drop};
+ghost use Rattle.format.specs.Format.{refused, parseGates, parseOutputs, parseBody};
+ghost use Rattle.pmn.specs.Answers.{asLoaded};
+ghost use Rattle.pmn.specs.Seen.{Header, HeadSeen, Seen, gatesRecord, outputPlaces};
 
 // The counts of a header.
 pub struct HeadRead {
@@ -26,19 +22,6 @@ pub struct HeadRead {
     pub inputs: usize,
     pub gates: usize,
     pub outputs: usize,
-}
-
-// A feed, or the refusal.
-pub enum FeedRead {
-    Bad(u8),
-    Got { signal: u8, weight: i32 },
-}
-
-// A gate, in the form of its 16 places.
-pub struct GateRead {
-    pub code: u8,
-    pub next: usize,
-    pub gate: GateRecord,
 }
 
 // The gates, as the record of a network that has no outputs.
@@ -96,108 +79,6 @@ pub fn read_head(file: &[u8]) -> HeadRead
     }
 }
 
-// The feed at a place, of the gate with signal own; its signal is low at least.
-fn read_feed(file: &[u8], at: usize, own: usize, low: usize) -> FeedRead
-    ensures { λ r. ⌜ FeedSeen own low at (now (file .entry)) r ⌝ }
-{
-    if file.len() <= at {
-        return FeedRead::Bad(4);
-    }
-    let signal = file[at];
-    let s = wide(signal);
-    let fits = (low <= s) & (s < own);
-    if !fits {
-        return FeedRead::Bad(5);
-    }
-    if file.len() - at < 5 {
-        return FeedRead::Bad(4);
-    }
-    let weight = get_int(file, at + 1);
-    if !weight_sound(weight) {
-        return FeedRead::Bad(6);
-    }
-    FeedRead::Got { signal, weight }
-}
-
-// The answer for a gate that is refused.
-fn no_gate(code: u8) -> GateRead
-    ensures { λ r. ⌜ (r .code ≡ code) × (r .next ≡ 0) ⌝ }
-{
-    let signals = [0u8; 16];
-    let weights = [0i32; 16];
-    let gate = GateRecord {
-        fanin: 0,
-        threshold: 0,
-        signals,
-        weights,
-    };
-    GateRead {
-        code,
-        next: 0,
-        gate,
-    }
-}
-
-// The rest of the gate with signal own, whose feed count and threshold are read: its feeds, from a place on.
-fn read_feeds(file: &[u8], start: usize, own: usize, fanin: u8, threshold: i32) -> GateRead
-    requires { ⌜ (start ≤ length (now file)) × (fanin ≤ 16) ⌝ }
-    ensures { λ r. ⌜ Seen (gateOf threshold) (now (file .entry)) (parseFeeds own fanin 0 [] (drop start (now (file .entry)))) (r .code) (r .next) (r .gate) ⌝ }
-{
-    let count = wide(fanin);
-    let mut signals = [0u8; 16];
-    let mut weights = [0i32; 16];
-    let mut at = start;
-    let mut low: usize = 0;
-    let mut i: usize = 0;
-    while i < count {
-        let f = read_feed(file, at, own, low);
-        match f {
-            FeedRead::Bad(code) => {
-                return no_gate(code);
-            }
-            FeedRead::Got { signal, weight } => {
-                signals[i] = signal;
-                weights[i] = weight;
-                low = wide(signal) + 1;
-                at += 5;
-                i += 1;
-            }
-        }
-    }
-    let gate = GateRecord {
-        fanin,
-        threshold,
-        signals,
-        weights,
-    };
-    GateRead {
-        code: 0,
-        next: at,
-        gate,
-    }
-}
-
-// The gate with signal own at a place.
-fn read_gate(file: &[u8], at: usize, own: usize) -> GateRead
-    ensures { λ r. ⌜ Seen gateRecord (now (file .entry)) (parseGate own (drop at (now (file .entry)))) (r .code) (r .next) (r .gate) ⌝ }
-{
-    if file.len() <= at {
-        return no_gate(4);
-    }
-    let fanin = file[at];
-    if 16 < fanin {
-        return no_gate(7);
-    }
-    if file.len() - at < 5 {
-        return no_gate(4);
-    }
-    let threshold = get_int(file, at + 1);
-    if !in_scale(threshold) {
-        return no_gate(6);
-    }
-    read_feeds(file, at + 5, own, fanin, threshold)
-}
-
 // The answer for gates that are refused.
 fn no_gates(code: u8) -> GatesRead
     ensures { λ r. ⌜ (r .code ≡ code) × (r .next ≡ 0) ⌝ }
@@ -213,7 +94,7 @@ fn no_gates(code: u8) -> GatesRead
 // The gates, from a place on, of a network with so many inputs and gates.
 pub fn read_gates(file: &[u8], start: usize, inputs: usize, gates: usize) -> GatesRead
     requires { ⌜ (start ≤ length (now file)) × (inputs ≤ 40) × (gates ≤ 128) ⌝ }
-    ensures { λ r. ⌜ Seen (gatesOf inputs) (now (file .entry)) (parseGates inputs gates [] (drop start (now (file .entry)))) (r .code) (r .next) (r .network) ⌝ }
+    ensures { λ r. ⌜ Seen (gatesRecord inputs) (now (file .entry)) (parseGates inputs gates [] (drop start (now (file .entry)))) (r .code) (r .next) (r .network) ⌝ }
 {
     let mut fanins = [0u8; 128];
     let mut signals = [0u8; 2048];
@@ -308,7 +189,7 @@ pub fn refuse(code: u8) -> Loaded
 
 // What follows the header of a file with so many inputs, gates and outputs.
 pub fn read_body(file: &[u8], inputs: usize, gates: usize, outputs: usize) -> Loaded
-    requires { ⌜ Counted (now file) inputs gates outputs ⌝ }
+    requires { ⌜ Header (now file) inputs gates outputs ⌝ }
     ensures { λ r. ⌜ r ≡ asLoaded (parseBody inputs gates outputs (drop 8 (now (file .entry)))) ⌝ }
 {
     let body = read_gates(file, 8, inputs, gates);

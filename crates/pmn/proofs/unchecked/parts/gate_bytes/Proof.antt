@@ -1,3 +1,4 @@
+-- The gate's count byte stands at its start, and its bytes lie in the file.
 use borrow.Author.Needs.{needs}
 use native.Mathlib.Nat.{le-refl}
 use native.Mathlib.Omega.{arith}
@@ -5,15 +6,9 @@ use mathlib.Core.Path.{_≡_, ap, _∙_}
 use Prim.Native.Nat.{ℕ, _+_, _*_, _-_, _≤_}
 use lib.ListN.{length, getD, take, drop}
 use Rattle.format.specs.PartLaws.{start-within}
-use Rattle.pmn.specs.Parts.{partBy}
 use Rattle.pmn.proofs.unchecked.parts.gate_bytes.Statement.{statement}
 use Rattle.pmn.proofs.unchecked.parts.gate_bytes.Tie as tie
-use Rattle.pmn.proofs.unchecked.parts.gate_bytes.Reads as reads
-use Rattle.pmn.proofs.unchecked.parts.gate_bytes.Lts as lts
-use Rattle.integers.proofs.wide.Reads as wide-reads
-use Rattle.pmn.proofs.unchecked.parts.gate_start.Reads as gate-start-reads
 
--- src/unchecked/parts.rt:26:9
 gate-start-requires : tie.Need-gate-start-requires
 gate-start-requires c κs = search needs
 
@@ -21,39 +16,30 @@ gate-start-requires c κs = search needs
 within : (c : tie.After-gate-start) → let s = c .before .before .args .file .now in c .gate-start .result + (5 + 5 * getD s (c .gate-start .result) 0) ≤ length s
 within c = let a = c .before .before in rw (c .gate-start .ensures) (start-within (a .args .file .now) (a .args .g) (a .pre) (a .args .g) (le-refl (a .args .g)))
 
--- src/unchecked/parts.rt:27:34
 shared-slice-read-wide : tie.Need-shared-slice-read-wide
 shared-slice-read-wide c = omega (arith, within (c .before))
 
--- src/unchecked/parts.rt:27:29
 wide-requires : tie.Need-wide-requires
 wide-requires c κs = search needs
 
--- src/unchecked/parts.rt:27:25
 mul-end : tie.Need-mul-end
 mul-end c = search needs
 
--- src/unchecked/parts.rt:27:21
 add-end : tie.Need-add-end
 add-end c = search needs
 
--- src/unchecked/parts.rt:27:15
 add-end-2 : tie.Need-add-end-2
 add-end-2 c = omega (arith, within (c .before .before))
 
--- src/unchecked/parts.rt:28:5
 sub-result : tie.Need-sub-result
 sub-result c = search needs
 
--- src/unchecked/parts.rt:28:5
 part-result-start : tie.Need-part-result-start
 part-result-start c = search needs
 
--- src/unchecked/parts.rt:28:5
 part-result-end : tie.Need-part-result-end
 part-result-end c = omega (arith, within (c .before .before))
 
--- src/unchecked/parts.rt:22:1
 returns : tie.Need-returns
 returns c =
     let at-wide = c .before in

@@ -1,14 +1,12 @@
+-- At each turn the place is where gate i starts, and gate i lies in the file.
 use borrow.Author.Needs.{needs}
 use native.Mathlib.Omega.{arith}
-use mathlib.Core.Path.{_≡_, sym, ap, _∙_, subst}
-use Prim.Native.Nat.{ℕ, _+_, _*_, _-_, _≤_, zero-le}
+use mathlib.Core.Path.{_≡_, sym, ap, _∙_}
+use Prim.Native.Nat.{_+_, _*_, _-_, _≤_, zero-le}
 use lib.ListN.{length, getD}
 use Rattle.format.specs.PartLaws.{startBy, startBy-none, startBy-more, start-within}
 use Rattle.pmn.proofs.unchecked.parts.gate_start.Statement.{statement}
 use Rattle.pmn.proofs.unchecked.parts.gate_start.Tie as tie
-use Rattle.pmn.proofs.unchecked.parts.gate_start.Reads as reads
-use Rattle.pmn.proofs.unchecked.parts.gate_start.Lts as lts
-use Rattle.integers.proofs.wide.Reads as wide-reads
 
 abbrev Inv-loop : tie.InvT-loop
 Inv-loop file g at₀ i₀ at i = (at ≡ startBy file i) × (i ≤ g)
@@ -23,39 +21,30 @@ within c =
     let s = start .args .file .now in
     rw (c .loop .inv .0) (start-within s (start .args .g) (start .pre) (c .loop .i) (c .loop .inv .1))
 
--- src/unchecked/parts.rt:14:5
 loop-holds : tie.Need-loop-holds Inv-loop μ-loop
 loop-holds c = (sym (startBy-none (c .before .args .file .now)), zero-le)
 
--- src/unchecked/parts.rt:15:28
 shared-slice-read-wide : tie.Need-shared-slice-read-wide Inv-loop μ-loop
 shared-slice-read-wide c = omega (arith, within (c .before .before))
 
--- src/unchecked/parts.rt:15:23
 wide-requires : tie.Need-wide-requires Inv-loop μ-loop
 wide-requires c κs = search needs
 
--- src/unchecked/parts.rt:15:19
 mul-at : tie.Need-mul-at Inv-loop μ-loop
 mul-at c = search needs
 
--- src/unchecked/parts.rt:15:15
 add-at : tie.Need-add-at Inv-loop μ-loop
 add-at c = search needs
 
--- src/unchecked/parts.rt:15:9
 add-at-2 : tie.Need-add-at-2 Inv-loop μ-loop
 add-at-2 c = omega (arith, within (c .before .before .before))
 
--- src/unchecked/parts.rt:16:9
 add-i : tie.Need-add-i Inv-loop μ-loop
 add-i c = search needs
 
--- src/unchecked/parts.rt:14:5
 loop-less : tie.Need-loop-less Inv-loop μ-loop
 loop-less c = search needs
 
--- src/unchecked/parts.rt:14:5
 loop-again : tie.Need-loop-again Inv-loop μ-loop
 loop-again c =
     let at-loop = c .before .before .before in
@@ -63,7 +52,6 @@ loop-again c =
     let l = at-loop .loop in
     (rw (c .wide .ensures .0, l .inv .0) (sym (startBy-more s (l .i))), omega arith)
 
--- src/unchecked/parts.rt:8:1
 returns : tie.Need-returns Inv-loop μ-loop
 returns c =
     let l = c .before .loop in

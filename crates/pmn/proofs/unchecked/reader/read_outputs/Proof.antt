@@ -1,3 +1,4 @@
+-- At each turn the array holds the outputs read so far, and the rest of the outputs is what the format reads from that place.
 use borrow.Author.Needs.{needs}
 use borrow.Author.Tests.{not-true, not-false}
 use native.Mathlib.Omega.{arith}
@@ -6,17 +7,13 @@ use mathlib.Core.Bool.{_&&_}
 use Prim.Native.Nat.{ℕ, _-_}
 use lib.Dec.{leb, ltb}
 use lib.ListN.{getD}
-use Rattle.pmn.proofs.Answers.{seen-refused}
-use Rattle.pmn.proofs.OutputsLoop.{Outputs, outputs-start, outputs-cut, outputs-stray, outputs-got, outputs-end}
+use Rattle.pmn.proofs.SeenLaws.{seen-refused}
+use Rattle.pmn.proofs.OutputsLoop.{OutputsSoFar, outputs-start, outputs-cut, outputs-stray, outputs-got, outputs-end}
 use Rattle.pmn.proofs.unchecked.reader.read_outputs.Statement.{statement}
 use Rattle.pmn.proofs.unchecked.reader.read_outputs.Tie as tie
-use Rattle.pmn.proofs.unchecked.reader.read_outputs.Reads as reads
-use Rattle.pmn.proofs.unchecked.reader.read_outputs.Lts as lts
-use Rattle.integers.proofs.wide.Reads as wide-reads
-use Rattle.pmn.proofs.unchecked.reader.no_outputs.Reads as no-outputs-reads
 
 abbrev Inv-loop : tie.InvT-loop
-Inv-loop file start low top count drivers₀ at₀ j₀ drivers at j = Outputs file start low top count drivers at j
+Inv-loop file start low top count drivers₀ at₀ j₀ drivers at j = OutputsSoFar file start low top count drivers at j
 
 abbrev μ-loop : tie.MeasureT-loop
 μ-loop file start low top count drivers₀ at₀ j₀ drivers at j = count - j
@@ -26,60 +23,47 @@ signal-is : (c : tie.After-wide Inv-loop μ-loop) → let a = c .before .before 
     (leb (a .low) x && ltb x (a .top)) ≡ (leb (a .low) (c .wide .result) && ltb (c .wide .result) (a .top))
 signal-is c = let a = c .before .before .before .before .before .before .args in ap (λ (x : ℕ). leb (a .low) x && ltb x (a .top)) (sym (c .wide .ensures .0))
 
--- src/unchecked/reader.rt:163:5
 loop-holds : tie.Need-loop-holds Inv-loop μ-loop
 loop-holds c = let a = c .before .args in outputs-start (a .file .now) (a .start) (a .low) (a .top) (a .count) (c .before .pre .0)
 
--- src/unchecked/reader.rt:165:13
 no-outputs-requires : tie.Need-no-outputs-requires Inv-loop μ-loop
 no-outputs-requires c κs = search needs
 
--- src/unchecked/reader.rt:165:13
 returns : tie.Need-returns Inv-loop μ-loop
 returns c = seen-refused 4 (omega arith) (c .no-outputs .ensures) (outputs-cut (c .before .before .before .loop .inv) (omega arith) (omega arith))
 
--- src/unchecked/reader.rt:167:22
 shared-slice-read-signal : tie.Need-shared-slice-read-signal Inv-loop μ-loop
 shared-slice-read-signal c = search needs
 
--- src/unchecked/reader.rt:168:13
 wide-requires : tie.Need-wide-requires Inv-loop μ-loop
 wide-requires c κs = search needs
 
--- src/unchecked/reader.rt:171:13
 no-outputs-requires-2 : tie.Need-no-outputs-requires-2 Inv-loop μ-loop
 no-outputs-requires-2 c κs = search needs
 
--- src/unchecked/reader.rt:171:13
 returns-2 : tie.Need-returns-2 Inv-loop μ-loop
 returns-2 c =
     let at-test = c .before .before in
     seen-refused 8 (omega arith) (c .no-outputs2 .ensures)
     (outputs-stray (at-test .before .before .before .before .loop .inv) (omega arith) (omega arith) (signal-is at-test ∙ not-true _ (c .before .if2 .taken)))
 
--- src/unchecked/reader.rt:173:9
 array-write-drivers : tie.Need-array-write-drivers Inv-loop μ-loop
 array-write-drivers c = search needs
 
--- src/unchecked/reader.rt:174:9
 add-at : tie.Need-add-at Inv-loop μ-loop
 add-at c = search needs
 
--- src/unchecked/reader.rt:175:9
 add-j : tie.Need-add-j Inv-loop μ-loop
 add-j c = search needs
 
--- src/unchecked/reader.rt:163:5
 loop-less : tie.Need-loop-less Inv-loop μ-loop
 loop-less c = search needs
 
--- src/unchecked/reader.rt:163:5
 loop-again : tie.Need-loop-again Inv-loop μ-loop
 loop-again c =
     let at-test = c .before in
     outputs-got (at-test .before .before .before .before .loop .inv) (omega arith) (omega arith) (omega arith) (signal-is at-test ∙ not-false _ (c .if2 .left))
 
--- src/unchecked/reader.rt:156:1
 returns-3 : tie.Need-returns-3 Inv-loop μ-loop
 returns-3 c = outputs-end (c .before .loop .inv) (omega arith)
 

@@ -1,18 +1,14 @@
+-- The network is the blank record.
 use borrow.Author.Needs.{needs}
 use mathlib.Core.Path.{ap}
 use Rattle.network.specs.declared.Network.{Network}
 use Rattle.pmn.specs.Answers.{asLoaded}
 use Rattle.pmn.proofs.unchecked.reader.refuse.Statement.{statement}
 use Rattle.pmn.proofs.unchecked.reader.refuse.Tie as tie
-use Rattle.pmn.proofs.unchecked.reader.refuse.Reads as reads
-use Rattle.pmn.proofs.unchecked.reader.refuse.Lts as lts
-use Rattle.network.proofs.blank.Reads as blank-reads
 
--- src/unchecked/reader.rt:277:9
 blank-requires : tie.Need-blank-requires
 blank-requires c κs = search needs
 
--- src/unchecked/reader.rt:274:1
 returns : tie.Need-returns
 unfolding asLoaded
 returns c = ap (λ (n : Network). record { code = c .before .args .code; network = n }) (c .blank .ensures)

@@ -1,9 +1,9 @@
 -- The answers of the readers: what an answer says where its code is 0 and where it is not. Assumes nothing.
-use mathlib.Core.Path.{_≡_, refl, sym, ap, _∙_, subst}
+use mathlib.Core.Path.{_≡_, refl, sym, ap, _∙_}
 use mathlib.Core.List.{List}
-use Prim.Native.Nat.{ℕ, zero, suc, _≤_, _<_}
+use Prim.Native.Nat.{ℕ, zero, suc, _<_}
 use native.Mathlib.Omega.{arith}
-use lib.ListN.{length, drop}
+use lib.ListN.{drop}
 use Rattle.format.specs.Format.{Read, refused, done, parseBody, parseFile}
 use Rattle.pmn.specs.Seen.{byCode, HeadSeen, mapped, Seen}
 

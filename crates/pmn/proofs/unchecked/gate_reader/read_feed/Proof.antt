@@ -1,7 +1,8 @@
+-- Each test is the format's test of the same field at that place.
 use borrow.Author.Needs.{needs}
 use borrow.Author.Tests.{not-true, not-false}
 use native.Mathlib.Omega.{arith}
-use mathlib.Core.Path.{_≡_, refl, sym, ap, _∙_}
+use mathlib.Core.Path.{_≡_, sym, ap, _∙_}
 use mathlib.Core.Bool.{Bool, _&&_, not}
 use Prim.Native.Nat.{ℕ, _+_}
 use lib.Dec.{leb, ltb}
@@ -14,12 +15,8 @@ use Rattle.network.specs.Limits.{inScale, isZero, weightOk}
 use Rattle.integers.specs.Word.{intAt}
 use Rattle.format.specs.Format.{done, check, parseFeed}
 use Rattle.format.specs.AtLaws.{feedIn, feed-end, feed-crossed, feed-short, feed-whole}
-use Rattle.pmn.proofs.unchecked.reader.read_feed.Statement.{statement}
-use Rattle.pmn.proofs.unchecked.reader.read_feed.Tie as tie
-use Rattle.pmn.proofs.unchecked.reader.read_feed.Reads as reads
-use Rattle.pmn.proofs.unchecked.reader.read_feed.Lts as lts
-use Rattle.integers.proofs.unchecked.get_int.Reads as get-int-reads
-use Rattle.integers.proofs.wide.Reads as wide-reads
+use Rattle.pmn.proofs.unchecked.gate_reader.read_feed.Statement.{statement}
+use Rattle.pmn.proofs.unchecked.gate_reader.read_feed.Tie as tie
 
 -- the signal that was read, as the format tests it
 signal-is : (c : tie.After-wide) → let a = c .before .before .before .before .args in
@@ -31,19 +28,15 @@ weight-is : (c : tie.After-get-int) → let a = c .before .before .before .befor
     toZ w32 (ofZ w32 (c .get-int .result)) ≡ intAt (a .file .now) (a .at + 1)
 weight-is c = toZ-ofZ (record { sfits = c .get-int .ok }) ∙ c .get-int .ensures
 
--- src/unchecked/reader.rt:56:9
 returns : tie.Need-returns
 returns c = let a = c .before .before .args in record { says = sym (feed-end (a .own) (a .low) (a .at) (a .file .now) (c .if1 .taken)); inside = omega arith }
 
--- src/unchecked/reader.rt:58:18
 shared-slice-read-signal : tie.Need-shared-slice-read-signal
 shared-slice-read-signal c = search needs
 
--- src/unchecked/reader.rt:59:9
 wide-requires : tie.Need-wide-requires
 wide-requires c κs = search needs
 
--- src/unchecked/reader.rt:62:9
 returns-2 : tie.Need-returns-2
 returns-2 c =
     let a = c .before .before .before .before .before .args in
@@ -52,11 +45,9 @@ returns-2 c =
       inside = omega arith;
     }
 
--- src/unchecked/reader.rt:64:8
 sub-if3 : tie.Need-sub-if3
 sub-if3 c = search needs
 
--- src/unchecked/reader.rt:65:9
 returns-3 : tie.Need-returns-3
 returns-3 c =
     let a = c .before .before .before .before .before .before .args in
@@ -65,15 +56,12 @@ returns-3 c =
       inside = omega arith;
     }
 
--- src/unchecked/reader.rt:67:32
 add-get-int : tie.Need-add-get-int
 add-get-int c = search needs
 
--- src/unchecked/reader.rt:67:9
 get-int-requires : tie.Need-get-int-requires
 get-int-requires c κs = search needs
 
--- src/unchecked/reader.rt:68:8
 weight-sound-requires : tie.Need-weight-sound-requires
 weight-sound-requires c κs = search needs
 

@@ -1,52 +1,39 @@
+-- At each turn the arrays hold the feeds read so far, and the rest of the feeds is what the format reads from that place.
 use borrow.Author.Needs.{needs}
 use native.Mathlib.Omega.{arith}
-use mathlib.Core.Path.{_≡_, refl, subst}
-use mathlib.Core.List.{[]}
-use Prim.Native.Nat.{ℕ, suc, _+_, _-_}
-use lib.ListN.{drop}
+use mathlib.Core.Path.{refl, subst}
+use Prim.Native.Nat.{_-_}
 use mir.Syntax.{w32}
 use mir.Facts.{toZ-ofZ}
-use Rattle.format.specs.Format.{parseFeeds}
-use Rattle.pmn.specs.Seen.{FeedSeen, Seen, gateOf}
-use Rattle.pmn.proofs.Answers.{seen-refused}
-use Rattle.pmn.proofs.FeedsLoop.{Feeds, feeds-start, feeds-bad, feeds-got, feeds-end}
-use Rattle.pmn.proofs.unchecked.reader.read_feeds.Statement.{statement}
-use Rattle.pmn.proofs.unchecked.reader.read_feeds.Tie as tie
-use Rattle.pmn.proofs.unchecked.reader.read_feeds.Reads as reads
-use Rattle.pmn.proofs.unchecked.reader.read_feeds.Lts as lts
-use Rattle.integers.proofs.wide.Reads as wide-reads
-use Rattle.pmn.proofs.unchecked.reader.no_gate.Reads as no-gate-reads
-use Rattle.pmn.proofs.unchecked.reader.read_feed.Reads as read-feed-reads
+use Rattle.pmn.specs.Seen.{FeedSeen}
+use Rattle.pmn.proofs.SeenLaws.{seen-refused}
+use Rattle.pmn.proofs.FeedsLoop.{FeedsSoFar, feeds-start, feeds-bad, feeds-got, feeds-end}
+use Rattle.pmn.proofs.unchecked.gate_reader.read_feeds.Statement.{statement}
+use Rattle.pmn.proofs.unchecked.gate_reader.read_feeds.Tie as tie
 
 abbrev Inv-loop : tie.InvT-loop
 Inv-loop file start own fanin threshold count signals₀ weights₀ at₀ low₀ i₀ signals weights at low i =
-    Feeds file start own fanin signals weights at low i
+    FeedsSoFar file start own fanin signals weights at low i
 
 abbrev μ-loop : tie.MeasureT-loop
 μ-loop file start own fanin threshold count signals₀ weights₀ at₀ low₀ i₀ signals weights at low i =
     fanin - i
 
--- src/unchecked/reader.rt:95:9
 wide-requires : tie.Need-wide-requires Inv-loop μ-loop
 wide-requires c κs = search needs
 
--- src/unchecked/reader.rt:101:5
 loop-holds : tie.Need-loop-holds Inv-loop μ-loop
 loop-holds c = let a = c .before .before .args in feeds-start (a .file .now) (a .start) (a .own) (a .fanin) (c .before .before .pre .0)
 
--- src/unchecked/reader.rt:102:13
 read-feed-requires : tie.Need-read-feed-requires Inv-loop μ-loop
 read-feed-requires c κs = search needs
 
--- src/unchecked/reader.rt:104:27
 enum-known-f : tie.Need-enum-known-f Inv-loop μ-loop
 enum-known-f c = search needs
 
--- src/unchecked/reader.rt:105:17
 no-gate-requires : tie.Need-no-gate-requires Inv-loop μ-loop
 no-gate-requires c κs = search needs
 
--- src/unchecked/reader.rt:105:17
 returns : tie.Need-returns Inv-loop μ-loop
 returns c =
     let at-read = c .before .before .before .before in
@@ -57,43 +44,33 @@ returns c =
     let f = subst (FeedSeen (a .own) (l .low) (l .at) (a .file .now)) (g .1) (at-read .read-feed .ensures) in
     seen-refused (g .0 .0) (f .inside) (c .no-gate .ensures) (feeds-bad (l .inv) (omega arith) f)
 
--- src/unchecked/reader.rt:107:29
 enum-known-f-2 : tie.Need-enum-known-f-2 Inv-loop μ-loop
 enum-known-f-2 c = search needs
 
--- src/unchecked/reader.rt:108:17
 array-write-signals : tie.Need-array-write-signals Inv-loop μ-loop
 array-write-signals c = search needs
 
--- src/unchecked/reader.rt:109:17
 mul-weights : tie.Need-mul-weights Inv-loop μ-loop
 mul-weights c = search needs
 
--- src/unchecked/reader.rt:109:17
 array-set-from-weights : tie.Need-array-set-from-weights Inv-loop μ-loop
 array-set-from-weights c = search needs
 
--- src/unchecked/reader.rt:110:23
 wide-requires-2 : tie.Need-wide-requires-2 Inv-loop μ-loop
 wide-requires-2 c κs = search needs
 
--- src/unchecked/reader.rt:110:23
 add-low : tie.Need-add-low Inv-loop μ-loop
 add-low c = search needs
 
--- src/unchecked/reader.rt:111:17
 add-at : tie.Need-add-at Inv-loop μ-loop
 add-at c = search needs
 
--- src/unchecked/reader.rt:112:17
 add-i : tie.Need-add-i Inv-loop μ-loop
 add-i c = search needs
 
--- src/unchecked/reader.rt:101:5
 loop-less : tie.Need-loop-less Inv-loop μ-loop
 loop-less c = search needs
 
--- src/unchecked/reader.rt:101:5
 loop-again : tie.Need-loop-again Inv-loop μ-loop
 loop-again c =
     let at-read = c .before .before .before .before in
@@ -104,7 +81,6 @@ loop-again c =
     let f = subst (FeedSeen (a .own) (l .low) (l .at) (a .file .now)) (g .1) (at-read .read-feed .ensures) in
     feeds-got (l .inv) (omega arith) (omega arith) f (toZ-ofZ {w = w32} {z = g .0 .1 .0} (record { sfits = c .before .known-told2 .given .1 .0 .1 })) (omega arith)
 
--- src/unchecked/reader.rt:91:1
 returns-2 : tie.Need-returns-2 Inv-loop μ-loop
 returns-2 c = feeds-end (c .before .loop .inv) (omega arith) refl (toZ-ofZ (c .before .before .before .before .fits .threshold))
 
