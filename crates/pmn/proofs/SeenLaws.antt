@@ -5,6 +5,7 @@ use Prim.Native.Nat.{ℕ, zero, suc, _<_}
 use native.Mathlib.Omega.{arith}
 use lib.ListN.{drop}
 use Rattle.format.specs.Format.{Read, refused, done, parseBody, parseFile}
+use Rattle.format.specs.StepLaws.{refused≢done, done-inj}
 use Rattle.pmn.specs.Seen.{byCode, HeadSeen, mapped, Seen}
 
 -- a code that is not 0
@@ -26,15 +27,15 @@ pub record Found {A B : Type 0} (f : A → B) (s : List ℕ) (p : Read A) (next 
   pub holds : value ≡ f what
 
 found-by : {A B : Type 0} (f : A → B) (s : List ℕ) (p : Read A) (next : ℕ) (value : B) → done value (drop next s) ≡ mapped f p → Found f s p next value
-found-by f s (refused k) next value e = let z : _≡_ {A = ℕ} 0 1 = cc in absurd (omega arith)
-found-by f s (done a l) next value e = record { what = a; reads = let h : l ≡ drop next s = cc in ap (done a) h; holds = cc }
+found-by f s (refused k) next value e = refused≢done (sym e)
+found-by f s (done a l) next value e = let h = done-inj e in record { what = a; reads = ap (done a) (sym (h .1)); holds = h .0 }
 
 pub found : {A B : Type 0} {f : A → B} {s : List ℕ} {p : Read A} {code next : ℕ} {value : B} → Seen f s p code next value → code ≡ 0 → Found f s p next value
 found {A} {B} {f} {s} {p} {code} {next} {value} h e = found-by f s p next value (ap (λ (k : ℕ). byCode k (done value (drop next s))) (sym e) ∙ h .says)
 
 failed-by : {A B : Type 0} (f : A → B) (p : Read A) (code : ℕ) → refused code ≡ mapped f p → p ≡ refused code
 failed-by f (refused k) code e = ap refused (cc)
-failed-by f (done a l) code e = let z : _≡_ {A = ℕ} 0 1 = cc in absurd (omega arith)
+failed-by f (done a l) code e = refused≢done e
 
 pub failed : {A B : Type 0} {f : A → B} {s : List ℕ} {p : Read A} {code next : ℕ} {value : B} → Seen f s p code next value → (code ≡ 0 → ⊥) → p ≡ refused code
 failed {A} {B} {f} {s} {p} {code} {next} {value} h e = failed-by f p code (sym (by-refusal code (done value (drop next s)) e) ∙ h .says)

@@ -33,19 +33,19 @@ pub record HeadSeen (s : List ℕ) (code inputs gates outputs : ℕ) : Type 0 wh
 
 -- ---- a feed
 
--- what is read of the feed at a place of the file s
-abbrev pub feedSeen : List ℕ → ℕ → FeedRead → Read Feed
-feedSeen s at (Bad k) = refused k
-feedSeen s at (Got x w) = done (record { signal = x; weight = w }) (drop (at + 5) s)
+-- the answer for the feed at a place of the file s, as a read
+abbrev pub asFeed : List ℕ → ℕ → FeedRead → Read Feed
+asFeed s at (Bad k) = refused k
+asFeed s at (Got x w) = done (record { signal = x; weight = w }) (drop (at + 5) s)
 
 -- a refusal is not 0, and a feed that was read lies in the file
-abbrev pub feedInside : List ℕ → ℕ → FeedRead → Type 0
-feedInside s at (Bad k) = 0 < k
-feedInside s at (Got x w) = at + 5 ≤ length s
+abbrev pub FeedInside : List ℕ → ℕ → FeedRead → Type 0
+FeedInside s at (Bad k) = 0 < k
+FeedInside s at (Got x w) = at + 5 ≤ length s
 
 pub record FeedSeen (own low at : ℕ) (s : List ℕ) (r : FeedRead) : Type 0 where
-  pub says : feedSeen s at r ≡ parseFeed own low (drop at s)
-  pub inside : feedInside s at r
+  pub says : asFeed s at r ≡ parseFeed own low (drop at s)
+  pub inside : FeedInside s at r
 
 -- ---- longer parts
 

@@ -192,21 +192,21 @@ pub fn read_body(file: &[u8], inputs: usize, gates: usize, outputs: usize) -> Lo
     requires { ⌜ Header (now file) inputs gates outputs ⌝ }
     ensures { λ r. ⌜ r ≡ asLoaded (parseBody inputs gates outputs (drop 8 (now (file .entry)))) ⌝ }
 {
-    let body = read_gates(file, 8, inputs, gates);
-    let code = body.code;
+    let gates_read = read_gates(file, 8, inputs, gates);
+    let code = gates_read.code;
     if code != 0 {
         return refuse(code);
     }
-    let ends = read_outputs(file, body.next, inputs, inputs + gates, outputs);
-    let code = ends.code;
+    let outputs_read = read_outputs(file, gates_read.next, inputs, inputs + gates, outputs);
+    let code = outputs_read.code;
     if code != 0 {
         return refuse(code);
     }
-    if ends.next < file.len() {
+    if outputs_read.next < file.len() {
         return refuse(9);
     }
-    let mut network = body.network;
-    let drivers = ends.drivers;
+    let mut network = gates_read.network;
+    let drivers = outputs_read.drivers;
     network.outputs = outputs;
     network.drivers = drivers;
     Loaded { code: 0, network }
