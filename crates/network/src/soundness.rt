@@ -17,14 +17,14 @@ fn within(low: usize, high: usize, n: usize) -> bool
 }
 
 // Whether the three counts are within the limits.
-fn counts_sound(inputs: usize, gates: usize, outputs: usize) -> bool
+pub fn counts_sound(inputs: usize, gates: usize, outputs: usize) -> bool
     ensures { λ r. ⌜ r ≡ countsOk inputs gates outputs ⌝ }
 {
     within(1, 40, inputs) & within(1, 128, gates) & within(1, 16, outputs)
 }
 
 // Whether a weight or a threshold is within the scale.
-fn in_scale(z: i32) -> bool
+pub fn in_scale(z: i32) -> bool
     ensures { λ r. ⌜ r ≡ inScale z ⌝ }
 {
     integers::magnitude(z) <= 1000000
@@ -38,7 +38,7 @@ fn is_zero(z: i32) -> bool
 }
 
 // Whether a weight is within the scale and not 0.
-fn weight_sound(z: i32) -> bool
+pub fn weight_sound(z: i32) -> bool
     ensures { λ r. ⌜ r ≡ inScale z && not (isZero z) ⌝ }
 {
     let size = integers::magnitude(z);

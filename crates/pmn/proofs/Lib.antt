@@ -1,1 +1,8 @@
+pub mod Tables
+pub mod SeenLaws
+pub mod FeedsLoop
+pub mod OutputsLoop
+pub mod GatesLoop
 mod PartWrites
+pub mod Body
+pub mod PartFiles

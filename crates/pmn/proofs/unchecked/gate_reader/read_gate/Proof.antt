@@ -1,0 +1,117 @@
+-- Each test is the format's test of the same field at that place; the feeds follow.
+use borrow.Author.Needs.{needs}
+use borrow.Author.Tests.{not-true, not-false}
+use native.Mathlib.Omega.{arith}
+use mathlib.Core.Path.{_≡_, sym, ap, _∙_, subst}
+use mathlib.Core.Bool.{Bool}
+use mathlib.Core.List.{List, []}
+use Prim.Native.Nat.{_+_}
+use lib.IntN.{ℤ}
+use lib.ListN.{getD, drop}
+use mir.Syntax.{w32}
+use mir.Val.{toZ, ofZ}
+use mir.Facts.{toZ-ofZ}
+use Rattle.integers.specs.Word.{intAt}
+use Rattle.network.specs.Threshold.{Feed}
+use Rattle.network.specs.Limits.{inScale}
+use Rattle.network.specs.Record.{gateRecord}
+use Rattle.format.specs.Format.{check, parseFeeds, parseGate}
+use Rattle.format.specs.AtLaws.{gate-end, gate-wide, gate-short, gate-whole}
+use Rattle.pmn.specs.Seen.{Seen, mapped, rowOf}
+use Rattle.pmn.proofs.SeenLaws.{seen-refused, seen-through}
+use Rattle.pmn.proofs.unchecked.gate_reader.read_gate.Statement.{statement}
+use Rattle.pmn.proofs.unchecked.gate_reader.read_gate.Tie as tie
+
+-- the threshold that was read
+threshold-is : (c : tie.After-get-int) → let a = c .before .before .before .before .before .before .args in
+    toZ w32 (ofZ w32 (c .get-int .result)) ≡ intAt (a .file .now) (a .at + 1)
+threshold-is c = toZ-ofZ (record { sfits = c .get-int .ok }) ∙ c .get-int .ensures
+
+-- the whole gate, by what the test of its threshold says
+whole : (c : tie.After-in-scale) {b : Bool} → c .in-scale .result ≡ b → let a = c .before .before .before .before .before .before .before .args in
+    parseGate (a .own) (drop (a .at) (a .file .now))
+    ≡ check b 6 (mapped (λ fs. record { feeds = fs; threshold = intAt (a .file .now) (a .at + 1) }) (parseFeeds (a .own) (getD (a .file .now) (a .at) 0) 0 [] (drop (a .at + 5) (a .file .now))))
+whole c e =
+    let a = c .before .before .before .before .before .before .before .args in
+    gate-whole (a .own) (a .at) (a .file .now) (omega arith) (omega arith) (sym (c .in-scale .ensures ∙ ap inScale (threshold-is (c .before))) ∙ e)
+
+no-gate-requires : tie.Need-no-gate-requires
+no-gate-requires c κs = search needs
+
+returns : tie.Need-returns
+returns c =
+    let a = c .before .before .before .args in
+    seen-refused 4 (omega arith) (c .no-gate .ensures) (gate-end (a .own) (a .at) (a .file .now) (omega arith))
+
+shared-slice-read-fanin : tie.Need-shared-slice-read-fanin
+shared-slice-read-fanin c = search needs
+
+no-gate-requires-2 : tie.Need-no-gate-requires-2
+no-gate-requires-2 c κs = search needs
+
+returns-2 : tie.Need-returns-2
+returns-2 c =
+    let a = c .before .before .before .before .before .args in
+    seen-refused 7 (omega arith) (c .no-gate2 .ensures) (gate-wide (a .own) (a .at) (a .file .now) (omega arith) (omega arith))
+
+sub-if3 : tie.Need-sub-if3
+sub-if3 c = search needs
+
+no-gate-requires-3 : tie.Need-no-gate-requires-3
+no-gate-requires-3 c κs = search needs
+
+returns-3 : tie.Need-returns-3
+returns-3 c =
+    let a = c .before .before .before .before .before .before .args in
+    seen-refused 4 (omega arith) (c .no-gate3 .ensures) (gate-short (a .own) (a .at) (a .file .now) (omega arith) (omega arith) (omega arith))
+
+add-get-int : tie.Need-add-get-int
+add-get-int c = search needs
+
+get-int-requires : tie.Need-get-int-requires
+get-int-requires c κs = search needs
+
+in-scale-requires : tie.Need-in-scale-requires
+in-scale-requires c κs = search needs
+
+no-gate-requires-4 : tie.Need-no-gate-requires-4
+no-gate-requires-4 c κs = search needs
+
+returns-4 : tie.Need-returns-4
+returns-4 c = seen-refused 6 (omega arith) (c .no-gate4 .ensures) (whole (c .before .before) (not-true _ (c .before .if4 .taken)))
+
+add-read-feeds : tie.Need-add-read-feeds
+add-read-feeds c = search needs
+
+read-feeds-requires : tie.Need-read-feeds-requires
+read-feeds-requires c κs = search needs
+
+returns-5 : tie.Need-returns-5
+returns-5 c =
+    let a = c .before .before .before .before .before .before .before .before .before .args in
+    let r = c .read-feeds .result in
+    let xs = a .file .now in
+    seen-through (λ (fs : List Feed). record { feeds = fs; threshold = intAt xs (a .at + 1) }) gateRecord
+    (subst (λ (z : ℤ). Seen (rowOf z) xs (parseFeeds (a .own) (getD xs (a .at) 0) 0 [] (drop (a .at + 5) xs)) (r .code) (r .next) (r .gate)) (threshold-is (c .before .before .before)) (c .read-feeds .ensures))
+    (whole (c .before .before) (not-false _ (c .before .if4 .left)))
+
+pub read-gate-spec : {M : Type 1} → statement M
+read-gate-spec =
+    tie.close
+    (tie.spec
+    no-gate-requires
+    returns
+    shared-slice-read-fanin
+    no-gate-requires-2
+    returns-2
+    sub-if3
+    no-gate-requires-3
+    returns-3
+    add-get-int
+    get-int-requires
+    in-scale-requires
+    no-gate-requires-4
+    returns-4
+    add-read-feeds
+    read-feeds-requires
+    returns-5)

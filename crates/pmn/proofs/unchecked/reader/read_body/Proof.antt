@@ -1,0 +1,62 @@
+-- The gates, then the outputs, then the end, as the format has them.
+use borrow.Author.Needs.{needs}
+use mathlib.Core.Path.{_∙_}
+use Rattle.pmn.proofs.Body.{gates-failed, outputs-failed, tail-left, body-read}
+use Rattle.pmn.proofs.unchecked.reader.read_body.Statement.{statement}
+use Rattle.pmn.proofs.unchecked.reader.read_body.Tie as tie
+
+read-gates-requires : tie.Need-read-gates-requires
+read-gates-requires c κs = search needs
+
+refuse-requires : tie.Need-refuse-requires
+refuse-requires c κs = search needs
+
+returns : tie.Need-returns
+returns c = let a = c .before .before .before .before .args in c .refuse .ensures ∙ gates-failed (a .inputs) (a .gates) (a .outputs) (c .before .before .read-gates .ensures) (c .before .if1 .taken)
+
+add-read-outputs : tie.Need-add-read-outputs
+add-read-outputs c = search needs
+
+read-outputs-requires : tie.Need-read-outputs-requires
+read-outputs-requires c κs = search needs
+
+refuse-requires-2 : tie.Need-refuse-requires-2
+refuse-requires-2 c κs = search needs
+
+returns-2 : tie.Need-returns-2
+returns-2 c =
+    let at-gates = c .before .before .before in
+    let a = at-gates .before .before .before .args in
+    c .refuse2 .ensures ∙ outputs-failed (a .inputs) (a .gates) (a .outputs) (at-gates .before .read-gates .ensures) (at-gates .if1 .left) (c .before .before .read-outputs .ensures) (c .before .if2 .taken)
+
+refuse-requires-3 : tie.Need-refuse-requires-3
+refuse-requires-3 c κs = search needs
+
+returns-3 : tie.Need-returns-3
+returns-3 c =
+    let at-outputs = c .before .before .before in
+    let at-gates = at-outputs .before .before in
+    let a = at-gates .before .before .before .args in
+    c .refuse3 .ensures ∙ tail-left (a .inputs) (a .gates) (a .outputs) (at-gates .before .read-gates .ensures) (at-gates .if1 .left) (at-outputs .before .read-outputs .ensures) (at-outputs .if2 .left) (c .before .if3 .taken)
+
+returns-4 : tie.Need-returns-4
+returns-4 c =
+    let at-outputs = c .before .before .before .before in
+    let at-gates = at-outputs .before .before in
+    let a = at-gates .before .before .before .args in
+    body-read (a .inputs) (a .gates) (a .outputs) (at-gates .before .read-gates .ensures) (at-gates .if1 .left) (at-outputs .before .read-outputs .ensures) (at-outputs .if2 .left) (c .before .before .if3 .left)
+
+pub read-body-spec : {M : Type 1} → statement M
+read-body-spec =
+    tie.close
+    (tie.spec
+    read-gates-requires
+    refuse-requires
+    returns
+    add-read-outputs
+    read-outputs-requires
+    refuse-requires-2
+    returns-2
+    refuse-requires-3
+    returns-3
+    returns-4)

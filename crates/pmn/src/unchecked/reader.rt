@@ -1,0 +1,213 @@
+// Reading the parts of a file: the header, the gates, the outputs, and the network that they make. A code of 0 says that the part was
+// read, and that the next one starts at `next`; any other code is the refusal.
+use super::gate_reader::read_gate;
+use crate::Loaded;
+use integers::wide;
+use network::Network;
+use network::blank;
+use network::soundness::counts_sound;
+use network::unchecked::places::store_signals;
+use network::unchecked::places::store_weights;
+ghost use mathlib.Core.Path.{_≡_};
+ghost use mathlib.Core.List.{[]};
+ghost use Prim.Native.Nat.{_≤_};
+ghost use lib.ListN.{length, drop};
+ghost use Rattle.format.specs.Format.{refused, parseGates, parseOutputs, parseBody};
+ghost use Rattle.pmn.specs.Answers.{asLoaded};
+ghost use Rattle.pmn.specs.Seen.{Header, HeadSeen, Seen, gatesRecord, outputPlaces};
+
+// The counts of a header.
+pub struct HeadRead {
+    pub code: u8,
+    pub inputs: usize,
+    pub gates: usize,
+    pub outputs: usize,
+}
+
+// The gates, as the record of a network that has no outputs.
+pub struct GatesRead {
+    pub code: u8,
+    pub next: usize,
+    pub network: Network,
+}
+
+// The signals of the outputs; spare places hold 0.
+pub struct OutputsRead {
+    pub code: u8,
+    pub next: usize,
+    pub drivers: [u8; 16],
+}
+
+// The answer for a header that is refused.
+fn no_head(code: u8) -> HeadRead
+    ensures { λ r. ⌜ r .code ≡ code ⌝ }
+{
+    HeadRead {
+        code,
+        inputs: 0,
+        gates: 0,
+        outputs: 0,
+    }
+}
+
+// The header.
+pub fn read_head(file: &[u8]) -> HeadRead
+    ensures { λ r. ⌜ HeadSeen (now (file .entry)) (r .code) (r .inputs) (r .gates) (r .outputs) ⌝ }
+{
+    if file.len() < 8 {
+        return no_head(1);
+    }
+    let mark = (file[0] == 80) & ((file[1] == 77) & (file[2] == 78));
+    if !mark {
+        return no_head(1);
+    }
+    let version = (file[3] == 1) & (file[4] == 0);
+    if !version {
+        return no_head(2);
+    }
+    let inputs = wide(file[5]);
+    let gates = wide(file[6]);
+    let outputs = wide(file[7]);
+    if !counts_sound(inputs, gates, outputs) {
+        return no_head(3);
+    }
+    HeadRead {
+        code: 0,
+        inputs,
+        gates,
+        outputs,
+    }
+}
+
+// The answer for gates that are refused.
+fn no_gates(code: u8) -> GatesRead
+    ensures { λ r. ⌜ (r .code ≡ code) × (r .next ≡ 0) ⌝ }
+{
+    let network = blank();
+    GatesRead {
+        code,
+        next: 0,
+        network,
+    }
+}
+
+// The gates, from a place on, of a network with so many inputs and gates.
+pub fn read_gates(file: &[u8], start: usize, inputs: usize, gates: usize) -> GatesRead
+    requires { ⌜ (start ≤ length (now file)) × (inputs ≤ 40) × (gates ≤ 128) ⌝ }
+    ensures { λ r. ⌜ Seen (gatesRecord inputs) (now (file .entry)) (parseGates inputs gates [] (drop start (now (file .entry)))) (r .code) (r .next) (r .network) ⌝ }
+{
+    let mut fanins = [0u8; 128];
+    let mut signals = [0u8; 2048];
+    let mut weights = [0i32; 2048];
+    let mut thresholds = [0i32; 128];
+    let mut at = start;
+    let mut g: usize = 0;
+    while g < gates {
+        let r = read_gate(file, at, inputs + g);
+        let code = r.code;
+        if code != 0 {
+            return no_gates(code);
+        }
+        let gate = r.gate;
+        let fanin = gate.fanin;
+        let threshold = gate.threshold;
+        let row_signals = gate.signals;
+        let row_weights = gate.weights;
+        fanins[g] = fanin;
+        thresholds[g] = threshold;
+        store_signals(&mut signals, 16 * g, row_signals);
+        store_weights(&mut weights, 16 * g, row_weights);
+        at = r.next;
+        g += 1;
+    }
+    let drivers = [0u8; 16];
+    let network = Network {
+        inputs,
+        gates,
+        outputs: 0,
+        fanins,
+        signals,
+        weights,
+        thresholds,
+        drivers,
+    };
+    GatesRead {
+        code: 0,
+        next: at,
+        network,
+    }
+}
+
+// The answer for outputs that are refused.
+fn no_outputs(code: u8) -> OutputsRead
+    ensures { λ r. ⌜ (r .code ≡ code) × (r .next ≡ 0) ⌝ }
+{
+    let drivers = [0u8; 16];
+    OutputsRead {
+        code,
+        next: 0,
+        drivers,
+    }
+}
+
+// count outputs from a place on, each the signal of a gate: low at least, and below top.
+pub fn read_outputs(file: &[u8], start: usize, low: usize, top: usize, count: usize) -> OutputsRead
+    requires { ⌜ (start ≤ length (now file)) × (count ≤ 16) ⌝ }
+    ensures { λ r. ⌜ Seen outputPlaces (now (file .entry)) (parseOutputs low top count [] (drop start (now (file .entry)))) (r .code) (r .next) (count, r .drivers) ⌝ }
+{
+    let mut drivers = [0u8; 16];
+    let mut at = start;
+    let mut j: usize = 0;
+    while j < count {
+        if file.len() <= at {
+            return no_outputs(4);
+        }
+        let signal = file[at];
+        let s = wide(signal);
+        let fits = (low <= s) & (s < top);
+        if !fits {
+            return no_outputs(8);
+        }
+        drivers[j] = signal;
+        at += 1;
+        j += 1;
+    }
+    OutputsRead {
+        code: 0,
+        next: at,
+        drivers,
+    }
+}
+
+// The answer for a file that is refused.
+pub fn refuse(code: u8) -> Loaded
+    ensures { λ r. ⌜ r ≡ asLoaded (refused code) ⌝ }
+{
+    let network = blank();
+    Loaded { code, network }
+}
+
+// What follows the header of a file with so many inputs, gates and outputs.
+pub fn read_body(file: &[u8], inputs: usize, gates: usize, outputs: usize) -> Loaded
+    requires { ⌜ Header (now file) inputs gates outputs ⌝ }
+    ensures { λ r. ⌜ r ≡ asLoaded (parseBody inputs gates outputs (drop 8 (now (file .entry)))) ⌝ }
+{
+    let gates_read = read_gates(file, 8, inputs, gates);
+    let code = gates_read.code;
+    if code != 0 {
+        return refuse(code);
+    }
+    let outputs_read = read_outputs(file, gates_read.next, inputs, inputs + gates, outputs);
+    let code = outputs_read.code;
+    if code != 0 {
+        return refuse(code);
+    }
+    if outputs_read.next < file.len() {
+        return refuse(9);
+    }
+    let mut network = gates_read.network;
+    let drivers = outputs_read.drivers;
+    network.outputs = outputs;
+    network.drivers = drivers;
+    Loaded { code: 0, network }
+}
