@@ -1,2 +1,4 @@
 pub mod SumLaws
 pub mod Held
+pub mod OrderLaws
+pub mod GateLaws

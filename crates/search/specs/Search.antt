@@ -2,7 +2,7 @@
 use mathlib.Core.List.{List}
 use Prim.Native.Nat.{ℕ, _≤_}
 use lib.IntN.{ℤ, pos, natAbs}
-use lib.ListN.{getD, take}
+use lib.ListN.{length, getD, take}
 use Rattle.integers.specs.Refusals.{Answer, accepted, refused}
 use Rattle.folding.specs.Pair.{Pair}
 use Rattle.folding.specs.Aligned.{Aligned}
@@ -29,9 +29,10 @@ pub record Even (g : Levels) : Type 0 where
   pub tv-small : natAbs (g .tv) ≤ 1000000
   pub b-small : natAbs (g .b) ≤ 1000000
 
--- what a caller has tested: at most 16 distinct feeds, and every number on the scale
+-- what a caller has tested: at most 16 distinct feeds, each with its place, and every number on the scale
 pub record Fair (us vs : List ℤ) (count : ℕ) (g : Levels) : Type 0 where
   pub few : count ≤ 16
+  pub placed : count ≤ length us
   pub us-small : Small 1000000 us
   pub vs-small : Small 1000000 vs
   pub levels : Even g

@@ -4,7 +4,7 @@ use mathlib.Core.Path.{_≡_}
 use mathlib.Core.Bool.{Bool, Bool·beq}
 use mathlib.Core.List.{List, []}
 use Prim.Native.Nat.{ℕ, _+_, _/_, _%_, _≤_, _<_}
-use lib.IntN.{ℤ, pos, natAbs, _+ℤ_, _*ℤ_}
+use lib.IntN.{ℤ, pos, natAbs, _+ℤ_}
 use lib.ListN.{length, getD, drop}
 use Rattle.folding.specs.Aligned.{Aligned, sumAt, composedBit, mergedBit}
 use Rattle.search.specs.declared.Levels.{Levels}
@@ -37,10 +37,6 @@ bare g = alignedBy [] [] 0 g
 -- the merged gate and the composed pair have the same bit
 unfoldable pub sameBits : Levels → ℕ → ℕ → ℤ → ℤ → Bool
 sameBits g k l su sv = Bool·beq (mergedBit (bare g) k l su sv) (composedBit (bare g) su sv)
-
--- the merged gate's weight at a distinct feed
-unfoldable pub mixAt : List ℤ → List ℤ → ℕ → ℕ → ℕ → ℤ
-mixAt us vs k l feed = pos k *ℤ getD us feed (pos 0) +ℤ pos l *ℤ getD vs feed (pos 0)
 
 -- ---- sizes
 

@@ -6,11 +6,12 @@ use integers::widened;
 ghost use mathlib.Core.Path.{_≡_};
 ghost use Prim.Native.Nat.{_+_, _^_, _≤_, _<_};
 ghost use lib.IntN.{pos, natAbs, _+ℤ_, _*ℤ_};
+ghost use lib.ListN.{getD};
 ghost use Rattle.network.specs.Limits.{inScale};
 ghost use Rattle.folding.specs.Aligned.{composedBit, level, mergedBit, agreesAll, scaleFits, qualifiesOn};
 ghost use Rattle.folding.specs.Pair.{pairs, first};
 ghost use Rattle.search.specs.Search.{alignedBy, foundAs, Small, Even, Fair, Dial};
-ghost use Rattle.search.specs.Tables.{Sums, sumFrom, Summable, bare, sameBits, mixAt, Mixable};
+ghost use Rattle.search.specs.Tables.{Sums, sumFrom, Summable, bare, sameBits, Mixable};
 
 // The settings of `count` feeds.
 fn settings(count: usize) -> usize
@@ -126,26 +127,23 @@ fn merged_weight(us: &[i32; 16], vs: &[i32; 16], k: usize, l: usize, feed: usize
     requires { ⌜ Small 1000000 (now vs) ⌝ }
     requires { ⌜ Dial k l ⌝ }
     requires { ⌜ feed < 16 ⌝ }
-    ensures { λ r. ⌜ r ≡ mixAt (now (us .entry)) (now (vs .entry)) k l feed ⌝ }
+    ensures { λ r. ⌜ r ≡ pos k *ℤ getD (now (us .entry)) feed (pos 0) +ℤ pos l *ℤ getD (now (vs .entry)) feed (pos 0) ⌝ }
 {
     mixed(k, l, widened(us[feed]), widened(vs[feed]))
 }
 
-// Whether the merged gate's threshold and weights are on the scale.
+// Whether the merged gate's weights and threshold are on the scale.
 pub fn scale_fits(us: &[i32; 16], vs: &[i32; 16], count: usize, levels: Levels, k: usize, l: usize) -> bool
     requires { ⌜ Fair (now us) (now vs) count levels ⌝ }
     requires { ⌜ Dial k l ⌝ }
     ensures { λ r. ⌜ r ≡ scaleFits (alignedBy (now (us .entry)) (now (vs .entry)) count levels) k l ⌝ }
 {
-    if !in_scale(merged_level(levels, k, l)) {
-        return false;
-    }
     for feed in 0..count {
         if !in_scale(merged_weight(us, vs, k, l, feed)) {
             return false;
         }
     }
-    true
+    in_scale(merged_level(levels, k, l))
 }
 
 // Whether the merged gate and the composed pair have the same bit on every setting.

@@ -8,12 +8,11 @@ use native.Mathlib.Omega.{arith}
 use lib.IntN.{ℤ, pos, natAbs, _+ℤ_}
 use lib.ListN.{length, getD, set, length-set}
 use lib.Pow.{pow-mono}
-use mir.Syntax.{w32, w64}
+use mir.Syntax.{w64}
 use mir.Val.{SFits, toZ, ofZ}
-use mir.Facts.{toZ-ofZ}
 use Rattle.integers.specs.Size.{size-add, size-fits, read-back}
 use Rattle.search.specs.Tables.{Sums}
-use Rattle.search.proofs.Held.{held}
+use Rattle.search.proofs.Held.{held, weight-held}
 use Rattle.search.proofs.SumLaws.{Next, next, sums-more}
 use borrow.Author.Needs.{needs}
 use Rattle.search.proofs.unchecked.extend.Statement.{statement}
@@ -82,14 +81,11 @@ module _ (c : tie.In-loop Inv-loop μ-loop) where
   abbrev old-high : ℤ
   old-high = getD (c .before .loop .sums) (256 + c .before .loop .j) (pos 0)
 
-  weight-held : (i : ℕ) → toZ w32 (ofZ w32 (getD (start .args .weights .now) i (pos 0))) ≡ getD (start .args .weights .now) i (pos 0)
-  weight-held i = toZ-ofZ (size-fits w32 (getD (start .args .weights .now) i (pos 0)) (omega (arith, start .pre .1 .0 i)))
-
   low-held : toZ w64 (ofZ w64 (c .before .before .before .before .before .widened .result)) ≡ low
-  low-held = read-back w64 (c .before .before .before .before .before .widened .ok) (c .before .before .before .before .before .widened .ensures ∙ weight-held (start .args .bit))
+  low-held = read-back w64 (c .before .before .before .before .before .widened .ok) (c .before .before .before .before .before .widened .ensures ∙ weight-held (start .args .weights .now) (start .pre .1 .0) (start .args .bit))
 
   high-held : toZ w64 (ofZ w64 (c .before .before .before .widened2 .result)) ≡ high
-  high-held = read-back w64 (c .before .before .before .widened2 .ok) (c .before .before .before .widened2 .ensures ∙ weight-held (8 + start .args .bit))
+  high-held = read-back w64 (c .before .before .before .widened2 .ok) (c .before .before .before .widened2 .ensures ∙ weight-held (start .args .weights .now) (start .pre .1 .0) (8 + start .args .bit))
 
   ahead : Next (start .args .weights .now) (c .before .loop .sums) (start .args .bit) (c .before .before .settings .result) (c .before .loop .j)
   ahead = next (start .args .bit) (c .before .loop .j) (c .before .before .settings .ensures) (c .loop-test .taken) (omega arith) (start .pre .1 .0) (c .before .loop .inv .part)
