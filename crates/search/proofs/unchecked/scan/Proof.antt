@@ -1,8 +1,7 @@
 -- `search::unchecked::scan` meets its contract: what is left of the candidates has the same first pair that qualifies as all of them.
 -- Assumes nothing.
-use mathlib.Core.Path.{_≡_, sym, _∙_}
-use mathlib.Core.Bool.{Bool}
-use Prim.Native.Nat.{ℕ, _+_, _-_, _^_, _≤_, _<_}
+use mathlib.Core.Path.{_≡_}
+use Prim.Native.Nat.{ℕ, _-_, _^_, _<_}
 use native.Mathlib.Omega.{arith}
 use lib.Pow.{pow-pos}
 use Rattle.folding.specs.Aligned.{agreesOn, qualifiesOn}
@@ -10,7 +9,6 @@ use Rattle.search.specs.Search.{alignedBy, Dial}
 use Rattle.search.specs.Tables.{Summable}
 use Rattle.search.proofs.GateLaws.{readable}
 use Rattle.search.proofs.SearchState.{AtSum, AtCandidate, AtSetting, begin, turn, next-sum, none, over, off, unscaled, differs, scanning, passed, found}
-use borrow.Author.Needs.{needs}
 use Rattle.search.proofs.unchecked.scan.Statement.{statement}
 use Rattle.search.proofs.unchecked.scan.Tie as tie
 
