@@ -4,6 +4,7 @@ use mathlib.Core.Bool.{Bool, true, false, not}
 use mathlib.Core.List.{List}
 use Prim.Native.Nat.{ℕ, _+_, _-_, _^_, _≤_, _<_}
 use native.Mathlib.Omega.{arith}
+use lib.Bits.{bitXor}
 use lib.IntN.{ℤ}
 use borrow.Author.Tests.{not-true, not-false}
 use Rattle.integers.specs.Lists.{below}
@@ -15,6 +16,7 @@ use Rattle.search.specs.declared.Levels.{Levels}
 use Rattle.search.specs.declared.Found.the-variants.{At, Nothing}
 use Rattle.search.specs.Search.{alignedBy, foundAs, Fair}
 use Rattle.search.specs.Tables.{Sums, sumFrom, sameBits}
+use Rattle.search.proofs.XorLaws.{xor-in, below-xor}
 use Rattle.search.proofs.OrderLaws.{pairAt, later, left, later-start, left-start, first-none, first-hit, first-miss, first-past, first-next}
 use Rattle.search.proofs.GateLaws.{agrees-is, off-scale, differing, qualified, k-off-dial, l-off-dial}
 
@@ -34,13 +36,14 @@ pub record AtCandidate (q : Pair → Bool) (n last earlier sum k : ℕ) : Type 0
   pub earlier-in : earlier < n
   pub same : first q (left sum k) 16 ≡ first q pairs 16
 
--- at a setting of the candidate with k₀: the settings passed agree
-pub record AtSetting (agrees : ℕ → Bool) (n last earlier k₀ k setting : ℕ) : Type 0 where
+-- at a step of the candidate with k₀, from the setting last₀: the settings passed agree
+pub record AtStep (agrees : ℕ → Bool) (n last₀ last earlier k₀ k step : ℕ) : Type 0 where
   pub kept : k ≡ k₀
-  pub high : setting ≤ n
+  pub from : last ≡ last₀
+  pub high : step ≤ n
   pub last-in : last < n
   pub earlier-in : earlier < n
-  pub clear : below setting agrees ≡ true
+  pub clear : below step (λ i. agrees (bitXor i last)) ≡ true
 
 module _ {us vs tu tv : List ℤ} {count : ℕ} {g : Levels} (f : Fair us vs count g) (u : Sums us 256 tu) (v : Sums vs 256 tv) where
   abbrev pub q : Pair → Bool
@@ -102,26 +105,35 @@ module _ {us vs tu tv : List ℤ} {count : ℕ} {g : Levels} (f : Fair us vs cou
       missed a h j x y (differing us vs count g f k (sum - k) s (omega arith) (sym (tested n k (sum - k) s e i t) ∙ not-true b d))
 
   -- ---- the settings of a candidate
-  pub scanning : {n last earlier sum k : ℕ} → AtCandidate q n last earlier sum k → (l : ℕ) → AtSetting (agreesOn (alignedBy us vs count g) k l) n last earlier k k 0
+  pub scanning : {n last earlier sum k : ℕ} → AtCandidate q n last earlier sum k → (l : ℕ) → AtStep (agreesOn (alignedBy us vs count g) k l) n last last earlier k k 0
   scanning {n} {last} {earlier} {sum} {k} a l =
-      record { kept = refl; high = omega arith; last-in = a .last-in; earlier-in = a .earlier-in; clear = below-none (agreesOn (alignedBy us vs count g) k l) }
-
-  pub passed : {n last earlier k₀ k s : ℕ} {b : Bool} (l : ℕ) → AtSetting (agreesOn (alignedBy us vs count g) k l) n last earlier k₀ k s → n ≡ 2 ^ count → s < n
-      → b ≡ sameBits g k l (sumFrom tu s) (sumFrom tv s) → not b ≡ false → AtSetting (agreesOn (alignedBy us vs count g) k l) n last earlier k₀ k (s + 1)
-  passed {n} {last} {earlier} {k₀} {k} {s} {b} l a e h t y =
-      let p = agreesOn (alignedBy us vs count g) k l in
       record {
-        kept = a .kept;
+        kept = refl;
+        from = refl;
         high = omega arith;
         last-in = a .last-in;
         earlier-in = a .earlier-in;
-        clear = below-more p s ∙ both-true (below s p) (p s) (a .clear) (sym (tested n k l s e h t) ∙ not-false b y);
+        clear = below-none (λ i. agreesOn (alignedBy us vs count g) k l (bitXor i last));
+      }
+
+  pub passed : {n last₀ last earlier k₀ k step : ℕ} {b : Bool} (l : ℕ) → AtStep (agreesOn (alignedBy us vs count g) k l) n last₀ last earlier k₀ k step → n ≡ 2 ^ count → step < n
+      → b ≡ sameBits g k l (sumFrom tu (bitXor step last)) (sumFrom tv (bitXor step last)) → not b ≡ false → AtStep (agreesOn (alignedBy us vs count g) k l) n last₀ last earlier k₀ k (step + 1)
+  passed {n} {last₀} {last} {earlier} {k₀} {k} {step} {b} l a e h t y =
+      let p : ℕ → Bool = λ i. agreesOn (alignedBy us vs count g) k l (bitXor i last) in
+      record {
+        kept = a .kept;
+        from = a .from;
+        high = omega arith;
+        last-in = a .last-in;
+        earlier-in = a .earlier-in;
+        clear = below-more p step ∙ both-true (below step p) (p step) (a .clear) (sym (tested n k l (bitXor step last) e (xor-in count n step last e h (a .last-in)) t) ∙ not-false b y);
       }
 
   -- every setting agrees, and the candidate is the answer
   pub found : {n last earlier sum k : ℕ} {b : Bool} → AtCandidate q n last earlier sum k → n ≡ 2 ^ count → k ≤ 32 → k < sum → sum - k ≤ 32
-      → b ≡ scaleFits (alignedBy us vs count g) k (sum - k) → not b ≡ false → below n (agreesOn (alignedBy us vs count g) k (sum - k)) ≡ true
+      → b ≡ scaleFits (alignedBy us vs count g) k (sum - k) → not b ≡ false → below n (λ i. agreesOn (alignedBy us vs count g) k (sum - k) (bitXor i last)) ≡ true
       → foundAs (At k (sum - k)) ≡ first q pairs 16
   unfolding foundAs
   found {n} {last} {earlier} {sum} {k} {b} a e h j o t y c =
-      sym (first-hit q 16 sum k j (qualified us vs count g f k (sum - k) (a .low) h (omega arith) o (sym t ∙ not-false b y) (rw e at c))) ∙ a .same
+      let p = agreesOn (alignedBy us vs count g) k (sum - k) in
+      sym (first-hit q 16 sum k j (qualified us vs count g f k (sum - k) (a .low) h (omega arith) o (sym t ∙ not-false b y) (rw e at (below-xor count n last p e (a .last-in) c)))) ∙ a .same

@@ -185,7 +185,7 @@ pub fn agrees_everywhere(
 }
 
 // The first pair that qualifies, from the tables of the two gates' sums. A candidate is tried first on the last two settings that
-// told candidates apart, then on every setting.
+// told candidates apart, then on every setting, from the last one outwards: each step changes the feeds that are 1 in its number.
 fn scan(
     us: &[i32; 16],
     vs: &[i32; 16],
@@ -220,7 +220,8 @@ fn scan(
             if !scale_fits(us, vs, count, levels, k, l) {
                 continue 'candidate;
             }
-            for setting in 0..n {
+            for step in 0..n {
+                let setting = step ^ last;
                 if !agrees_at(sums_u, sums_v, levels, k, l, setting) {
                     earlier = last;
                     last = setting;
