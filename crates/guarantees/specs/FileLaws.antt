@@ -36,7 +36,7 @@ opened file e = go (parseFile file) refl e
     go (refused k) p h = let q = refused-positive file k p in absurd (omega arith)
     go (done N l) p h = record { net = N; rest = l; reads = p }
 
-loaded-net : (file : List ℕ) (o : Opened file) → loaded file ≡ record { code = 0; network = layout (o .net) }
+pub loaded-net : (file : List ℕ) (o : Opened file) → loaded file ≡ record { code = 0; network = layout (o .net) }
 unfolding loaded asLoaded
 loaded-net file o = ap asLoaded (o .reads)
 

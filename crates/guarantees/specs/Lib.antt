@@ -1,2 +1,6 @@
 pub mod Files
 pub mod FileLaws
+pub mod Lists
+pub mod Questions
+pub mod QuestionLaws
+pub mod ListLaws

@@ -1,10 +1,16 @@
 // What a customer buys, each theorem as the promise of an empty public function: the check names it, and nothing can make it vanish.
 // The promises cite the definitions in specs/. "Every record" is a parameter; "every file" is every list of bytes.
 use network::Network;
-ghost use mathlib.Core.List.{List};
+ghost use mathlib.Core.Path.{_≡_};
+ghost use mathlib.Core.List.{List, map};
 ghost use Prim.Native.Nat.{ℕ};
 ghost use Rattle.format.specs.Format.{Bytes};
-ghost use Rattle.guarantees.specs.Files.{SoundIsDescribed, WrittenIsRead, ReadIsWritten};
+ghost use Rattle.pmn.specs.Answers.{loaded};
+ghost use Rattle.folding.specs.Bench.{bench, reply};
+ghost use Rattle.folding.specs.declared.Call.{Call};
+ghost use Rattle.guarantees.specs.Files.{Accepted, SoundIsDescribed, WrittenIsRead, ReadIsWritten};
+ghost use Rattle.guarantees.specs.Questions.{Questions};
+ghost use Rattle.guarantees.specs.Lists.{ListClaim};
 
 // A record is sound exactly when some file's reading gives it.
 pub fn sound_is_described(network: Network)
@@ -20,3 +26,25 @@ pub fn written_is_read(network: Network)
 pub fn read_is_written()
     ensures { λ _. ⌜ ((file : List ℕ) → Bytes file → ReadIsWritten file) ⌝ }
 {}
+
+// Demand 2: for any two sound records with equal input and output counts, the question has a 0/1 solution exactly when some frame makes
+// their outputs differ; no line of it is longer than 254 bytes, and the text of each line says that line.
+pub fn question_decides(first: Network, second: Network)
+    ensures { λ _. ⌜ Questions first second ⌝ }
+{
+}
+
+// Demand 3: from the record of any file that a read accepts, every list of merges, drops, collapses and sweeps with any numbers, refused
+// ones included. The record after it is read alike on every frame; the question for the two has no 0/1 solution; each call leaves exactly
+// the network and gives exactly the answer that the definitions give; a merge within the limits is accepted exactly when it agrees; and
+// after an accepted sweep nothing within its reader limit is left to collapse.
+pub fn lists_of_calls()
+    ensures { λ _. ⌜ ((file : List ℕ) → Bytes file → Accepted file → (calls : List Call) → ListClaim (loaded file .network) calls) ⌝ }
+{
+}
+
+// The bench gates P1 to P11: what the definitions say is what the paper says.
+pub fn bench_gates()
+    ensures { λ _. ⌜ map (λ row. reply (row .ask)) bench ≡ map (λ row. row .want) bench ⌝ }
+{
+}

@@ -1,0 +1,44 @@
+-- Demand 3, on records: what is claimed of every list of calls from the record of any file that a read accepts. Document 01, "A list of
+-- calls". Nothing is proved here.
+use mathlib.Core.Path.{_≡_}
+use mathlib.Core.Bool.{true}
+use mathlib.Core.List.{List, [], _∷_}
+use mathlib.Core.Logic.{_≢_}
+use Prim.Native.Nat.{ℕ}
+use Rattle.network.specs.Threshold.{Assignment, frame, fitsFrame, outputBits}
+use Rattle.network.specs.Record.{netOf, soundRecord}
+use Rattle.network.specs.Reading.{reading}
+use Rattle.network.specs.declared.Network.{Network}
+use Rattle.folding.specs.Calls.{answer, calls}
+use Rattle.folding.specs.Guarantee.{Claim}
+use Rattle.folding.specs.declared.Call.{Call}
+use Rattle.constraints.specs.Question.{Solves, question}
+use Rattle.collapse.specs.Answers.{asOutcome, applied}
+
+-- the record after a list: "each later one the network that the call before it returned"
+unfoldable pub callsOn : Network → List Call → Network
+callsOn r [] = r
+callsOn r (c ∷ cs) = callsOn (applied r c .network) cs
+
+-- one call on a record: it leaves exactly the network and gives exactly the answer that the definitions give for its numbers and the
+-- network that it got; a merge within the limits is accepted exactly when merged gate and composed pair have the same bit on every
+-- setting; after an accepted sweep no gate within its reader limit, outputs aside, has a qualifying pair for every gate that reads it
+pub record CallClaim (r : Network) (c : Call) : Type 0 where
+  pub exact : applied r c ≡ asOutcome r (answer (netOf r) c)
+  pub claim : Claim (netOf r) c
+
+-- each call of a list, at the record that it gets
+abbrev pub CallClaims : Network → List Call → Type 0
+CallClaims r [] = Unit {0}
+CallClaims r (c ∷ cs) = CallClaim r c × CallClaims (applied r c .network) cs
+
+-- a list of calls from a record on: the record after it is sound and stands for the network of the definitions; on every frame that 10
+-- does not refuse every output has the same bit by the threshold rule, and a reading gives the same answer; the question for the two has
+-- no 0/1 solution; and each call is as claimed
+pub record ListClaim (r : Network) (cs : List Call) : Type 0 where
+  pub sound-after : soundRecord (callsOn r cs) ≡ true
+  pub network-after : netOf (callsOn r cs) ≡ calls (netOf r) cs
+  pub same-bits : (x : ℕ) → fitsFrame (r .inputs) x ≡ true → outputBits (netOf (callsOn r cs)) (frame x) ≡ outputBits (netOf r) (frame x)
+  pub same-readings : (x : ℕ) → reading (callsOn r cs) x ≡ reading r x
+  pub no-solution : (ρ : Assignment) → Solves ρ (question (netOf r) (netOf (callsOn r cs))) → ⊥
+  pub each-call : CallClaims r cs

@@ -1,0 +1,31 @@
+-- The claims of the question hold. Assumes nothing.
+use mathlib.Core.Path.{_≡_}
+use mathlib.Core.Bool.{Bool, true, _&&_}
+use borrow.Author.Tests.{eqb-true}
+use lib.Dec.{eqb}
+use lib.ListN.{length}
+use Rattle.integers.specs.Tests.{T-is, and-left, and-right}
+use Rattle.network.specs.Threshold.{Net}
+use Rattle.network.specs.Record.{netOf, soundRecord}
+use Rattle.network.specs.RecordLaws.{sound-net}
+use Rattle.network.specs.declared.Network.{Network}
+use Rattle.constraints.specs.SolutionLaws.{question-decides}
+use Rattle.constraints.specs.SizeLaws.{line-short}
+use Rattle.constraints.specs.MeaningLaws.{question-text-says}
+use Rattle.question.specs.Answers.{alike}
+use Rattle.guarantees.specs.Questions.{QuestionClaim, Questions}
+
+pub questions : (a b : Network) → Questions a b
+unfolding alike
+questions a b ea eb e =
+    let N = netOf a in
+    let M = netOf b in
+    let s = sound-net a (T-is (soundRecord a) ea) in
+    let t = sound-net b (T-is (soundRecord b) eb) in
+    let inputs = eqb-true (N .inputs) (M .inputs) (and-left (eqb (N .inputs) (M .inputs)) (eqb (length (N .outputs)) (length (M .outputs))) e) in
+    let outputs = eqb-true (length (N .outputs)) (length (M .outputs)) (and-right (eqb (N .inputs) (M .inputs)) (eqb (length (N .outputs)) (length (M .outputs))) e) in
+    record {
+      decides = question-decides N M s t inputs outputs;
+      short = λ n h. line-short N M s t outputs n h;
+      says = λ n h. question-text-says N M s t n h;
+    }
