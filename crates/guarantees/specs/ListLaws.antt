@@ -23,11 +23,10 @@ use Rattle.constraints.specs.SolutionLaws.{agree-unsolvable}
 use Rattle.collapse.specs.Answers.{onRecord, asOutcome, applied}
 use Rattle.collapse.specs.declared.Outcome.{Outcome}
 use Rattle.format.specs.Format.{Bytes}
-use Rattle.format.specs.ReadWriteLaws.{file-of}
 use Rattle.pmn.specs.Answers.{loaded}
+use Rattle.pmn.specs.OpenLaws.{opened, loaded-net, opened-sound}
 use Rattle.pmn.specs.declared.Loaded.{Loaded}
 use Rattle.guarantees.specs.Files.{Accepted}
-use Rattle.guarantees.specs.FileLaws.{opened, loaded-net}
 use Rattle.guarantees.specs.Lists.{callsOn, CallClaim, CallClaims, ListClaim}
 
 -- ---- the record that a call leaves
@@ -118,6 +117,5 @@ list-claim r cs s =
 pub accepted-claim : (file : List ℕ) → Bytes file → Accepted file → (cs : List Call) → ListClaim (loaded file .network) cs
 accepted-claim file bs e cs =
     let o = opened file e in
-    let a = file-of file (o .net) (o .rest) bs (o .reads) in
     let n = ap (λ (x : Loaded). x .network) (loaded-net file o) in
-    subst (λ (x : Network). ListClaim x cs) (sym n) (list-claim (layout (o .net)) cs (stays-layout (o .net) (a .sound)))
+    subst (λ (x : Network). ListClaim x cs) (sym n) (list-claim (layout (o .net)) cs (stays-layout (o .net) (opened-sound file bs o)))

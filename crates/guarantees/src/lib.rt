@@ -31,8 +31,7 @@ pub fn read_is_written()
 // their outputs differ; no line of it is longer than 254 bytes, and the text of each line says that line.
 pub fn question_decides(first: Network, second: Network)
     ensures { λ _. ⌜ Questions first second ⌝ }
-{
-}
+{}
 
 // Demand 3: from the record of any file that a read accepts, every list of merges, drops, collapses and sweeps with any numbers, refused
 // ones included. The record after it is read alike on every frame; the question for the two has no 0/1 solution; each call leaves exactly
@@ -40,11 +39,9 @@ pub fn question_decides(first: Network, second: Network)
 // after an accepted sweep nothing within its reader limit is left to collapse.
 pub fn lists_of_calls()
     ensures { λ _. ⌜ ((file : List ℕ) → Bytes file → Accepted file → (calls : List Call) → ListClaim (loaded file .network) calls) ⌝ }
-{
-}
+{}
 
 // The bench gates P1 to P11: what the definitions say is what the paper says.
 pub fn bench_gates()
     ensures { λ _. ⌜ map (λ row. reply (row .ask)) bench ≡ map (λ row. row .want) bench ⌝ }
-{
-}
+{}

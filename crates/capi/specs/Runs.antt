@@ -1,0 +1,71 @@
+-- A list of calls given as numbers, five to a call: kind (0 merge u v k l, 1 drop s, 2 collapse s, 3 sweep B) and four numbers, of which a
+-- kind passes over those that it does not use. The list is run as document 01, "A list of calls", has it. Nothing is proved here.
+use mathlib.Core.Bool.{Bool, true, false, _&&_}
+use mathlib.Core.List.{List, [], _∷_, _++_}
+use Prim.Native.Nat.{ℕ, zero, suc, _+_, _*_}
+use lib.Dec.{leb}
+use lib.ListN.{length}
+use Rattle.integers.specs.Refusals.{Answer, accepted, refused, _else_, checks, bind}
+use Rattle.network.specs.Threshold.{Net}
+use Rattle.format.specs.Format.{fileBytes}
+use Rattle.folding.specs.Sweep.{Swept}
+use Rattle.folding.specs.Calls.{answer, leaves, calls}
+use Rattle.folding.specs.declared.Call.{Call}
+use Rattle.folding.specs.declared.Call.the-variants.{Merge, Drop, Collapse, Sweep}
+use Rattle.capi.specs.Exports.{readNet, codeOf, room}
+
+-- the call of a kind from 0 to 3 and four numbers
+unfoldable pub callOf : ℕ → ℕ → ℕ → ℕ → ℕ → Call
+callOf zero u v k l = Merge u v k l
+callOf (suc zero) s v k l = Drop s
+callOf (suc (suc zero)) s v k l = Collapse s
+callOf (suc (suc (suc n))) b v k l = Sweep b
+
+-- "the length of `calls` is no multiple of 5 or a kind is above 3" does not apply
+unfoldable pub wellFormed : List ℕ → Bool
+wellFormed [] = true
+wellFormed (a ∷ []) = false
+wellFormed (a ∷ b ∷ []) = false
+wellFormed (a ∷ b ∷ c ∷ []) = false
+wellFormed (a ∷ b ∷ c ∷ d ∷ []) = false
+wellFormed (kind ∷ a ∷ b ∷ c ∷ d ∷ ns) = leb kind 3 && wellFormed ns
+
+unfoldable pub callsIn : List ℕ → List Call
+callsIn [] = []
+callsIn (a ∷ []) = []
+callsIn (a ∷ b ∷ []) = []
+callsIn (a ∷ b ∷ c ∷ []) = []
+callsIn (a ∷ b ∷ c ∷ d ∷ []) = []
+callsIn (kind ∷ a ∷ b ∷ c ∷ d ∷ ns) = callOf kind a b c d ∷ callsIn ns
+
+-- the number of collapses of a sweep, 0 for every other call
+unfoldable pub collapsesOf : Answer Swept → ℕ
+collapsesOf (accepted s) = s .collapses
+collapsesOf (refused c) = 0
+
+-- "then code and collapses for each call"
+unfoldable pub answersOf : Net → List Call → List ℕ
+answersOf N [] = []
+answersOf N (c ∷ cs) = codeOf (answer N c) ∷ collapsesOf (answer N c) ∷ answersOf (leaves N (answer N c)) cs
+
+-- what a run leaves: the file of the network after the list, and the numbers of `answers`
+pub record Ran : Type 0 where
+  pub file : List ℕ
+  pub numbers : List ℕ
+
+unfoldable pub ran : Net → List Call → Ran
+ran N cs = record { file = fileBytes (calls N cs); numbers = length (fileBytes (calls N cs)) ∷ answersOf N cs }
+
+-- as read, 14, 18
+unfoldable pub runAnswer : List ℕ → List ℕ → List ℕ → List ℕ → Answer Ran
+runAnswer file numbers answers out = bind (readNet file) (λ N.
+    checks ((wellFormed numbers else 14) ∷ (room (1 + 2 * length (callsIn numbers)) answers && room (length (fileBytes (calls N (callsIn numbers)))) out else 18) ∷ [])
+    (accepted (ran N (callsIn numbers))))
+
+unfoldable pub fileOf : Answer Ran → Answer (List ℕ)
+fileOf (accepted r) = accepted (r .file)
+fileOf (refused k) = refused k
+
+unfoldable pub numbersOf : Answer Ran → Answer (List ℕ)
+numbersOf (accepted r) = accepted (r .numbers)
+numbersOf (refused k) = refused k
