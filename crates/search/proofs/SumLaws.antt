@@ -76,6 +76,11 @@ drop-small m n ws h i = rw getD-drop (h (n + i))
 
 -- ---- a table
 
+-- two places of a table sum to the size of a sum of 16 weights
+pub from-small : {sums : List ℤ} {setting : ℕ} → Summable sums setting → natAbs (sumFrom sums setting) ≤ 16000000
+unfolding sumFrom
+from-small {sums} {setting} s = omega (arith, size-add (getD sums (setting % 256) (pos 0)) (getD sums (256 + setting / 256) (pos 0)))
+
 -- setting 0 alone
 pub sums-one : (weights : List ℤ) → Sums weights 1 (replicate 512 (pos 0))
 sums-one weights = record {

@@ -1,9 +1,10 @@
-// The pair search, by tables of sums and with the last two settings that disagreed tried first. Each call asks for at most 16 distinct
-// feeds and for numbers on the scale.
+// The pair search, by tables of sums and with the settings that ruled out earlier candidates tried first. Each call asks for at most 16
+// distinct feeds and for numbers on the scale.
 use crate::Found;
 use crate::Levels;
 use integers::widened;
 ghost use mathlib.Core.Path.{_≡_};
+ghost use mathlib.Core.Logic.{_⊎_};
 ghost use Prim.Native.Nat.{_+_, _^_, _≤_, _<_};
 ghost use lib.IntN.{pos, natAbs, _+ℤ_, _*ℤ_};
 ghost use lib.ListN.{getD};
@@ -121,6 +122,41 @@ fn agrees_at(
     merged_bit(levels, k, l, su, sv) == composed_bit(levels, su, sv)
 }
 
+// Whether a setting can only rule out a k too small for its l: neither u nor the composed pair is 1 on it. Every other setting can only
+// rule out a k too large.
+fn bounds_below(sums_u: &[i64; 512], sums_v: &[i64; 512], levels: Levels, setting: usize) -> bool
+    requires { ⌜ Scaled levels ⌝ }
+    requires { ⌜ Summable (now «sums_u») setting ⌝ }
+    requires { ⌜ Summable (now «sums_v») setting ⌝ }
+{
+    let su = sum_at(sums_u, setting);
+    let sv = sum_at(sums_v, setting);
+    !(su >= levels.tu) & !composed_bit(levels, su, sv)
+}
+
+// Which of two remembered settings stays beside a new one: the last, unless it bounds k / l on the same side.
+fn beside(
+    sums_u: &[i64; 512],
+    sums_v: &[i64; 512],
+    levels: Levels,
+    setting: usize,
+    last: usize,
+    earlier: usize,
+) -> usize
+    requires { ⌜ Scaled levels ⌝ }
+    requires { ⌜ Summable (now «sums_u») setting ⌝ }
+    requires { ⌜ Summable (now «sums_v») setting ⌝ }
+    requires { ⌜ Summable (now «sums_u») last ⌝ }
+    requires { ⌜ Summable (now «sums_v») last ⌝ }
+    ensures { λ r. ⌜ (r ≡ last) ⊎ (r ≡ earlier) ⌝ }
+{
+    if bounds_below(sums_u, sums_v, levels, setting) == bounds_below(sums_u, sums_v, levels, last) {
+        earlier
+    } else {
+        last
+    }
+}
+
 // Whether a number is on the scale of weights and thresholds.
 fn in_scale(z: i64) -> bool
     ensures { λ r. ⌜ r ≡ inScale z ⌝ }
@@ -184,8 +220,9 @@ pub fn agrees_everywhere(
     true
 }
 
-// The first pair that qualifies, from the tables of the two gates' sums. A candidate is tried first on the last two settings that
-// told candidates apart, then on every setting, from the last one outwards: each step changes the feeds that are 1 in its number.
+// The first pair that qualifies, from the tables of the two gates' sums. A candidate is tried first on two remembered settings, the
+// last ones that ruled candidates out from either side, then on every setting, from the last one outwards: each step changes the
+// feeds that are 1 in its number.
 fn scan(
     us: &[i32; 16],
     vs: &[i32; 16],
@@ -223,7 +260,7 @@ fn scan(
             for step in 0..n {
                 let setting = step ^ last;
                 if !agrees_at(sums_u, sums_v, levels, k, l, setting) {
-                    earlier = last;
+                    earlier = beside(sums_u, sums_v, levels, setting, last, earlier);
                     last = setting;
                     continue 'candidate;
                 }

@@ -1,18 +1,10 @@
 -- `search::unchecked::agrees_at` meets its contract: both bits are made of the two sums. Assumes nothing.
-use Prim.Native.Nat.{ℕ, _+_, _/_, _%_, _≤_}
-use mathlib.Core.List.{List}
-use native.Mathlib.Omega.{arith}
-use lib.IntN.{ℤ, pos, natAbs}
-use lib.ListN.{getD}
 use mir.Syntax.{w64}
-use Rattle.integers.specs.Size.{size-add, read-back}
-use Rattle.search.specs.Tables.{sumFrom, Summable, sameBits}
+use Rattle.integers.specs.Size.{read-back}
+use Rattle.search.specs.Tables.{sameBits}
+use Rattle.search.proofs.SumLaws.{from-small}
 use Rattle.search.proofs.unchecked.agrees_at.Statement.{statement}
 use Rattle.search.proofs.unchecked.agrees_at.Tie as tie
-
-from-small : {sums : List ℤ} {setting : ℕ} → Summable sums setting → natAbs (sumFrom sums setting) ≤ 16000000
-unfolding sumFrom
-from-small {sums} {setting} s = omega (arith, size-add (getD sums (setting % 256) (pos 0)) (getD sums (256 + setting / 256) (pos 0)))
 
 sum-at-requires : tie.Need-sum-at-requires
 sum-at-requires c κs = c .pre .1 .1 .0

@@ -1,5 +1,6 @@
 -- `search::unchecked::scan` meets its contract: what is left of the candidates has the same first pair that qualifies as all of them.
 -- Assumes nothing.
+use mathlib.Core.Logic.{⊎-elim}
 use mathlib.Core.Path.{_≡_}
 use Prim.Native.Nat.{ℕ, _-_, _^_, _<_}
 use native.Mathlib.Omega.{arith}
@@ -184,21 +185,30 @@ agrees-at-requires-3 c κs =
     let at = c .before .loop2 in
     (start (here e) .pre .0 .levels, (rw (at .inv .kept) (dial e), asks e (bitXor (at .step) (at .last)) (inside c)))
 
+beside-requires : tie.Need-beside-requires Inv-loop2 μ-loop2 Inv-candidate μ-candidate Inv-loop μ-loop
+beside-requires c κs =
+    let d = c .before .before in
+    let e = tried d in
+    let at = d .before .loop2 in
+    let new = asks e (bitXor (at .step) (at .last)) (inside d) in
+    (start (here e) .pre .0 .levels, (new .0, (new .1, asks e (at .last) (at .inv .last-in))))
+
 add-k-6 : tie.Need-add-k-6 Inv-loop2 μ-loop2 Inv-candidate μ-candidate Inv-loop μ-loop
-add-k-6 c = omega (arith, c .before .before .before .loop2 .inv, here (tried (c .before .before)) .candidate-test .taken)
+add-k-6 c = let d = c .before .before .before in omega (arith, d .before .loop2 .inv, here (tried d) .candidate-test .taken)
 
 candidate-less-6 : tie.Need-candidate-less-6 Inv-loop2 μ-loop2 Inv-candidate μ-candidate Inv-loop μ-loop
-candidate-less-6 c = omega (arith, c .before .before .before .loop2 .inv, here (tried (c .before .before)) .candidate-test .taken)
+candidate-less-6 c = let d = c .before .before .before in omega (arith, d .before .loop2 .inv, here (tried d) .candidate-test .taken)
 
 candidate-again-6 : tie.Need-candidate-again-6 Inv-loop2 μ-loop2 Inv-candidate μ-candidate Inv-loop μ-loop
 candidate-again-6 c =
-    let d = c .before .before in
+    let d = c .before .before .before in
     let e = tried d in
     let p = start (here e) .pre in
     let at = d .before .loop2 in
-    let t = rw (at .inv .kept) at (c .before .agrees-at3 .ensures) in
+    let t = rw (at .inv .kept) at (c .before .before .agrees-at3 .ensures) in
+    let kept : c .beside .result < n (here e) = ⊎-elim (λ q. omega (arith, at .inv .last-in)) (λ q. omega (arith, at .inv .earlier-in)) (c .beside .ensures) in
     rw (at .inv .kept)
-    (differs (p .0) (p .1 .0) (p .1 .1) (bitXor (at .step) (at .last)) (here e .before .candidate .inv) (n-is e) (here e .candidate-test .taken) (e .before .if1 .left) (inside d) (inside d) (at .inv .last-in) t (c .if6 .taken))
+    (differs (p .0) (p .1 .0) (p .1 .1) (bitXor (at .step) (at .last)) (here e .before .candidate .inv) (n-is e) (here e .candidate-test .taken) (e .before .if1 .left) (inside d) (inside d) kept t (c .before .if6 .taken))
 
 add-step : tie.Need-add-step Inv-loop2 μ-loop2 Inv-candidate μ-candidate Inv-loop μ-loop
 add-step c = omega (arith, c .before .before .before .loop2 .inv, c .before .before .loop2-test .taken)
@@ -272,6 +282,7 @@ scan-spec =
     candidate-again-5
     loop2-holds
     agrees-at-requires-3
+    beside-requires
     add-k-6
     candidate-less-6
     candidate-again-6
