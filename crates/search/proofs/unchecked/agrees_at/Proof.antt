@@ -1,0 +1,47 @@
+-- `search::unchecked::agrees_at` meets its contract: both bits are made of the two sums. Assumes nothing.
+use mathlib.Core.Path.{_≡_}
+use Prim.Native.Nat.{ℕ, _+_, _/_, _%_, _≤_}
+use mathlib.Core.List.{List}
+use native.Mathlib.Omega.{arith}
+use lib.IntN.{ℤ, pos, natAbs}
+use lib.ListN.{getD}
+use mir.Syntax.{w64}
+use Rattle.integers.specs.Size.{size-add, read-back}
+use Rattle.search.specs.Tables.{sumFrom, Summable, sameBits}
+use Rattle.search.proofs.unchecked.agrees_at.Statement.{statement}
+use Rattle.search.proofs.unchecked.agrees_at.Tie as tie
+use Rattle.search.proofs.unchecked.agrees_at.Reads as reads
+use Rattle.search.proofs.unchecked.agrees_at.Lts as lts
+
+from-small : {sums : List ℤ} {setting : ℕ} → Summable sums setting → natAbs (sumFrom sums setting) ≤ 16000000
+unfolding sumFrom
+from-small {sums} {setting} s = omega (arith, size-add (getD sums (setting % 256) (pos 0)) (getD sums (256 + setting / 256) (pos 0)))
+
+sum-at-requires : tie.Need-sum-at-requires
+sum-at-requires c κs = c .pre .1 .1 .0
+
+sum-at-requires-2 : tie.Need-sum-at-requires-2
+sum-at-requires-2 c κs = c .before .pre .1 .1 .1
+
+merged-bit-requires : tie.Need-merged-bit-requires
+merged-bit-requires c κs =
+    let d = c .before .before in
+    rw (read-back w64 (c .before .sum-at .ok) (c .before .sum-at .ensures), read-back w64 (c .sum-at2 .ok) (c .sum-at2 .ensures))
+    (d .pre .0, record { k-high = d .pre .1 .0 .k-high; l-high = d .pre .1 .0 .l-high; x-small = from-small (d .pre .1 .1 .0); y-small = from-small (d .pre .1 .1 .1) })
+
+composed-bit-requires : tie.Need-composed-bit-requires
+composed-bit-requires c κs =
+    let d = c .before .before .before in
+    rw (read-back w64 (c .before .sum-at2 .ok) (c .before .sum-at2 .ensures)) (d .pre .0, from-small (d .pre .1 .1 .1))
+
+returns : tie.Need-returns
+unfolding sameBits
+returns c =
+    let su = read-back w64 (c .before .before .before .sum-at .ok) (c .before .before .before .sum-at .ensures) in
+    let sv = read-back w64 (c .before .before .sum-at2 .ok) (c .before .before .sum-at2 .ensures) in
+    rw (rw (su, sv) at (c .before .merged-bit .ensures), rw (su, sv) at (c .composed-bit .ensures))
+
+pub agrees-at-spec : {M : Type 1} → statement M
+agrees-at-spec =
+    tie.close
+    (tie.spec sum-at-requires sum-at-requires-2 merged-bit-requires composed-bit-requires returns)

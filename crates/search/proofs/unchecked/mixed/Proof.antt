@@ -1,0 +1,61 @@
+-- `search::unchecked::mixed` meets its contract: 32 times a sum, twice, is far below the range of an i64. Assumes nothing.
+use Prim.Native.Nat.{ℕ, _*_, _^_, _≤_, _<_}
+use mathlib.Core.Path.{_≡_}
+use native.Mathlib.Nat.{mul-le-mul}
+use native.Mathlib.Omega.{arith}
+use lib.IntN.{ℤ, pos, natAbs, _+ℤ_, _*ℤ_}
+use mir.Syntax.{w64}
+use mir.Val.{SFits, toZ}
+use mir.Facts.{toZ-ofZ}
+use Rattle.integers.specs.Size.{size-add, size-mul, size-fits}
+use borrow.Author.Needs.{needs}
+use Rattle.search.proofs.unchecked.mixed.Statement.{statement}
+use Rattle.search.proofs.unchecked.mixed.Tie as tie
+
+-- a multiple by at most 32 of a number of the size of a sum
+times : (k : ℕ) (z : ℤ) → k ≤ 32 → natAbs z ≤ 16000000 → natAbs (pos k *ℤ z) ≤ 512000000
+times k z h e = rw size-mul (mul-le-mul h e)
+
+-- a multiplier as the cast leaves it
+cast : (k : ℕ) → k ≤ 32 → toZ w64 k ≡ pos k
+cast k h = toZ-ofZ {z = pos k} (size-fits w64 (pos k) (omega arith))
+
+module _ (c : tie.Start) where
+  abbrev kx : ℤ
+  kx = pos (c .args .k) *ℤ c .args .x
+
+  abbrev ly : ℤ
+  ly = pos (c .args .l) *ℤ c .args .y
+
+  kx-fits : SFits w64 kx
+  kx-fits = size-fits w64 kx (omega (arith, times (c .args .k) (c .args .x) (c .pre .k-high) (c .pre .x-small)))
+
+  ly-fits : SFits w64 ly
+  ly-fits = size-fits w64 ly (omega (arith, times (c .args .l) (c .args .y) (c .pre .l-high) (c .pre .y-small)))
+
+  sum-fits : SFits w64 (kx +ℤ ly)
+  sum-fits = size-fits w64 (kx +ℤ ly) (omega (arith, times (c .args .k) (c .args .x) (c .pre .k-high) (c .pre .x-small), times (c .args .l) (c .args .y) (c .pre .l-high) (c .pre .y-small), size-add kx ly))
+
+cast-result : tie.Need-cast-result
+cast-result c = search needs
+
+mul-result : tie.Need-mul-result
+mul-result c = simp (cast (c .args .k) (c .pre .k-high), toZ-ofZ (c .fits .x)) (kx-fits c)
+
+cast-result-2 : tie.Need-cast-result-2
+cast-result-2 c = search needs
+
+mul-result-2 : tie.Need-mul-result-2
+mul-result-2 c = simp (cast (c .args .l) (c .pre .l-high), toZ-ofZ (c .fits .y)) (ly-fits c)
+
+add-result : tie.Need-add-result
+add-result c =
+    simp (cast (c .args .k) (c .pre .k-high), cast (c .args .l) (c .pre .l-high), toZ-ofZ (c .fits .x), toZ-ofZ (c .fits .y), toZ-ofZ (kx-fits c), toZ-ofZ (ly-fits c))
+    (sum-fits c)
+
+returns : tie.Need-returns
+returns c =
+    simp (cast (c .args .k) (c .pre .k-high), cast (c .args .l) (c .pre .l-high), toZ-ofZ (c .fits .x), toZ-ofZ (c .fits .y), toZ-ofZ (kx-fits c), toZ-ofZ (ly-fits c), toZ-ofZ (sum-fits c))
+
+pub mixed-spec : {M : Type 1} → statement M
+mixed-spec = tie.close (tie.spec cast-result mul-result cast-result-2 mul-result-2 add-result returns)
