@@ -1,4 +1,6 @@
 // Merge, pair, drop, collapse and sweep on network records, and one call of a list.
+pub mod unchecked;
+
 use network::Network;
 
 // What a merge, a drop or a collapse answers: 0 or the refusal, and the network; the one that came in on refusal.
