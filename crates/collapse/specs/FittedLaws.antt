@@ -49,7 +49,7 @@ pub narrow-is : (e : Edge) → length (distinct e) ≤ 16 → narrow e ≡ true
 unfolding narrow
 narrow-is e h = le-leb (length (distinct e)) 16 h
 
-narrow-few : (e : Edge) → T (narrow e) → length (distinct e) ≤ 16
+pub narrow-few : (e : Edge) → T (narrow e) → length (distinct e) ≤ 16
 unfolding narrow
 narrow-few e t = leb→le (length (distinct e)) 16 t
 
