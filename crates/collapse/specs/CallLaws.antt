@@ -1,13 +1,12 @@
 -- Laws of a pair and a merge on a record: the answer by the number of the first test that fails. Assumes nothing.
-use mathlib.Core.Path.{_≡_, refl, sym, ap, _∙_, subst}
+use mathlib.Core.Path.{_≡_, sym, ap, _∙_}
 use mathlib.Core.Bool.{true, false}
 use Prim.Native.Nat.{ℕ}
 use native.Mathlib.Omega.{arith}
 use lib.Dec.{T}
-use Rattle.integers.specs.Refusals.{accepted, refused, _else_, checks}
+use Rattle.integers.specs.Refusals.{accepted, refused, checks}
 use Rattle.integers.specs.RefusalLaws.{Passed, passed-checks}
-use Rattle.integers.specs.Tests.{is-true, T-is, T-and, and-left}
-use Rattle.network.specs.Threshold.{Gate}
+use Rattle.integers.specs.Tests.{is-true, T-and, and-left}
 use Rattle.network.specs.Limits.{sound, isGate}
 use Rattle.network.specs.Changes.{withGate}
 use Rattle.network.specs.Record.{netOf, soundRecord, spareClear, gateIn, gateRecord}

@@ -1,8 +1,7 @@
 -- Laws of the number of the first test that fails. Assumes nothing.
-use mathlib.Core.Path.{_≡_, refl, sym}
-use mathlib.Core.Bool.{Bool, true, false}
+use mathlib.Core.Path.{_≡_, refl}
+use mathlib.Core.Bool.{true, false}
 use mathlib.Core.List.{List, [], _∷_}
-use Prim.Native.Nat.{ℕ}
 use Rattle.integers.specs.Refusals.{Answer, refused, Test, _else_, checks}
 use Rattle.integers.specs.RefusalLaws.{Passed}
 use Rattle.folding.specs.RefusalMore.{NoneSays}
@@ -21,12 +20,3 @@ unfolding codeOf checks
 code-refused [] r h = absurd (h refl)
 code-refused ((true else c) ∷ ts) r h = code-refused ts r h
 code-refused ((false else c) ∷ ts) r h = refl
-
--- the first test, as code asks it
-pub code-first : (b : Bool) (c : ℕ) (ts : List Test) → b ≡ false → codeOf ((b else c) ∷ ts) ≡ c
-unfolding codeOf
-code-first b c ts e = rw e
-
-pub code-next : (b : Bool) (c : ℕ) (ts : List Test) → b ≡ true → codeOf ((b else c) ∷ ts) ≡ codeOf ts
-unfolding codeOf
-code-next b c ts e = rw e

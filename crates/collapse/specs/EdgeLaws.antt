@@ -7,11 +7,10 @@ use Prim.Native.Nat.{ℕ, _+_, _-_, _<_}
 use native.Mathlib.Omega.{arith}
 use lib.Dec.{T, leb, ltb, leb→le, ltb→lt}
 use lib.IntN.{ℤ}
-use lib.ListN.{length}
-use Rattle.integers.specs.Refusals.{Test, _else_}
+use Rattle.integers.specs.Refusals.{_else_}
 use Rattle.integers.specs.RefusalLaws.{Passed}
 use Rattle.integers.specs.Tests.{T-and}
-use Rattle.network.specs.Threshold.{Gate, Net}
+use Rattle.network.specs.Threshold.{Gate}
 use Rattle.network.specs.Limits.{isGate}
 use Rattle.network.specs.LimitLaws.{GateOk}
 use Rattle.network.specs.Changes.{gateAt}
@@ -22,7 +21,7 @@ use Rattle.network.specs.PlaceLaws.{gateIn-gateRecord}
 use Rattle.network.specs.RecordLaws.{count-gates, gate-within}
 use Rattle.network.specs.declared.Network.{Network}
 use Rattle.network.specs.declared.GateRecord.{GateRecord}
-use Rattle.folding.specs.Merge.{Edge, edge, reads}
+use Rattle.folding.specs.Merge.{edge, reads}
 use Rattle.folding.specs.AlignedLaws.{EdgeOk}
 use Rattle.alignment.specs.Alignments as alignments
 use Rattle.alignment.specs.Alignments.{Alignable}

@@ -10,7 +10,7 @@ use lib.Dec.{T, leb→le}
 use lib.IntN.{ℤ, pos, natAbs}
 use lib.Signed.{nonNeg}
 use lib.ListN.{length, getD, List·getD-eq-default}
-use Rattle.integers.specs.Refusals.{Test, _else_}
+use Rattle.integers.specs.Refusals.{_else_}
 use Rattle.integers.specs.Tests.{T-is}
 use Rattle.network.specs.Limits.{scaleOk}
 use Rattle.network.specs.Record.{gateRecord}

@@ -6,7 +6,9 @@ use network::soundness::is_sound;
 use network::unchecked::places::replace_gate;
 use unchecked::edges::edge_code;
 use unchecked::merges::merge_code;
-use unchecked::pairs::{merged_of, no_pair, pair_of};
+use unchecked::pairs::merged_of;
+use unchecked::pairs::no_pair;
+use unchecked::pairs::pair_of;
 ghost use mathlib.Core.Path.{_≡_};
 ghost use Rattle.collapse.specs.Answers.{mergedRecord, pairFound};
 
@@ -79,10 +81,7 @@ pub fn merge(network: Network, u: usize, v: usize, k: usize, l: usize) -> Change
     ensures { λ r. ⌜ r ≡ mergedRecord network u v k l ⌝ }
 {
     if !is_sound(network) {
-        return Changed {
-            code: 20,
-            network,
-        };
+        return Changed { code: 20, network };
     }
     let inputs = network.inputs;
     let gates = network.gates;
@@ -115,10 +114,7 @@ pub fn merge(network: Network, u: usize, v: usize, k: usize, l: usize) -> Change
         l,
     );
     if code != 0 {
-        return Changed {
-            code,
-            network,
-        };
+        return Changed { code, network };
     }
     let gate = merged_of(
         &network.fanins,

@@ -9,7 +9,6 @@ use Rattle.network.specs.Changes.{withGate}
 use Rattle.network.specs.Record.{netOf, layout, soundRecord, gateIn, gateRecord}
 use Rattle.network.specs.declared.Network.{Network}
 use Rattle.folding.specs.Merge.{Edge, merged}
-use Rattle.collapse.specs.declared.Changed.{Changed}
 use Rattle.collapse.specs.Answers.{asChanged}
 use Rattle.collapse.specs.Codes.{mergeTests}
 use Rattle.collapse.specs.Lent.{edgeIn, Lent, Joined}

@@ -4,7 +4,6 @@ use mathlib.Core.Bool.{true}
 use borrow.Author.Tests.{not-true, not-false}
 use Rattle.integers.specs.Tests.{T-is}
 use Rattle.network.specs.Record.{soundRecord}
-use Rattle.network.specs.declared.Network.{Network}
 use Rattle.collapse.specs.Lent.{Lent}
 use Rattle.collapse.specs.LentLaws.{lent-of}
 use Rattle.collapse.specs.CallLaws.{pair-broken, pair-apart, apart-none, pair-joined}

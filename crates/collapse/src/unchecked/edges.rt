@@ -89,9 +89,5 @@ pub fn levels_of(a: Alignment) -> Levels
     let tu = widened(a.tu);
     let tv = widened(a.tv);
     let b = widened(a.b);
-    Levels {
-        tu,
-        tv,
-        b,
-    }
+    Levels { tu, tv, b }
 }

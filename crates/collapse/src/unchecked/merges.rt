@@ -1,7 +1,11 @@
 // The tests of a merge after that of the record and that u feeds v, on a record whose arrays are lent.
-use crate::unchecked::edges::{aligned_at, levels_of, on_dial, with_grain};
+use crate::unchecked::edges::aligned_at;
+use crate::unchecked::edges::levels_of;
+use crate::unchecked::edges::on_dial;
+use crate::unchecked::edges::with_grain;
 use alignment::Alignment;
-use search::unchecked::{agrees_everywhere, scale_fits};
+use search::unchecked::agrees_everywhere;
+use search::unchecked::scale_fits;
 ghost use mathlib.Core.Path.{_≡_};
 ghost use Rattle.alignment.specs.Alignments.{alignedIn};
 ghost use Rattle.search.specs.Search.{Dial};

@@ -1,7 +1,9 @@
 // The pair of two gates of a record whose arrays are lent, and their merged gate. The caller has tested the record, and that u
 // feeds v.
 use crate::PairFound;
-use crate::unchecked::edges::{aligned_at, levels_of, with_grain};
+use crate::unchecked::edges::aligned_at;
+use crate::unchecked::edges::levels_of;
+use crate::unchecked::edges::with_grain;
 use alignment::Alignment;
 use alignment::unchecked::merged_gate;
 use network::GateRecord;
@@ -25,11 +27,7 @@ ghost use Rattle.collapse.specs.Fitted.{Searchable};
 pub fn no_pair(code: u8) -> PairFound
     ensures { λ r. ⌜ r ≡ asPair (refused code) ⌝ }
 {
-    PairFound {
-        code,
-        k: 0,
-        l: 0,
-    }
+    PairFound { code, k: 0, l: 0 }
 }
 
 // What a search found, as an answer.
@@ -37,11 +35,7 @@ fn answered(found: Found) -> PairFound
     ensures { λ r. ⌜ r ≡ asPair (foundAs found) ⌝ }
 {
     match found {
-        Found::At(k, l) => PairFound {
-            code: 0,
-            k,
-            l,
-        },
+        Found::At(k, l) => PairFound { code: 0, k, l },
         Found::Nothing => no_pair(16),
     }
 }

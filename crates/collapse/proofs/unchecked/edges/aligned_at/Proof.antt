@@ -1,6 +1,5 @@
 -- The places of the two gates stand for them, and they are within the limits. Assumes nothing.
 use mathlib.Core.Path.{_≡_, sym, ap, _∙_, subst}
-use native.Mathlib.Omega.{arith}
 use Rattle.alignment.specs.Alignments as alignments
 use Rattle.alignment.specs.Alignments.{Alignable, alignmentOf}
 use Rattle.collapse.specs.Lent.{edgeIn}

@@ -1,6 +1,6 @@
 -- The two tests in their order, on the two gates' weights, thresholds and b. Assumes nothing.
 use mathlib.Core.Path.{_≡_, sym, ap, _∙_, subst}
-use mathlib.Core.Bool.{Bool, true, false}
+use mathlib.Core.Bool.{true, false}
 use borrow.Author.Tests.{not-true, not-false}
 use Rattle.folding.specs.Aligned.{agreesAll, scaleFits}
 use Rattle.alignment.specs.Alignments.{alignedIn}

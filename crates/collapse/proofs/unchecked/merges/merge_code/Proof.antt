@@ -1,20 +1,17 @@
 -- The first three tests in their order, then the last two on the aligned gates. Assumes nothing.
 use mathlib.Core.Path.{_≡_, sym, ap, _∙_, subst}
-use mathlib.Core.Bool.{true, false, _&&_}
-use mathlib.Core.List.{List}
+use mathlib.Core.Bool.{true, _&&_}
 use Prim.Native.Nat.{_≤_}
 use borrow.Author.Tests.{not-true, not-false}
 use lib.ListN.{length}
 use lib.Signed.{nonNeg}
 use mir.Syntax.{w32}
 use mir.Val.{toZ, ofZ}
-use Rattle.integers.specs.Refusals.{Test}
 use Rattle.integers.specs.Tests.{T-is, T-and}
 use Rattle.folding.specs.Merge.{Edge, distinct, onDial, withGrain}
 use Rattle.folding.specs.PairLaws.{dial-of}
 use Rattle.alignment.specs.Alignments.{alignedIn}
 use Rattle.alignment.specs.declared.Alignment.{Alignment}
-use Rattle.search.specs.Search.{Dial}
 use Rattle.collapse.specs.Codes.{codeOf, mergeTests, fitTests}
 use Rattle.collapse.specs.Lent.{edgeIn}
 use Rattle.collapse.specs.EdgeLaws.{joined-ok}

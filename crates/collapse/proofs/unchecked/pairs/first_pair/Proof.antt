@@ -1,7 +1,6 @@
 -- The search on the two gates' weights, thresholds and b. Assumes nothing.
 use mathlib.Core.Path.{sym, ap, _∙_, subst}
-use Rattle.integers.specs.Refusals.{Answer}
-use Rattle.folding.specs.Pair.{Pair, pairs, first}
+use Rattle.folding.specs.Pair.{pairs, first}
 use Rattle.folding.specs.Aligned.{qualifiesOn}
 use Rattle.alignment.specs.Alignments.{alignedIn}
 use Rattle.search.specs.declared.Levels.{Levels}

@@ -4,7 +4,6 @@ use Rattle.network.specs.Record.{gateRecord}
 use Rattle.alignment.specs.Alignments.{mergedOf, Mergeable}
 use Rattle.alignment.specs.declared.Alignment.{Alignment}
 use Rattle.collapse.specs.FittedLaws.{qualified-mergeable, mergedOf-is}
-use borrow.Author.Needs.{needs}
 use Rattle.collapse.proofs.unchecked.pairs.merged_of.Statement.{statement}
 use Rattle.collapse.proofs.unchecked.pairs.merged_of.Tie as tie
 
