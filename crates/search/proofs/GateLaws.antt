@@ -1,21 +1,20 @@
 -- Laws of the two gates that the search is given: what its tests find, feed by feed and setting by setting, is the definitions' answer.
 -- Assumes nothing.
-use mathlib.Core.Path.{_≡_, refl, sym, ap, _∙_}
+use mathlib.Core.Path.{_≡_, refl, _∙_}
 use mathlib.Core.Bool.{Bool, true, false, true≢false}
 use mathlib.Core.List.{List, [], _∷_}
-use Prim.Native.Nat.{ℕ, _+_, _^_, _≤_, _<_}
+use Prim.Native.Nat.{ℕ, _^_, _≤_, _<_}
 use native.Mathlib.Omega.{arith}
 use lib.Dec.{T}
 use lib.IntN.{ℤ, pos, _+ℤ_, _*ℤ_}
-use lib.ListN.{length, getD, take}
+use lib.ListN.{length, getD}
 use lib.Seq.{getD-take, length-take-le}
 use Rattle.integers.specs.Lists.{below, every}
 use Rattle.integers.specs.Tests.{is-true, T-is, and-true, and-false-right, between-of, of-between, every-of, of-every}
 use Rattle.integers.specs.ListLaws.{below-at}
 use Rattle.network.specs.Limits.{inScale}
 use Rattle.folding.specs.Merge.{onDial}
-use Rattle.folding.specs.Pair.{Pair}
-use Rattle.folding.specs.Aligned.{Aligned, sumAt, composedBit, level, mergedBit, agreesOn, agreesAll, mix, scaleFits, qualifiesOn}
+use Rattle.folding.specs.Aligned.{Aligned, composedBit, level, mergedBit, agreesOn, agreesAll, mix, scaleFits, qualifiesOn}
 use Rattle.search.specs.declared.Levels.{Levels}
 use Rattle.search.specs.Search.{alignedBy, Fair}
 use Rattle.search.specs.Tables.{Sums, sumFrom, Summable, bare, sameBits}

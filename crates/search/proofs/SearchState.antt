@@ -4,20 +4,21 @@ use mathlib.Core.Bool.{Bool, true, false, not}
 use mathlib.Core.List.{List}
 use Prim.Native.Nat.{ℕ, _+_, _-_, _^_, _≤_, _<_}
 use native.Mathlib.Omega.{arith}
+use lib.Bits.{bitXor}
 use lib.IntN.{ℤ}
 use borrow.Author.Tests.{not-true, not-false}
 use Rattle.integers.specs.Lists.{below}
 use Rattle.integers.specs.Tests.{both-true}
 use Rattle.integers.specs.ListLaws.{below-none, below-more}
-use Rattle.integers.specs.Refusals.{Answer}
 use Rattle.folding.specs.Pair.{Pair, pairs, first}
 use Rattle.folding.specs.Aligned.{agreesOn, scaleFits, qualifiesOn}
 use Rattle.search.specs.declared.Levels.{Levels}
 use Rattle.search.specs.declared.Found.the-variants.{At, Nothing}
 use Rattle.search.specs.Search.{alignedBy, foundAs, Fair}
-use Rattle.search.specs.Tables.{Sums, sumFrom, Summable, sameBits}
+use Rattle.search.specs.Tables.{Sums, sumFrom, sameBits}
+use Rattle.search.proofs.XorLaws.{xor-in, below-xor}
 use Rattle.search.proofs.OrderLaws.{pairAt, later, left, later-start, left-start, first-none, first-hit, first-miss, first-past, first-next}
-use Rattle.search.proofs.GateLaws.{readable, agrees-is, off-scale, differing, qualified, k-off-dial, l-off-dial}
+use Rattle.search.proofs.GateLaws.{agrees-is, off-scale, differing, qualified, k-off-dial, l-off-dial}
 
 -- at a sum: the answer among the sums from here on is the whole answer
 pub record AtSum (q : Pair → Bool) (n last earlier sum : ℕ) : Type 0 where
@@ -35,13 +36,14 @@ pub record AtCandidate (q : Pair → Bool) (n last earlier sum k : ℕ) : Type 0
   pub earlier-in : earlier < n
   pub same : first q (left sum k) 16 ≡ first q pairs 16
 
--- at a setting of the candidate with k₀: the settings passed agree
-pub record AtSetting (agrees : ℕ → Bool) (n last earlier k₀ k setting : ℕ) : Type 0 where
+-- at a step of the candidate with k₀, from the setting last₀: the settings passed agree
+pub record AtStep (agrees : ℕ → Bool) (n last₀ last earlier k₀ k step : ℕ) : Type 0 where
   pub kept : k ≡ k₀
-  pub high : setting ≤ n
+  pub from : last ≡ last₀
+  pub high : step ≤ n
   pub last-in : last < n
   pub earlier-in : earlier < n
-  pub clear : below setting agrees ≡ true
+  pub clear : below step (λ i. agrees (bitXor i last)) ≡ true
 
 module _ {us vs tu tv : List ℤ} {count : ℕ} {g : Levels} (f : Fair us vs count g) (u : Sums us 256 tu) (v : Sums vs 256 tv) where
   abbrev pub q : Pair → Bool
@@ -75,21 +77,21 @@ module _ {us vs tu tv : List ℤ} {count : ℕ} {g : Levels} (f : Fair us vs cou
 
   -- ---- a candidate is left for its successor
   onward : {n last earlier last' earlier' sum k : ℕ} → AtCandidate q n last earlier sum k → k ≤ 32 → last' < n → earlier' < n
-    → first q (left sum (k + 1)) 16 ≡ first q (left sum k) 16 → AtCandidate q n last' earlier' sum (k + 1)
+      → first q (left sum (k + 1)) 16 ≡ first q (left sum k) 16 → AtCandidate q n last' earlier' sum (k + 1)
   onward a h x y e = record { low = omega arith; high = omega arith; last-in = x; earlier-in = y; same = e ∙ a .same }
 
   pub over : {n last earlier sum k : ℕ} → AtCandidate q n last earlier sum k → k ≤ 32 → sum ≤ k → AtCandidate q n last earlier sum (k + 1)
   over {n} {last} {earlier} {sum} {k} a h j = onward a h (a .last-in) (a .earlier-in) (first-past q 16 sum k j)
 
   missed : {n last earlier last' earlier' sum k : ℕ} → AtCandidate q n last earlier sum k → k ≤ 32 → k < sum → last' < n → earlier' < n
-    → q (pairAt sum k) ≡ false → AtCandidate q n last' earlier' sum (k + 1)
+      → q (pairAt sum k) ≡ false → AtCandidate q n last' earlier' sum (k + 1)
   missed {n} {last} {earlier} {last'} {earlier'} {sum} {k} a h j x y e = onward a h x y (first-miss q 16 sum k j e)
 
   pub off : {n last earlier sum k : ℕ} → AtCandidate q n last earlier sum k → k ≤ 32 → k < sum → 32 < sum - k → AtCandidate q n last earlier sum (k + 1)
   off {n} {last} {earlier} {sum} {k} a h j o = missed a h j (a .last-in) (a .earlier-in) (l-off-dial us vs count g k (sum - k) o)
 
   pub unscaled : {n last earlier sum k : ℕ} {b : Bool} → AtCandidate q n last earlier sum k → k ≤ 32 → k < sum
-    → b ≡ scaleFits (alignedBy us vs count g) k (sum - k) → not b ≡ true → AtCandidate q n last earlier sum (k + 1)
+      → b ≡ scaleFits (alignedBy us vs count g) k (sum - k) → not b ≡ true → AtCandidate q n last earlier sum (k + 1)
   unscaled {n} {last} {earlier} {sum} {k} {b} a h j e t =
       missed a h j (a .last-in) (a .earlier-in) (off-scale us vs count g f k (sum - k) (sym e ∙ not-true b t))
 
@@ -98,31 +100,40 @@ module _ {us vs tu tv : List ℤ} {count : ℕ} {g : Levels} (f : Fair us vs cou
   tested n k l s e h t = t ∙ sym (agrees-is us vs count g f u v k l s (omega arith))
 
   pub differs : {n last earlier last' earlier' sum k : ℕ} {b : Bool} (s : ℕ) → AtCandidate q n last earlier sum k → n ≡ 2 ^ count → k ≤ 32 → k < sum → s < n → last' < n → earlier' < n
-    → b ≡ sameBits g k (sum - k) (sumFrom tu s) (sumFrom tv s) → not b ≡ true → AtCandidate q n last' earlier' sum (k + 1)
+      → b ≡ sameBits g k (sum - k) (sumFrom tu s) (sumFrom tv s) → not b ≡ true → AtCandidate q n last' earlier' sum (k + 1)
   differs {n} {last} {earlier} {last'} {earlier'} {sum} {k} {b} s a e h j i x y t d =
       missed a h j x y (differing us vs count g f k (sum - k) s (omega arith) (sym (tested n k (sum - k) s e i t) ∙ not-true b d))
 
   -- ---- the settings of a candidate
-  pub scanning : {n last earlier sum k : ℕ} → AtCandidate q n last earlier sum k → (l : ℕ) → AtSetting (agreesOn (alignedBy us vs count g) k l) n last earlier k k 0
+  pub scanning : {n last earlier sum k : ℕ} → AtCandidate q n last earlier sum k → (l : ℕ) → AtStep (agreesOn (alignedBy us vs count g) k l) n last last earlier k k 0
   scanning {n} {last} {earlier} {sum} {k} a l =
-      record { kept = refl; high = omega arith; last-in = a .last-in; earlier-in = a .earlier-in; clear = below-none (agreesOn (alignedBy us vs count g) k l) }
-
-  pub passed : {n last earlier k₀ k s : ℕ} {b : Bool} (l : ℕ) → AtSetting (agreesOn (alignedBy us vs count g) k l) n last earlier k₀ k s → n ≡ 2 ^ count → s < n
-    → b ≡ sameBits g k l (sumFrom tu s) (sumFrom tv s) → not b ≡ false → AtSetting (agreesOn (alignedBy us vs count g) k l) n last earlier k₀ k (s + 1)
-  passed {n} {last} {earlier} {k₀} {k} {s} {b} l a e h t y =
-      let p = agreesOn (alignedBy us vs count g) k l in
       record {
-        kept = a .kept;
+        kept = refl;
+        from = refl;
         high = omega arith;
         last-in = a .last-in;
         earlier-in = a .earlier-in;
-        clear = below-more p s ∙ both-true (below s p) (p s) (a .clear) (sym (tested n k l s e h t) ∙ not-false b y);
+        clear = below-none (λ i. agreesOn (alignedBy us vs count g) k l (bitXor i last));
+      }
+
+  pub passed : {n last₀ last earlier k₀ k step : ℕ} {b : Bool} (l : ℕ) → AtStep (agreesOn (alignedBy us vs count g) k l) n last₀ last earlier k₀ k step → n ≡ 2 ^ count → step < n
+      → b ≡ sameBits g k l (sumFrom tu (bitXor step last)) (sumFrom tv (bitXor step last)) → not b ≡ false → AtStep (agreesOn (alignedBy us vs count g) k l) n last₀ last earlier k₀ k (step + 1)
+  passed {n} {last₀} {last} {earlier} {k₀} {k} {step} {b} l a e h t y =
+      let p : ℕ → Bool = λ i. agreesOn (alignedBy us vs count g) k l (bitXor i last) in
+      record {
+        kept = a .kept;
+        from = a .from;
+        high = omega arith;
+        last-in = a .last-in;
+        earlier-in = a .earlier-in;
+        clear = below-more p step ∙ both-true (below step p) (p step) (a .clear) (sym (tested n k l (bitXor step last) e (xor-in count n step last e h (a .last-in)) t) ∙ not-false b y);
       }
 
   -- every setting agrees, and the candidate is the answer
   pub found : {n last earlier sum k : ℕ} {b : Bool} → AtCandidate q n last earlier sum k → n ≡ 2 ^ count → k ≤ 32 → k < sum → sum - k ≤ 32
-    → b ≡ scaleFits (alignedBy us vs count g) k (sum - k) → not b ≡ false → below n (agreesOn (alignedBy us vs count g) k (sum - k)) ≡ true
-    → foundAs (At k (sum - k)) ≡ first q pairs 16
+      → b ≡ scaleFits (alignedBy us vs count g) k (sum - k) → not b ≡ false → below n (λ i. agreesOn (alignedBy us vs count g) k (sum - k) (bitXor i last)) ≡ true
+      → foundAs (At k (sum - k)) ≡ first q pairs 16
   unfolding foundAs
   found {n} {last} {earlier} {sum} {k} {b} a e h j o t y c =
-      sym (first-hit q 16 sum k j (qualified us vs count g f k (sum - k) (a .low) h (omega arith) o (sym t ∙ not-false b y) (rw e at c))) ∙ a .same
+      let p = agreesOn (alignedBy us vs count g) k (sum - k) in
+      sym (first-hit q 16 sum k j (qualified us vs count g f k (sum - k) (a .low) h (omega arith) o (sym t ∙ not-false b y) (rw e at (below-xor count n last p e (a .last-in) c)))) ∙ a .same

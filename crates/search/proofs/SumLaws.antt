@@ -8,8 +8,8 @@ use native.Mathlib.Nat.{two-pow-succ, pow-succ', div-div-eq-div-mul, mod-one, di
 use native.Mathlib.Numerals.{add-one}
 use native.Mathlib.Omega.{arith}
 use lib.Dec.{eqb}
-use lib.IntN.{ℤ, pos, natAbs, _+ℤ_, +ℤ-assoc, +ℤ-idl, +ℤ-idr}
-use lib.ListN.{length, getD, take, drop, set, replicate, length-set, length-replicate}
+use lib.IntN.{ℤ, pos, natAbs, _+ℤ_, +ℤ-assoc, +ℤ-idl}
+use lib.ListN.{getD, take, drop, set, replicate, length-set, length-replicate}
 use lib.Seq.{getD-drop, getD-set-same, getD-set-other}
 use borrow.Author.Count.{below-more}
 use lib.Pow.{pow-mono, field, mod-mod-pow}
@@ -105,11 +105,11 @@ sums-more {weights} {sums} {n} t h x y ex ey =
     record {
       long = length-set (set sums n x) (256 + n) y ∙ length-set sums n x ∙ t .long;
       low = below-more (λ (j : ℕ). getD (set (set sums n x) (256 + n) y) j (pos 0) ≡ sumAt weights j) n
-        (λ j k. getD-set-other (set sums n x) (256 + n) j y (pos 0) (λ q. absurd (omega arith)) ∙ getD-set-other sums n j x (pos 0) (λ q. absurd (omega arith)) ∙ t .low j k)
-        (getD-set-other (set sums n x) (256 + n) n y (pos 0) (λ q. absurd (omega arith)) ∙ getD-set-same sums n x (pos 0) (omega arith) ∙ ex);
+          (λ j k. getD-set-other (set sums n x) (256 + n) j y (pos 0) (λ q. absurd (omega arith)) ∙ getD-set-other sums n j x (pos 0) (λ q. absurd (omega arith)) ∙ t .low j k)
+          (getD-set-other (set sums n x) (256 + n) n y (pos 0) (λ q. absurd (omega arith)) ∙ getD-set-same sums n x (pos 0) (omega arith) ∙ ex);
       high = below-more (λ (j : ℕ). getD (set (set sums n x) (256 + n) y) (256 + j) (pos 0) ≡ sumAt (drop 8 weights) j) n
-        (λ j k. getD-set-other (set sums n x) (256 + n) (256 + j) y (pos 0) (λ q. absurd (omega arith)) ∙ getD-set-other sums n (256 + j) x (pos 0) (λ q. absurd (omega arith)) ∙ t .high j k)
-        (getD-set-same (set sums n x) (256 + n) y (pos 0) (omega (arith, length-set sums n x)) ∙ ey);
+          (λ j k. getD-set-other (set sums n x) (256 + n) (256 + j) y (pos 0) (λ q. absurd (omega arith)) ∙ getD-set-other sums n (256 + j) x (pos 0) (λ q. absurd (omega arith)) ∙ t .high j k)
+          (getD-set-same (set sums n x) (256 + n) y (pos 0) (omega (arith, length-set sums n x)) ∙ ey);
     }
 
 module _ {weights sums : List ℤ} (t : Sums weights 256 sums) (small : Small 1000000 weights) (count setting : ℕ) (few : count ≤ 16) (on : setting < 2 ^ count) where

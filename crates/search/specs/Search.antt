@@ -24,7 +24,7 @@ abbrev pub Small : ℕ → List ℤ → Type 0
 Small n zs = (i : ℕ) → natAbs (getD zs i (pos 0)) ≤ n
 
 -- both thresholds and b are on the scale
-pub record Even (g : Levels) : Type 0 where
+pub record Scaled (g : Levels) : Type 0 where
   pub tu-small : natAbs (g .tu) ≤ 1000000
   pub tv-small : natAbs (g .tv) ≤ 1000000
   pub b-small : natAbs (g .b) ≤ 1000000
@@ -35,7 +35,7 @@ pub record Fair (us vs : List ℤ) (count : ℕ) (g : Levels) : Type 0 where
   pub placed : count ≤ length us
   pub us-small : Small 1000000 us
   pub vs-small : Small 1000000 vs
-  pub levels : Even g
+  pub levels : Scaled g
 
 -- k and l are no more than the dial has
 pub record Dial (k l : ℕ) : Type 0 where

@@ -1,8 +1,8 @@
 // The pair search, by tables of sums and with the last two settings that disagreed tried first. Each call asks for at most 16 distinct
 // feeds and for numbers on the scale.
-use crate::{Found, Levels};
+use crate::Found;
+use crate::Levels;
 use integers::widened;
-
 ghost use mathlib.Core.Path.{_≡_};
 ghost use Prim.Native.Nat.{_+_, _^_, _≤_, _<_};
 ghost use lib.IntN.{pos, natAbs, _+ℤ_, _*ℤ_};
@@ -10,7 +10,7 @@ ghost use lib.ListN.{getD};
 ghost use Rattle.network.specs.Limits.{inScale};
 ghost use Rattle.folding.specs.Aligned.{composedBit, level, mergedBit, agreesAll, scaleFits, qualifiesOn};
 ghost use Rattle.folding.specs.Pair.{pairs, first};
-ghost use Rattle.search.specs.Search.{alignedBy, foundAs, Small, Even, Fair, Dial};
+ghost use Rattle.search.specs.Search.{alignedBy, foundAs, Small, Scaled, Fair, Dial};
 ghost use Rattle.search.specs.Tables.{Sums, sumFrom, Summable, bare, sameBits, Mixable};
 
 // The settings of `count` feeds.
@@ -70,7 +70,7 @@ fn mixed(k: usize, l: usize, x: i64, y: i64) -> i64
 
 // The merged gate's threshold.
 fn merged_level(levels: Levels, k: usize, l: usize) -> i64
-    requires { ⌜ Even levels ⌝ }
+    requires { ⌜ Scaled levels ⌝ }
     requires { ⌜ Dial k l ⌝ }
     ensures { λ r. ⌜ r ≡ level (bare levels) k l ⌝ }
 {
@@ -81,7 +81,7 @@ fn merged_level(levels: Levels, k: usize, l: usize) -> i64
 
 // The merged gate's bit, from the two sums.
 fn merged_bit(levels: Levels, k: usize, l: usize, su: i64, sv: i64) -> bool
-    requires { ⌜ Even levels ⌝ }
+    requires { ⌜ Scaled levels ⌝ }
     requires { ⌜ Mixable k l su sv ⌝ }
     ensures { λ r. ⌜ r ≡ mergedBit (bare levels) k l su sv ⌝ }
 {
@@ -90,7 +90,7 @@ fn merged_bit(levels: Levels, k: usize, l: usize, su: i64, sv: i64) -> bool
 
 // The composed pair's bit, from the two sums.
 fn composed_bit(levels: Levels, su: i64, sv: i64) -> bool
-    requires { ⌜ Even levels ⌝ }
+    requires { ⌜ Scaled levels ⌝ }
     requires { ⌜ natAbs sv ≤ 16000000 ⌝ }
     ensures { λ r. ⌜ r ≡ composedBit (bare levels) su sv ⌝ }
 {
@@ -102,8 +102,15 @@ fn composed_bit(levels: Levels, su: i64, sv: i64) -> bool
 }
 
 // Whether the merged gate and the composed pair have the same bit on a setting.
-fn agrees_at(sums_u: &[i64; 512], sums_v: &[i64; 512], levels: Levels, k: usize, l: usize, setting: usize) -> bool
-    requires { ⌜ Even levels ⌝ }
+fn agrees_at(
+    sums_u: &[i64; 512],
+    sums_v: &[i64; 512],
+    levels: Levels,
+    k: usize,
+    l: usize,
+    setting: usize,
+) -> bool
+    requires { ⌜ Scaled levels ⌝ }
     requires { ⌜ Dial k l ⌝ }
     requires { ⌜ Summable (now «sums_u») setting ⌝ }
     requires { ⌜ Summable (now «sums_v») setting ⌝ }
@@ -133,7 +140,14 @@ fn merged_weight(us: &[i32; 16], vs: &[i32; 16], k: usize, l: usize, feed: usize
 }
 
 // Whether the merged gate's weights and threshold are on the scale.
-pub fn scale_fits(us: &[i32; 16], vs: &[i32; 16], count: usize, levels: Levels, k: usize, l: usize) -> bool
+pub fn scale_fits(
+    us: &[i32; 16],
+    vs: &[i32; 16],
+    count: usize,
+    levels: Levels,
+    k: usize,
+    l: usize,
+) -> bool
     requires { ⌜ Fair (now us) (now vs) count levels ⌝ }
     requires { ⌜ Dial k l ⌝ }
     ensures { λ r. ⌜ r ≡ scaleFits (alignedBy (now (us .entry)) (now (vs .entry)) count levels) k l ⌝ }
@@ -147,7 +161,14 @@ pub fn scale_fits(us: &[i32; 16], vs: &[i32; 16], count: usize, levels: Levels, 
 }
 
 // Whether the merged gate and the composed pair have the same bit on every setting.
-pub fn agrees_everywhere(us: &[i32; 16], vs: &[i32; 16], count: usize, levels: Levels, k: usize, l: usize) -> bool
+pub fn agrees_everywhere(
+    us: &[i32; 16],
+    vs: &[i32; 16],
+    count: usize,
+    levels: Levels,
+    k: usize,
+    l: usize,
+) -> bool
     requires { ⌜ Fair (now us) (now vs) count levels ⌝ }
     requires { ⌜ Dial k l ⌝ }
     ensures { λ r. ⌜ r ≡ agreesAll (alignedBy (now (us .entry)) (now (vs .entry)) count levels) k l ⌝ }
@@ -164,7 +185,7 @@ pub fn agrees_everywhere(us: &[i32; 16], vs: &[i32; 16], count: usize, levels: L
 }
 
 // The first pair that qualifies, from the tables of the two gates' sums. A candidate is tried first on the last two settings that
-// told candidates apart, then on every setting.
+// told candidates apart, then on every setting, from the last one outwards: each step changes the feeds that are 1 in its number.
 fn scan(
     us: &[i32; 16],
     vs: &[i32; 16],
@@ -199,7 +220,8 @@ fn scan(
             if !scale_fits(us, vs, count, levels, k, l) {
                 continue 'candidate;
             }
-            for setting in 0..n {
+            for step in 0..n {
+                let setting = step ^ last;
                 if !agrees_at(sums_u, sums_v, levels, k, l, setting) {
                     earlier = last;
                     last = setting;

@@ -1,5 +1,4 @@
 -- `search::unchecked::agrees_at` meets its contract: both bits are made of the two sums. Assumes nothing.
-use mathlib.Core.Path.{_≡_}
 use Prim.Native.Nat.{ℕ, _+_, _/_, _%_, _≤_}
 use mathlib.Core.List.{List}
 use native.Mathlib.Omega.{arith}
@@ -10,8 +9,6 @@ use Rattle.integers.specs.Size.{size-add, read-back}
 use Rattle.search.specs.Tables.{sumFrom, Summable, sameBits}
 use Rattle.search.proofs.unchecked.agrees_at.Statement.{statement}
 use Rattle.search.proofs.unchecked.agrees_at.Tie as tie
-use Rattle.search.proofs.unchecked.agrees_at.Reads as reads
-use Rattle.search.proofs.unchecked.agrees_at.Lts as lts
 
 from-small : {sums : List ℤ} {setting : ℕ} → Summable sums setting → natAbs (sumFrom sums setting) ≤ 16000000
 unfolding sumFrom

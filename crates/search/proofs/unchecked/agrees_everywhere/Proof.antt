@@ -1,5 +1,5 @@
 -- `search::unchecked::agrees_everywhere` meets its contract: the settings passed agree. Assumes nothing.
-use mathlib.Core.Path.{_≡_, sym, ap, _∙_}
+use mathlib.Core.Path.{_≡_, sym, _∙_}
 use mathlib.Core.Bool.{true}
 use Prim.Native.Nat.{ℕ, _-_, _^_, _≤_, _<_}
 use native.Mathlib.Omega.{arith}
@@ -10,7 +10,6 @@ use Rattle.integers.specs.ListLaws.{below-none, below-more}
 use Rattle.folding.specs.Aligned.{Aligned, agreesOn}
 use Rattle.search.specs.Search.{alignedBy}
 use Rattle.search.proofs.GateLaws.{readable, agrees-is, agreement, disagrees}
-use borrow.Author.Needs.{needs}
 use Rattle.search.proofs.unchecked.agrees_everywhere.Statement.{statement}
 use Rattle.search.proofs.unchecked.agrees_everywhere.Tie as tie
 

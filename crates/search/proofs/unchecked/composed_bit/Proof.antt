@@ -1,12 +1,11 @@
 -- `search::unchecked::composed_bit` meets its contract: v's sum and b are far below the range of an i64. Assumes nothing.
-use Prim.Native.Nat.{_≤_}
 use mathlib.Core.Path.{_≡_, sym, ap}
 use mathlib.Core.Bool.{true, false}
 use native.Mathlib.Omega.{arith}
-use lib.IntN.{ℤ, natAbs, _+ℤ_, +ℤ-idr}
+use lib.IntN.{ℤ, _+ℤ_, +ℤ-idr}
 use lib.Signed.{leZ}
 use mir.Syntax.{w64}
-use mir.Val.{SFits, toZ, ofZ}
+use mir.Val.{SFits}
 use mir.Facts.{toZ-ofZ}
 use Rattle.integers.specs.Size.{size-add, size-fits}
 use Rattle.folding.specs.Aligned.{composedBit}
@@ -15,8 +14,6 @@ use Rattle.search.specs.Tables.{bare}
 use Rattle.search.proofs.Held.{held}
 use Rattle.search.proofs.unchecked.composed_bit.Statement.{statement}
 use Rattle.search.proofs.unchecked.composed_bit.Tie as tie
-use Rattle.search.proofs.unchecked.composed_bit.Reads as reads
-use Rattle.search.proofs.unchecked.composed_bit.Lts as lts
 
 module _ (c : tie.Start) where
   with-b : SFits w64 (c .args .sv +ℤ c .args .levels .b)

@@ -1,15 +1,15 @@
 -- `search::unchecked::extend` meets its contract: each turn gives one setting more its sums. Assumes nothing.
-use mathlib.Core.Path.{_≡_, refl, sym, ap, _∙_}
+use mathlib.Core.Path.{_≡_, ap, _∙_}
 use mathlib.Core.List.{List}
-use Prim.Native.Nat.{ℕ, _+_, _-_, _^_, _≤_, _<_}
+use Prim.Native.Nat.{ℕ, _+_, _-_, _^_, _≤_}
 use native.Mathlib.Nat.{two-pow-succ}
 use native.Mathlib.Numerals.{add-one}
 use native.Mathlib.Omega.{arith}
 use lib.IntN.{ℤ, pos, natAbs, _+ℤ_}
-use lib.ListN.{length, getD, set, length-set}
+use lib.ListN.{getD}
 use lib.Pow.{pow-mono}
 use mir.Syntax.{w64}
-use mir.Val.{SFits, toZ, ofZ}
+use mir.Val.{toZ, ofZ}
 use Rattle.integers.specs.Size.{size-add, size-fits, read-back}
 use Rattle.search.specs.Tables.{Sums}
 use Rattle.search.proofs.Held.{held, weight-held}
@@ -17,10 +17,6 @@ use Rattle.search.proofs.SumLaws.{Next, next, sums-more}
 use borrow.Author.Needs.{needs}
 use Rattle.search.proofs.unchecked.extend.Statement.{statement}
 use Rattle.search.proofs.unchecked.extend.Tie as tie
-use Rattle.search.proofs.unchecked.extend.Reads as reads
-use Rattle.search.proofs.unchecked.extend.Lts as lts
-use Rattle.integers.proofs.widened.Reads as widened-reads
-use Rattle.search.proofs.unchecked.settings.Reads as settings-reads
 
 -- the settings below filled + j have their sums
 record Filling (weights : List ℤ) (filled j : ℕ) (sums : List ℤ) : Type 0 where

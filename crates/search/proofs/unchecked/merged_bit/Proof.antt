@@ -1,7 +1,5 @@
 -- `search::unchecked::merged_bit` meets its contract: the mix of the two sums reaches the merged gate's threshold. Assumes nothing.
-use mathlib.Core.Path.{_≡_}
 use native.Mathlib.Omega.{arith}
-use lib.Signed.{leZ}
 use mir.Syntax.{w64}
 use mir.Facts.{toZ-ofZ}
 use Rattle.integers.specs.Size.{read-back}

@@ -1,8 +1,7 @@
 -- `search::unchecked::merged_level` meets its contract: it is the mix of u's threshold and of v's without b. Assumes nothing.
-use mathlib.Core.Path.{_≡_, _∙_}
 use Prim.Native.Nat.{_≤_}
 use native.Mathlib.Omega.{arith}
-use lib.IntN.{ℤ, natAbs, _-ℤ_}
+use lib.IntN.{natAbs, _-ℤ_}
 use mir.Syntax.{w64}
 use Rattle.integers.specs.Size.{size-sub, size-fits, read-back}
 use Rattle.folding.specs.Aligned.{level}

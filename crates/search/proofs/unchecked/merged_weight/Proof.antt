@@ -1,15 +1,11 @@
 -- `search::unchecked::merged_weight` meets its contract: it is the mix of the two weights. Assumes nothing.
-use Prim.Native.Nat.{ℕ, _≤_}
 use mathlib.Core.Path.{_≡_, _∙_}
-use mathlib.Core.List.{List}
 use native.Mathlib.Omega.{arith}
-use lib.IntN.{ℤ, pos}
+use lib.IntN.{pos}
 use lib.ListN.{getD}
-use mir.Syntax.{w32, w64}
+use mir.Syntax.{w64}
 use mir.Val.{toZ, ofZ}
-use mir.Facts.{toZ-ofZ}
-use Rattle.integers.specs.Size.{size-fits, read-back}
-use Rattle.search.specs.Search.{Small}
+use Rattle.integers.specs.Size.{read-back}
 use Rattle.search.proofs.Held.{weight-held}
 use borrow.Author.Needs.{needs}
 use Rattle.search.proofs.unchecked.merged_weight.Statement.{statement}

@@ -1,25 +1,25 @@
 -- `search::unchecked::scan` meets its contract: what is left of the candidates has the same first pair that qualifies as all of them.
 -- Assumes nothing.
-use mathlib.Core.Path.{_≡_, sym, _∙_}
-use mathlib.Core.Bool.{Bool}
-use Prim.Native.Nat.{ℕ, _+_, _-_, _^_, _≤_, _<_}
+use mathlib.Core.Path.{_≡_}
+use Prim.Native.Nat.{ℕ, _-_, _^_, _<_}
 use native.Mathlib.Omega.{arith}
 use lib.Pow.{pow-pos}
+use lib.Bits.{bitXor}
 use Rattle.folding.specs.Aligned.{agreesOn, qualifiesOn}
 use Rattle.search.specs.Search.{alignedBy, Dial}
 use Rattle.search.specs.Tables.{Summable}
+use Rattle.search.proofs.XorLaws.{xor-in}
 use Rattle.search.proofs.GateLaws.{readable}
-use Rattle.search.proofs.SearchState.{AtSum, AtCandidate, AtSetting, begin, turn, next-sum, none, over, off, unscaled, differs, scanning, passed, found}
-use borrow.Author.Needs.{needs}
+use Rattle.search.proofs.SearchState.{AtSum, AtCandidate, AtStep, begin, turn, next-sum, none, over, off, unscaled, differs, scanning, passed, found}
 use Rattle.search.proofs.unchecked.scan.Statement.{statement}
 use Rattle.search.proofs.unchecked.scan.Tie as tie
 
 abbrev Inv-loop2 : tie.InvT-loop2
-Inv-loop2 us vs sums-u sums-v count levels n last₀ earlier₀ sum k₀ l setting₀ last earlier k setting =
-    AtSetting (agreesOn (alignedBy us vs count levels) k l) n last earlier k₀ k setting
+Inv-loop2 us vs sums-u sums-v count levels n last₀ earlier₀ sum k₀ l step₀ last earlier k step =
+    AtStep (agreesOn (alignedBy us vs count levels) k l) n last₀ last earlier k₀ k step
 
 abbrev μ-loop2 : tie.MeasureT-loop2
-μ-loop2 us vs sums-u sums-v count levels n last₀ earlier₀ sum k₀ l setting₀ last earlier k setting = n - setting
+μ-loop2 us vs sums-u sums-v count levels n last₀ earlier₀ sum k₀ l step₀ last earlier k step = n - step
 
 abbrev Inv-candidate : tie.InvT-candidate
 Inv-candidate us vs sums-u sums-v count levels n last₀ earlier₀ sum k₀ last earlier k =
@@ -166,35 +166,49 @@ loop2-holds c =
     let p = start (here e) .pre in
     scanning (p .0) (p .1 .0) (p .1 .1) (here e .before .candidate .inv) (sum (here e) - k (here e))
 
+-- a step of a candidate
+abbrev Step : Type 0
+Step = tie.In-loop2 Inv-loop2 μ-loop2 Inv-candidate μ-candidate Inv-loop μ-loop
+
+abbrev tried : Step → Tried
+tried d = d .before .before .before .before .before .before .before .before
+
+inside : (d : Step) → bitXor (d .before .loop2 .step) (d .before .loop2 .last) < n (here (tried d))
+inside d =
+    let at = d .before .loop2 in
+    xor-in (start (here (tried d)) .args .count) (n (here (tried d))) (at .step) (at .last) (n-is (tried d)) (d .loop2-test .taken) (at .inv .last-in)
+
 agrees-at-requires-3 : tie.Need-agrees-at-requires-3 Inv-loop2 μ-loop2 Inv-candidate μ-candidate Inv-loop μ-loop
 agrees-at-requires-3 c κs =
-    let e = c .before .before .before .before .before .before .before .before in
-    (start (here e) .pre .0 .levels, (rw (c .before .loop2 .inv .kept) (dial e), asks e (c .before .loop2 .setting) (c .loop2-test .taken)))
+    let e = tried c in
+    let at = c .before .loop2 in
+    (start (here e) .pre .0 .levels, (rw (at .inv .kept) (dial e), asks e (bitXor (at .step) (at .last)) (inside c)))
 
 add-k-6 : tie.Need-add-k-6 Inv-loop2 μ-loop2 Inv-candidate μ-candidate Inv-loop μ-loop
-add-k-6 c = omega (arith, c .before .before .before .loop2 .inv, here (c .before .before .before .before .before .before .before .before .before .before) .candidate-test .taken)
+add-k-6 c = omega (arith, c .before .before .before .loop2 .inv, here (tried (c .before .before)) .candidate-test .taken)
 
 candidate-less-6 : tie.Need-candidate-less-6 Inv-loop2 μ-loop2 Inv-candidate μ-candidate Inv-loop μ-loop
-candidate-less-6 c = omega (arith, c .before .before .before .loop2 .inv, here (c .before .before .before .before .before .before .before .before .before .before) .candidate-test .taken)
+candidate-less-6 c = omega (arith, c .before .before .before .loop2 .inv, here (tried (c .before .before)) .candidate-test .taken)
 
 candidate-again-6 : tie.Need-candidate-again-6 Inv-loop2 μ-loop2 Inv-candidate μ-candidate Inv-loop μ-loop
 candidate-again-6 c =
-    let e = c .before .before .before .before .before .before .before .before .before .before in
+    let d = c .before .before in
+    let e = tried d in
     let p = start (here e) .pre in
-    let at = c .before .before .before .loop2 in
+    let at = d .before .loop2 in
     let t = rw (at .inv .kept) at (c .before .agrees-at3 .ensures) in
     rw (at .inv .kept)
-    (differs (p .0) (p .1 .0) (p .1 .1) (at .setting) (here e .before .candidate .inv) (n-is e) (here e .candidate-test .taken) (e .before .if1 .left) (c .before .before .loop2-test .taken) (c .before .before .loop2-test .taken) (at .inv .last-in) t (c .if6 .taken))
+    (differs (p .0) (p .1 .0) (p .1 .1) (bitXor (at .step) (at .last)) (here e .before .candidate .inv) (n-is e) (here e .candidate-test .taken) (e .before .if1 .left) (inside d) (inside d) (at .inv .last-in) t (c .if6 .taken))
 
-add-setting : tie.Need-add-setting Inv-loop2 μ-loop2 Inv-candidate μ-candidate Inv-loop μ-loop
-add-setting c = omega (arith, c .before .before .before .loop2 .inv, c .before .before .loop2-test .taken)
+add-step : tie.Need-add-step Inv-loop2 μ-loop2 Inv-candidate μ-candidate Inv-loop μ-loop
+add-step c = omega (arith, c .before .before .before .loop2 .inv, c .before .before .loop2-test .taken)
 
 loop2-less : tie.Need-loop2-less Inv-loop2 μ-loop2 Inv-candidate μ-candidate Inv-loop μ-loop
 loop2-less c = omega (arith, c .before .before .before .loop2 .inv, c .before .before .loop2-test .taken)
 
 loop2-again : tie.Need-loop2-again Inv-loop2 μ-loop2 Inv-candidate μ-candidate Inv-loop μ-loop
 loop2-again c =
-    let e = c .before .before .before .before .before .before .before .before .before .before in
+    let e = tried (c .before .before) in
     let p = start (here e) .pre in
     let at = c .before .before .before .loop2 in
     passed (p .0) (p .1 .0) (p .1 .1) (sum (here e) - k (here e)) (at .inv) (n-is e) (c .before .before .loop2-test .taken) (c .before .agrees-at3 .ensures) (c .if6 .left)
@@ -204,9 +218,9 @@ returns c =
     let e = c .before .before .before .before .before .before .before .before in
     let p = start (here e) .pre in
     let at = c .before .loop2 in
-    let z : at .setting ≡ n (here e) = omega (arith, at .inv .high, c .loop2-test .left) in
+    let z : at .step ≡ n (here e) = omega (arith, at .inv .high, c .loop2-test .left) in
     rw (at .inv .kept)
-    (found (p .0) (p .1 .0) (p .1 .1) (here e .before .candidate .inv) (n-is e) (here e .candidate-test .taken) (e .before .if1 .left) (e .if2 .left) (c .before .before .before .scale-fits .ensures) (c .before .before .if5 .left) (rw (z, at .inv .kept) at (at .inv .clear)))
+    (found (p .0) (p .1 .0) (p .1 .1) (here e .before .candidate .inv) (n-is e) (here e .candidate-test .taken) (e .before .if1 .left) (e .if2 .left) (c .before .before .before .scale-fits .ensures) (c .before .before .if5 .left) (rw (z, at .inv .kept, at .inv .from) at (at .inv .clear)))
 
 add-sum : tie.Need-add-sum Inv-loop2 μ-loop2 Inv-candidate μ-candidate Inv-loop μ-loop
 add-sum c = omega arith
@@ -261,7 +275,7 @@ scan-spec =
     add-k-6
     candidate-less-6
     candidate-again-6
-    add-setting
+    add-step
     loop2-less
     loop2-again
     returns

@@ -1,10 +1,9 @@
 -- `search::unchecked::table` meets its contract: each weight doubles the settings, from the one setting of no weight. Assumes nothing.
-use Prim.Native.Nat.{ℕ, _+_, _-_, _^_, _≤_}
+use Prim.Native.Nat.{_-_, _^_, _≤_}
 use mathlib.Core.Path.{_≡_}
 use native.Mathlib.Omega.{arith}
 use Rattle.search.specs.Tables.{Sums}
 use Rattle.search.proofs.SumLaws.{sums-one}
-use borrow.Author.Needs.{needs}
 use Rattle.search.proofs.unchecked.table.Statement.{statement}
 use Rattle.search.proofs.unchecked.table.Tie as tie
 
