@@ -1,0 +1,38 @@
+-- The tests of a merge and of a pair after that of the record, and the number of the first that fails. Nothing is proved here.
+use mathlib.Core.Bool.{cond, _&&_}
+use mathlib.Core.List.{List, [], _∷_}
+use Prim.Native.Nat.{ℕ, _-_}
+use lib.IntN.{ℤ}
+use Rattle.integers.specs.Refusals.{Test, _else_}
+use Rattle.network.specs.Threshold.{Net}
+use Rattle.network.specs.Limits.{scaleOk, isGate}
+use Rattle.network.specs.Changes.{gateAt}
+use Rattle.network.specs.Record.{gateFrom}
+use Rattle.network.specs.RecordTests.{gateSignal}
+use Rattle.folding.specs.Merge.{Edge, reads, merged, agrees, onDial, withGrain, narrow}
+use Rattle.folding.specs.Aligned.{Aligned, agreesAll, scaleFits}
+
+-- the number of the first test that fails, 0 if none does
+unfoldable pub codeOf : List Test → ℕ
+codeOf [] = 0
+codeOf ((b else c) ∷ ts) = cond b (codeOf ts) c
+
+-- 11 and 12: u and v are gates, and u feeds v
+unfoldable pub edgeTests : Net → ℕ → ℕ → List Test
+edgeTests N u v = (isGate N u && isGate N v else 11) ∷ (reads u (gateAt N v) else 12) ∷ []
+
+-- the same in lent arrays
+unfoldable pub edgeTestsIn : List ℕ → List ℤ → List ℕ → List ℤ → ℕ → ℕ → ℕ → ℕ → List Test
+edgeTestsIn fanins thresholds signals weights inputs gates u v =
+    (gateSignal inputs gates u && gateSignal inputs gates v else 11)
+    ∷ (reads u (gateFrom fanins thresholds signals weights (v - inputs)) else 12) ∷ []
+
+-- 13, 14, 7, 6 and 15: what is tested of the two gates and of k and l
+unfoldable pub mergeTests : Edge → ℕ → ℕ → List Test
+mergeTests e k l =
+    (withGrain e else 13) ∷ (onDial k && onDial l else 14) ∷ (narrow e else 7) ∷ (scaleOk (merged e k l) else 6)
+    ∷ (agrees e k l else 15) ∷ []
+
+-- 6 and 15, of two gates by their distinct feeds
+unfoldable pub fitTests : Aligned → ℕ → ℕ → List Test
+fitTests a k l = (scaleFits a k l else 6) ∷ (agreesAll a k l else 15) ∷ []
