@@ -1,5 +1,16 @@
 // Merge, pair, drop, collapse and sweep on network records, and one call of a list.
+pub mod unchecked;
+
 use network::Network;
+use network::soundness::is_sound;
+use network::unchecked::places::remove_gate;
+use unchecked::collapses::collapse_sound;
+use unchecked::readers::count_readers;
+use unchecked::readers::is_output;
+ghost use mathlib.Core.Path.{_≡_};
+ghost use Prim.Native.Nat.{_≤_};
+ghost use Rattle.network.specs.RecordTests.{gateSignal};
+ghost use Rattle.collapse.specs.Answers.{droppedRecord, collapsedRecord};
 
 // What a merge, a drop or a collapse answers: 0 or the refusal, and the network; the one that came in on refusal.
 pub struct Changed {
@@ -21,10 +32,74 @@ pub struct Outcome {
     pub collapses: usize,
 }
 
-// The multipliers for each reader of a gate, by the reader's number: 0 or the first refusal, and k and l for every gate that is a
-// reader, 0 for every other.
+// The multipliers for each reader of a gate, by the reader's number: 0 or the first refusal, the last reader that was tried, and k
+// and l for every gate that is a reader, 0 for every other.
 pub struct Pairs {
     pub code: u8,
+    pub last: usize,
     pub ks: [u8; 128],
     pub ls: [u8; 128],
+}
+
+// A refusal, with the network that came in.
+fn refused(code: u8, network: Network) -> Changed
+    ensures { λ r. ⌜ r ≡ record { code = code; network = network } ⌝ }
+{
+    Changed {
+        code,
+        network,
+    }
+}
+
+// Whether s is the signal of one of so many gates.
+fn is_gate(inputs: usize, gates: usize, s: usize) -> bool
+    requires { ⌜ (inputs ≤ 40) × (gates ≤ 128) ⌝ }
+    ensures { λ r. ⌜ r ≡ gateSignal inputs gates s ⌝ }
+{
+    (inputs <= s) & (s < inputs + gates)
+}
+
+// The network without the gate with signal s, which no gate and no output reads. Refusals: 20 broken record, 11 no such gate, 17
+// still read.
+pub fn drop_gate(network: Network, s: usize) -> Changed
+    ensures { λ r. ⌜ r ≡ droppedRecord network s ⌝ }
+{
+    if !is_sound(network) {
+        return refused(20, network);
+    }
+    let inputs = network.inputs;
+    let gates = network.gates;
+    let outputs = network.outputs;
+    if !is_gate(inputs, gates, s) {
+        return refused(11, network);
+    }
+    let readers = count_readers(&network.fanins, &network.signals, gates, s);
+    if (readers != 0) | is_output(&network.drivers, outputs, s) {
+        return refused(17, network);
+    }
+    let left = remove_gate(network, s);
+    Changed {
+        code: 0,
+        network: left,
+    }
+}
+
+// The network with the gate with signal s merged into all of its readers and dropped. Refusals: 20 broken record, 11 no such gate,
+// 17 still read (an output), then the first reader's 13, 7 or 16.
+pub fn collapse(network: Network, s: usize) -> Changed
+    ensures { λ r. ⌜ r ≡ collapsedRecord network s ⌝ }
+{
+    if !is_sound(network) {
+        return refused(20, network);
+    }
+    let inputs = network.inputs;
+    let gates = network.gates;
+    let outputs = network.outputs;
+    if !is_gate(inputs, gates, s) {
+        return refused(11, network);
+    }
+    if is_output(&network.drivers, outputs, s) {
+        return refused(17, network);
+    }
+    collapse_sound(network, s)
 }
