@@ -1,3 +1,4 @@
 pub mod ReaderLaws
 pub mod PairingLaws
 pub mod PartLaws
+pub mod CallLaws
