@@ -2,14 +2,14 @@
 use mathlib.Core.Path.{_≡_, refl, sym, ap, _∙_}
 use mathlib.Core.Bool.{Bool, true, false, not, cond, _&&_, _||_}
 use mathlib.Core.List.{List, [], _∷_}
-use Prim.Native.Nat.{ℕ, suc, _+_}
+use Prim.Native.Nat.{ℕ, suc, _+_, _≤_, _<_}
 use native.Mathlib.Omega.{arith}
-use borrow.Author.Tests.{ne-eqb}
+use borrow.Author.Tests.{le-leb, lt-leb, ne-eqb}
 use lib.Dec.{leb, ltb, eqb}
 use lib.ListN.{length}
 use Rattle.integers.specs.Lists.{all, keep, other}
-use Rattle.integers.specs.Refusals.{checks}
-use Rattle.integers.specs.Tests.{is-true, T-is, and-left}
+use Rattle.integers.specs.Refusals.{accepted, refused, checks}
+use Rattle.integers.specs.Tests.{and-left}
 use Rattle.network.specs.Threshold.{Gate}
 use Rattle.network.specs.Limits.{isGate, sound}
 use Rattle.network.specs.Record.{netOf, layout, spareClear, soundRecord}
@@ -20,9 +20,10 @@ use Rattle.network.specs.Places.{SoundGate}
 use Rattle.network.specs.declared.Network.{Network}
 use Rattle.folding.specs.Merge.{silent, reads}
 use Rattle.folding.specs.Collapse.{unread, drop, collapse}
-use Rattle.folding.specs.Sweep.{readers}
+use Rattle.folding.specs.Sweep.{readers, sweeping, sweep}
 use Rattle.collapse.specs.declared.Changed.{Changed}
-use Rattle.collapse.specs.Answers.{onRecord, asChanged, droppedRecord, collapsedRecord}
+use Rattle.collapse.specs.declared.Outcome.{Outcome}
+use Rattle.collapse.specs.Answers.{onRecord, asChanged, asOutcome, droppedRecord, collapsedRecord, sweptRecord}
 use Rattle.collapse.specs.Readers.{occurs}
 use Rattle.collapse.specs.Fusing.{folded}
 
@@ -97,10 +98,37 @@ module _ (r : Network) (s : ℕ) where
       unfolding droppedRecord onRecord checks asChanged drop
       dropped e = rw (whole, net-test, gate-test ∙ gate, unread-test ∙ ap not e)
 
+      -- the collapse of a sound record's gate
+      pub collapse-refused : occurs (r .drivers) 0 (r .outputs) s ≡ true → collapse (netOf r) s ≡ refused 17
+      unfolding checks collapse
+      collapse-refused e = rw (net-test, gate-test ∙ gate, output-test ∙ ap not e)
+
+      pub collapse-folded : occurs (r .drivers) 0 (r .outputs) s ≡ false → collapse (netOf r) s ≡ folded (netOf r) s
+      unfolding checks collapse folded
+      collapse-folded e = rw (net-test, gate-test ∙ gate, output-test ∙ ap not e)
+
       pub collapse-output : occurs (r .drivers) 0 (r .outputs) s ≡ true → collapsedRecord r s ≡ refusal 17
-      unfolding collapsedRecord onRecord checks asChanged collapse
-      collapse-output e = rw (whole, net-test, gate-test ∙ gate, output-test ∙ ap not e)
+      unfolding collapsedRecord onRecord checks asChanged
+      collapse-output e = rw (whole, collapse-refused e)
 
       pub collapsed : occurs (r .drivers) 0 (r .outputs) s ≡ false → collapsedRecord r s ≡ asChanged r (folded (netOf r) s)
-      unfolding collapsedRecord onRecord checks collapse folded
-      collapsed e = rw (whole, net-test, gate-test ∙ gate, output-test ∙ ap not e)
+      unfolding collapsedRecord onRecord checks
+      collapsed e = rw (whole, collapse-folded e)
+
+-- ---- sweep: 20, 14, and what follows
+module _ (r : Network) (b : ℕ) where
+  abbrev pub unswept : ℕ → Outcome
+  unswept c = record { code = c; network = r; collapses = 0 }
+
+  pub sweep-broken : soundRecord r ≡ false → sweptRecord r b ≡ unswept 20
+  unfolding sweptRecord onRecord checks asOutcome
+  sweep-broken e = rw e
+
+  module _ (whole : soundRecord r ≡ true) where
+    pub sweep-off : 128 < b → sweptRecord r b ≡ unswept 14
+    unfolding sweptRecord onRecord checks asOutcome sweep
+    sweep-off h = rw (whole, net-test r 0 whole, lt-leb b 128 h)
+
+    pub swept : b ≤ 128 → sweptRecord r b ≡ asOutcome r (accepted (sweeping (r .gates) b (netOf r) 0))
+    unfolding sweptRecord onRecord checks sweep
+    swept h = rw (whole, net-test r 0 whole, le-leb b 128 h, count-gates r)

@@ -55,11 +55,13 @@ pub record AllPairs (gate : ℕ → Gate) (inputs gates u : ℕ) (p : Pairs) : T
 pub record ReaderPairs (gate : ℕ → Gate) (inputs gates u : ℕ) (p : Pairs) : Type 0 where
   pub found : p .code ≡ 0 → AllPairs gate inputs gates u p
   pub none : p .code ≢ 0 → fusion gate inputs gates u ≡ refused (p .code)
+  pub within : p .last < 128
 
 -- p has the pair of every gate, or else there is a refusal
 pub record TriedPairs (gate : ℕ → Gate) (inputs gates u : ℕ) (p : Pairs) : Type 0 where
   pub found : p .code ≡ 0 → AllPairs gate inputs gates u p
   pub none : p .code ≢ 0 → Refused (fusion gate inputs gates u)
+  pub within : p .last < 128
 
 -- ---- a record
 

@@ -7,10 +7,11 @@ use network::unchecked::places::remove_gate;
 use unchecked::collapses::collapse_sound;
 use unchecked::readers::count_readers;
 use unchecked::readers::is_output;
+use unchecked::sweeps::sweep_sound;
 ghost use mathlib.Core.Path.{_≡_};
 ghost use Prim.Native.Nat.{_≤_};
 ghost use Rattle.network.specs.RecordTests.{gateSignal};
-ghost use Rattle.collapse.specs.Answers.{droppedRecord, collapsedRecord};
+ghost use Rattle.collapse.specs.Answers.{droppedRecord, collapsedRecord, sweptRecord};
 
 // What a merge, a drop or a collapse answers: 0 or the refusal, and the network; the one that came in on refusal.
 pub struct Changed {
@@ -39,6 +40,13 @@ pub struct Pairs {
     pub last: usize,
     pub ks: [u8; 128],
     pub ls: [u8; 128],
+}
+
+// The gate that a sweep folds next, by its signal, and the pairs of its readers; found is false where no gate is left to fold.
+pub struct Choice {
+    pub found: bool,
+    pub u: usize,
+    pub pairs: Pairs,
 }
 
 // A refusal, with the network that came in.
@@ -102,4 +110,26 @@ pub fn collapse(network: Network, s: usize) -> Changed
         return refused(17, network);
     }
     collapse_sound(network, s)
+}
+
+// The network after collapses of the lowest gate that has at most b readers and that collapse accepts, again and again, until there is
+// none; and their number. Refusals: 20 broken record, 14 off the dial.
+pub fn sweep(network: Network, b: usize) -> Outcome
+    ensures { λ r. ⌜ r ≡ sweptRecord network b ⌝ }
+{
+    if !is_sound(network) {
+        return Outcome {
+            code: 20,
+            network,
+            collapses: 0,
+        };
+    }
+    if b > 128 {
+        return Outcome {
+            code: 14,
+            network,
+            collapses: 0,
+        };
+    }
+    sweep_sound(network, b)
 }

@@ -2,3 +2,4 @@
 pub mod collapses;
 pub mod pairs;
 pub mod readers;
+pub mod sweeps;

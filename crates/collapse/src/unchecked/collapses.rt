@@ -19,7 +19,7 @@ ghost use Rattle.collapse.specs.Lent.{Lent, Within};
 ghost use Rattle.collapse.specs.Fusing.{folded, edgeTo, readerPair, AllPairs, ReaderPairs, foldedBy};
 
 // The pair of gate g as a reader of u; 0 and 0 where it is none.
-fn reader_pair<'a>(
+pub fn reader_pair<'a>(
     fanins: &'a [u8; 128],
     thresholds: &'a [i32; 128],
     signals: &'a [u8; 2048],
@@ -43,7 +43,7 @@ fn reader_pair<'a>(
 }
 
 // The pairs of all readers of u, in rising order, up to the first refusal.
-fn reader_pairs<'a>(
+pub fn reader_pairs<'a>(
     fanins: &'a [u8; 128],
     thresholds: &'a [i32; 128],
     signals: &'a [u8; 2048],
@@ -80,7 +80,7 @@ fn reader_pairs<'a>(
 }
 
 // The record with u folded into its readers by their pairs: every reader merged, and u removed.
-fn fold_into_readers(network: Network, u: usize, pairs: Pairs) -> Network
+pub fn fold_into_readers(network: Network, u: usize, pairs: Pairs) -> Network
     requires { ⌜ SoundGate network u × AllPairs (gateOf network) (network .inputs) (network .gates) u pairs ⌝ }
     ensures { λ r. ⌜ r ≡ layout (foldedBy network u pairs) ⌝ }
 {

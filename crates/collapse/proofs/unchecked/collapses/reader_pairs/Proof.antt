@@ -41,6 +41,7 @@ returns c =
     record {
       found = λ z. absurd (c .if1 .taken z);
       none = λ n. fusion-first (gate (c .before .before)) _ _ _ _ (loop .g) _ (c .before .before .loop-test .taken) (loop .inv .1 .each) (asPair-refused (readerPair (tried (c .before .before))) (found .result) (found .ensures) n);
+      within = omega (arith, c .before .before .before .before .pre .0 .few-gates);
     }
 
 -- past the test gate g has its pair
@@ -76,6 +77,7 @@ returns-2 : tie.Need-returns-2 Inv-loop μ-loop
 returns-2 c = record {
   found = λ z. record { each = λ g h. c .before .loop .inv .1 .each g (omega arith) };
   none = λ n. absurd (n refl);
+  within = omega arith;
 }
 
 pub reader-pairs-spec : {M : Type 1} → statement M
