@@ -1,9 +1,8 @@
 -- Laws of the pairs as they are found, gate by gate. Assumes nothing.
-use mathlib.Core.Path.{_≡_, refl, sym, ap, _∙_, subst}
-use mathlib.Core.Bool.{true, false}
+use mathlib.Core.Path.{_≡_, sym, ap, _∙_, subst}
+use mathlib.Core.Bool.{true}
 use mathlib.Core.List.{List}
-use mathlib.Core.Logic.{_≢_}
-use Prim.Native.Nat.{ℕ, _+_, _-_, _≤_, _<_}
+use Prim.Native.Nat.{ℕ, _+_, _-_, _<_}
 use native.Mathlib.Decide.{decLt}
 use native.Mathlib.Omega.{arith}
 use lib.Dec.{T}
@@ -15,7 +14,6 @@ use Rattle.integers.specs.Refusals.{accepted}
 use Rattle.network.specs.Threshold.{Gate}
 use Rattle.network.specs.Record.{gateFrom}
 use Rattle.folding.specs.Merge.{reads}
-use Rattle.folding.specs.Pair.{Pair}
 use Rattle.collapse.specs.Lent.{edgeIn, Within, Joined}
 use Rattle.collapse.specs.Fusing.{edgeTo, readerPair}
 
@@ -50,12 +48,12 @@ module _ {gate : ℕ → Gate} {inputs u g : ℕ} {ks ls : List ℕ} (f : Found 
     long-ls = length-set ls g l ∙ f .long-ls;
     each = λ i b. elim (decLt i g) as (λ t. readerPair (edgeTo gate inputs u i) ≡ accepted (record { k = getD (set ks g k) i 0; l = getD (set ls g l) i 0 })) [
       | yes j ↦ f .each i j ∙ ap accepted (λ x. record {
-          k = sym (getD-set-other ks g i k 0 (λ e. omega arith)) x;
-          l = sym (getD-set-other ls g i l 0 (λ e. omega arith)) x;
-        })
+        k = sym (getD-set-other ks g i k 0 (λ e. omega arith)) x;
+        l = sym (getD-set-other ls g i l 0 (λ e. omega arith)) x;
+      })
       | no j ↦ let e : i ≡ g = omega arith in rw e (q ∙ ap accepted (λ x. record {
-          k = sym (getD-set-same ks g k 0 (omega (arith, f .long-ks))) x;
-          l = sym (getD-set-same ls g l 0 (omega (arith, f .long-ls))) x;
-        }))
+        k = sym (getD-set-same ks g k 0 (omega (arith, f .long-ks))) x;
+        l = sym (getD-set-same ls g l 0 (omega (arith, f .long-ls))) x;
+      }))
     ];
   }

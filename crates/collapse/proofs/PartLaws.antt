@@ -1,6 +1,6 @@
 -- Records with some of their gates fused: what the loop over the readers has after so many gates. Assumes nothing.
 use mathlib.Core.Path.{_≡_, refl, sym, ap, _∙_, subst}
-use mathlib.Core.Bool.{Bool, true, false, cond}
+use mathlib.Core.Bool.{true, false, cond}
 use mathlib.Core.List.{List, map}
 use mathlib.Core.Logic.{_≢_}
 use Prim.Native.Nat.{ℕ, zero, suc, _+_, _*_, _-_, _≤_, _<_}
@@ -83,8 +83,11 @@ module _ (old new : ℕ → Gate) where
 range-gates : (gate : ℕ → Gate) (n a m : ℕ) → ((g : ℕ) → a ≤ g → g < a + m → GateOk (n + g) (gate g)) → Gates (n + a) (map gate (range a m))
 unfolding range
 range-gates gate n a zero h = tt
-range-gates gate n a (suc m) h = (h a (omega arith) (omega arith), subst (λ i. Gates i (map gate (range (suc a) m))) (let e : n + suc a ≡ suc (n + a) = omega arith in e)
-    (range-gates gate n (suc a) m λ g k l. h g (omega arith) (omega arith)))
+range-gates gate n a (suc m) h = (
+  h a (omega arith) (omega arith),
+  subst (λ i. Gates i (map gate (range (suc a) m))) (let e : n + suc a ≡ suc (n + a) = omega arith in e)
+      (range-gates gate n (suc a) m λ g k l. h g (omega arith) (omega arith)),
+)
 
 tab-gates : (gate : ℕ → Gate) (n m : ℕ) → ((g : ℕ) → g < m → GateOk (n + g) (gate g)) → Gates n (tab m gate)
 tab-gates gate n m h = subst (λ i. Gates i (tab m gate)) (let e : n + 0 ≡ n = omega arith in e) (range-gates gate n 0 m λ g k l. h g (omega arith))

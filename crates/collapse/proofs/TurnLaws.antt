@@ -5,10 +5,10 @@ use mathlib.Core.List.{[], _∷_}
 use Prim.Native.Nat.{ℕ, zero, suc, _+_, _-_, _≤_, _<_}
 use native.Mathlib.Numerals.{add-one}
 use native.Mathlib.Omega.{arith}
-use borrow.Author.Tests.{ltb-true, ltb-false, lt-ltb, le-leb, lt-leb}
-use lib.Dec.{leb, ltb}
+use borrow.Author.Tests.{ltb-false, lt-ltb, le-leb, lt-leb}
+use lib.Dec.{leb, ltb, ltb→lt}
 use Rattle.integers.specs.Refusals.{Answer, accepted, refused, _else_, checks}
-use Rattle.integers.specs.Tests.{is-true, T-is, both-true}
+use Rattle.integers.specs.Tests.{is-true, T-is, both-true, or-case}
 use Rattle.integers.specs.ListLaws.{length-tab}
 use Rattle.network.specs.Threshold.{Net}
 use Rattle.network.specs.LimitLaws.{Sound}
@@ -97,10 +97,7 @@ module _ (N : Net) (B : ℕ) where
   sweeping-last n c e = rw e
 
 -- ---- a sound record's gates, as the code tries them
-either : (x y : Bool) {X : Type 0} → x || y ≡ true → (x ≡ true → X) → (y ≡ true → X) → X
-either true y h f g = f refl
-either false y h f g = g h
-
+-- neither of two tests holds
 neither : (x y : Bool) → x || y ≡ false → (x ≡ false) × (y ≡ false)
 neither true y h = absurd (true≢false h)
 neither false y h = (refl, h)
@@ -126,9 +123,9 @@ module _ (r : Network) (b g : ℕ) (whole : soundRecord r ≡ true) (within : g 
 
   -- it is passed over
   pub pass-barred : barred ≡ true → sweepFrom (netOf r) b signal (r .gates - g) ≡ sweepFrom (netOf r) b (r .inputs + (g + 1)) (r .gates - (g + 1))
-  pass-barred h = either (ltb b (readers (netOf r) signal)) (occurs (r .drivers) 0 (r .outputs) signal) h
-      (λ t. turn-many (netOf r) b (r .inputs) (r .gates) g within (ltb-true b (readers (netOf r) signal) t))
-      (λ t. turn-refused (netOf r) b (r .inputs) (r .gates) g within (subst Refused (sym (collapse-refused r signal whole is-gate t)) tt))
+  pass-barred h = or-case (ltb b (readers (netOf r) signal)) (occurs (r .drivers) 0 (r .outputs) signal) (T-is barred h)
+      (λ t. turn-many (netOf r) b (r .inputs) (r .gates) g within (ltb→lt b (readers (netOf r) signal) t))
+      (λ t. turn-refused (netOf r) b (r .inputs) (r .gates) g within (subst Refused (sym (collapse-refused r signal whole is-gate (is-true (occurs (r .drivers) 0 (r .outputs) signal) t))) tt))
 
   module _ (free : barred ≡ false) where
     parts : (ltb b (readers (netOf r) signal) ≡ false) × (occurs (r .drivers) 0 (r .outputs) signal ≡ false)

@@ -31,15 +31,15 @@ use Rattle.collapse.specs.declared.PairFound.{PairFound}
 use Rattle.collapse.specs.declared.Pairs.{Pairs}
 
 -- ---- refusals that go on
-bind-refused : {A B : Type 0} (r : Answer A) (f : A → Answer B) → Refused r → Refused (bind r f)
+refused-bind : {A B : Type 0} (r : Answer A) (f : A → Answer B) → Refused r → Refused (bind r f)
 unfolding bind
-bind-refused (accepted a) f h = absurd h
-bind-refused (refused c) f h = tt
-
-refused-bind : {A B : Type 0} (r : Answer A) (f : A → Answer B) → ((a : A) → Refused (f a)) → Refused (bind r f)
-unfolding bind
-refused-bind (accepted a) f h = h a
+refused-bind (accepted a) f h = absurd h
 refused-bind (refused c) f h = tt
+
+each-refused : {A B : Type 0} (r : Answer A) (f : A → Answer B) → ((a : A) → Refused (f a)) → Refused (bind r f)
+unfolding bind
+each-refused (accepted a) f h = h a
+each-refused (refused c) f h = tt
 
 -- ---- the number of a refusal
 
@@ -191,8 +191,8 @@ module _ (u : ℕ) (gateU : Gate) (inputs : ℕ) (gate : ℕ → Gate) where
   unfolding bind
   fuseAll-some a zero g k l r = absurd (omega arith)
   fuseAll-some a (suc n) g k l r = subst Refused (sym (fuseAll-step a n)) (elim (decLt a g) as (λ d. Refused (bind (fuse (at a)) (λ h. bind (from (suc a) n) (λ hs. accepted (h ∷ hs))))) [
-    | yes j ↦ refused-bind (fuse (at a)) (λ h. bind (from (suc a) n) (λ hs. accepted (h ∷ hs))) (λ h. bind-refused (from (suc a) n) (λ hs. accepted (h ∷ hs)) (fuseAll-some (suc a) n g j (omega arith) r))
-    | no j ↦ let e : a ≡ g = omega arith in bind-refused (fuse (at a)) (λ h. bind (from (suc a) n) (λ hs. accepted (h ∷ hs))) (rw e r)
+    | yes j ↦ each-refused (fuse (at a)) (λ h. bind (from (suc a) n) (λ hs. accepted (h ∷ hs))) (λ h. refused-bind (from (suc a) n) (λ hs. accepted (h ∷ hs)) (fuseAll-some (suc a) n g j (omega arith) r))
+    | no j ↦ let e : a ≡ g = omega arith in refused-bind (fuse (at a)) (λ h. bind (from (suc a) n) (λ hs. accepted (h ∷ hs))) (rw e r)
   ])
 
 -- ---- all gates by their pairs
@@ -236,4 +236,4 @@ module _ (r : Network) (u : ℕ) (s : SoundGate r u) where
   folded-first c h = folded-fusion ∙ rw h
 
   pub folded-some : Refused (fusion (gateOf r) (r .inputs) (r .gates) u) → Refused (folded (netOf r) u)
-  folded-some h = subst Refused (sym folded-fusion) (bind-refused (fusion (gateOf r) (r .inputs) (r .gates) u) (λ gs. accepted (without (withGates (netOf r) gs) u)) h)
+  folded-some h = subst Refused (sym folded-fusion) (refused-bind (fusion (gateOf r) (r .inputs) (r .gates) u) (λ gs. accepted (without (withGates (netOf r) gs) u)) h)

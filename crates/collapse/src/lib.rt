@@ -33,8 +33,8 @@ pub struct Outcome {
     pub collapses: usize,
 }
 
-// The multipliers for each reader of a gate, by the reader's number: 0 or the first refusal, the last reader that was tried, and k
-// and l for every gate that is a reader, 0 for every other.
+// The multipliers for the readers of a gate: 0 or a refusal, and the gate whose pair was refused; where none was, k and l for every gate
+// that is a reader, by its number, 0 for every other.
 pub struct Pairs {
     pub code: u8,
     pub last: usize,
@@ -53,10 +53,7 @@ pub struct Choice {
 fn refused(code: u8, network: Network) -> Changed
     ensures { λ r. ⌜ r ≡ record { code = code; network = network } ⌝ }
 {
-    Changed {
-        code,
-        network,
-    }
+    Changed { code, network }
 }
 
 // Whether s is the signal of one of so many gates.

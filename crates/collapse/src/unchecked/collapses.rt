@@ -1,16 +1,15 @@
 // Collapse on a sound record: the pairs of all readers first, then the merges and the drop.
-use crate::Changed;
-use crate::PairFound;
-use crate::Pairs;
 use super::pairs::merged_of;
 use super::pairs::pair_of;
 use super::readers::reads_gate;
+use crate::Changed;
+use crate::PairFound;
+use crate::Pairs;
 use network::Network;
 use network::unchecked::places::remove_gate;
 use network::unchecked::places::store_signals;
 use network::unchecked::places::store_weights;
 ghost use mathlib.Core.Path.{_≡_};
-ghost use mathlib.Core.Bool.{true};
 ghost use Prim.Native.Nat.{_<_};
 ghost use Rattle.network.specs.Record.{gateFrom, gateOf, netOf, layout};
 ghost use Rattle.network.specs.Places.{SoundGate};
@@ -39,7 +38,16 @@ pub fn reader_pair<'a>(
             l: 0,
         };
     }
-    pair_of(fanins, thresholds, signals, weights, inputs, gates, u, inputs + g)
+    pair_of(
+        fanins,
+        thresholds,
+        signals,
+        weights,
+        inputs,
+        gates,
+        u,
+        inputs + g,
+    )
 }
 
 // The pairs of all readers of u, in rising order, up to the first refusal.
@@ -135,10 +143,7 @@ pub fn collapse_sound(network: Network, u: usize) -> Changed
     );
     let code = pairs.code;
     if code != 0 {
-        return Changed {
-            code,
-            network,
-        };
+        return Changed { code, network };
     }
     let left = fold_into_readers(network, u, pairs);
     Changed {

@@ -38,7 +38,12 @@ pub fn is_output(drivers: &[u8; 16], outputs: usize, signal: usize) -> bool
 }
 
 // Whether gate g reads a signal.
-pub fn reads_gate<'a>(fanins: &'a [u8; 128], signals: &'a [u8; 2048], g: usize, signal: usize) -> bool
+pub fn reads_gate<'a>(
+    fanins: &'a [u8; 128],
+    signals: &'a [u8; 2048],
+    g: usize,
+    signal: usize,
+) -> bool
     requires { ⌜ (g < 128) × (getD (now fanins) g 0 ≤ 16) ⌝ }
     ensures { λ r. ⌜ ((ts ws : List ℤ) → r ≡ reads signal (gateFrom (now (fanins .entry)) ts (now (signals .entry)) ws g)) ⌝ }
 {
@@ -47,7 +52,12 @@ pub fn reads_gate<'a>(fanins: &'a [u8; 128], signals: &'a [u8; 2048], g: usize, 
 }
 
 // How many gates read a signal.
-pub fn count_readers<'a>(fanins: &'a [u8; 128], signals: &'a [u8; 2048], gates: usize, signal: usize) -> usize
+pub fn count_readers<'a>(
+    fanins: &'a [u8; 128],
+    signals: &'a [u8; 2048],
+    gates: usize,
+    signal: usize,
+) -> usize
     requires { ⌜ Counted (now fanins) gates ⌝ }
     ensures { λ r. ⌜ ((ts ws : List ℤ) → r ≡ length (keep (reads signal) (gatesIn (now (fanins .entry)) ts (now (signals .entry)) ws gates))) ⌝ }
 {

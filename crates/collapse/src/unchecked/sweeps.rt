@@ -1,12 +1,12 @@
 // Sweep on a sound record: the lowest gate that can be folded into its readers is, again and again.
-use crate::Choice;
-use crate::Outcome;
-use crate::Pairs;
 use super::collapses::fold_into_readers;
 use super::collapses::reader_pair;
 use super::collapses::reader_pairs;
 use super::readers::count_readers;
 use super::readers::is_output;
+use crate::Choice;
+use crate::Outcome;
+use crate::Pairs;
 use integers::wide;
 use network::Network;
 ghost use mathlib.Core.Path.{_≡_};
@@ -26,12 +26,7 @@ fn no_pairs(code: u8, last: usize) -> Pairs
 {
     let ks = [0u8; 128];
     let ls = [0u8; 128];
-    Pairs {
-        code,
-        last,
-        ks,
-        ls,
-    }
+    Pairs { code, last, ks, ls }
 }
 
 // The pairs of all readers of u. The gate with number hint is tried first: if it is a reader whose pair is refused, there is no need to
@@ -118,6 +113,17 @@ fn lower_hints(hints: &mut [u8; 128], g: usize) {
     }
 }
 
+// The answer of a sweep that has ended.
+fn ended(network: Network, collapses: usize) -> Outcome
+    ensures { λ r. ⌜ r ≡ record { code = 0; network = network; collapses = collapses } ⌝ }
+{
+    Outcome {
+        code: 0,
+        network,
+        collapses,
+    }
+}
+
 // The sweep with reader limit b, of a sound record.
 pub fn sweep_sound(network: Network, b: usize) -> Outcome
     requires { ⌜ soundRecord network ≡ true ⌝ }
@@ -131,11 +137,7 @@ pub fn sweep_sound(network: Network, b: usize) -> Outcome
         let choice = lowest_foldable(result, b, &mut hints);
         let found = choice.found;
         if !found {
-            return Outcome {
-                code: 0,
-                network: result,
-                collapses,
-            };
+            return ended(result, collapses);
         }
         let u = choice.u;
         let pairs = choice.pairs;
@@ -144,9 +146,5 @@ pub fn sweep_sound(network: Network, b: usize) -> Outcome
         lower_hints(&mut hints, u - inputs);
         collapses = collapses + 1;
     }
-    Outcome {
-        code: 0,
-        network: result,
-        collapses,
-    }
+    ended(result, collapses)
 }

@@ -1,6 +1,5 @@
 -- The readers' first refusal, or the record with u folded into its readers. Assumes nothing.
-use borrow.Author.Needs.{needs}
-use mathlib.Core.Path.{_≡_, sym, ap, _∙_}
+use mathlib.Core.Path.{sym, _∙_}
 use Rattle.integers.specs.Tests.{T-is}
 use Rattle.network.specs.Record.{soundRecord}
 use Rattle.network.specs.RecordLaws.{gate-number}

@@ -30,8 +30,11 @@ under : (c : tie.In-loop Inv-loop μ-loop) → c .before .loop .g < 128
 under c = omega (arith, number (c .before .before))
 
 loop-holds : tie.Need-loop-holds Inv-loop μ-loop
-loop-holds c = (omega arith, part-none (c .args .network) (c .args .u) (c .args .t3) (c .pre .0) (c .pre .1)
-    (record { fanins = search needs; signals = search needs; weights = search needs; thresholds = search needs; drivers = search needs }))
+loop-holds c = (
+  omega arith,
+  part-none (c .args .network) (c .args .u) (c .args .t3) (c .pre .0) (c .pre .1)
+      (record { fanins = search needs; signals = search needs; weights = search needs; thresholds = search needs; drivers = search needs }),
+)
 
 element-copy-out-k : tie.Need-element-copy-out-k Inv-loop μ-loop
 element-copy-out-k c = under c

@@ -1,12 +1,11 @@
 -- A gate that does not read u has no pair; a reader's is what the pair search gives. Assumes nothing.
-use borrow.Author.Needs.{needs}
 use borrow.Author.Tests.{not-true, not-false}
 use mathlib.Core.Path.{_≡_, sym, ap, _∙_}
-use mathlib.Core.Bool.{true, false}
+use mathlib.Core.Bool.{true}
 use native.Mathlib.Omega.{arith}
 use denote.Ref.{now}
 use Rattle.network.specs.Record.{gateFrom}
-use Rattle.folding.specs.Merge.{silent, reads}
+use Rattle.folding.specs.Merge.{reads}
 use Rattle.folding.specs.Pair.{pairOf}
 use Rattle.collapse.specs.Answers.{asPair}
 use Rattle.collapse.specs.Fusing.{edgeTo}

@@ -1,5 +1,4 @@
 -- The pairs of the gates passed so far stand in the arrays; the first refused one is the answer. Assumes nothing.
-use borrow.Author.Needs.{needs}
 use mathlib.Core.Path.{_≡_, refl}
 use Prim.Native.Nat.{ℕ, _-_, _≤_}
 use native.Mathlib.Omega.{arith}

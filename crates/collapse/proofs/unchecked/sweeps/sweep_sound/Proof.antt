@@ -1,7 +1,8 @@
 -- After each collapse the sweep of the record that is reached is the whole sweep. Assumes nothing.
 use borrow.Author.Needs.{needs}
 use borrow.Author.Tests.{not-true, not-false}
-use Prim.Native.Nat.{_-_, _≤_}
+use mathlib.Core.Path.{_∙_}
+use Prim.Native.Nat.{_-_}
 use native.Mathlib.Omega.{arith}
 use Rattle.network.specs.RecordLaws.{gate-number}
 use Rattle.network.specs.SoundLaws.{sized-of}
@@ -23,8 +24,11 @@ loop-holds c = reached-none (c .args .network) (c .args .b) _ (c .pre)
 lowest-foldable-requires : tie.Need-lowest-foldable-requires Inv-loop μ-loop
 lowest-foldable-requires c κs = c .before .before .loop .inv .whole
 
+ended-requires : tie.Need-ended-requires Inv-loop μ-loop
+ended-requires c κs = search needs
+
 returns : tie.Need-returns Inv-loop μ-loop
-returns c = reached-settled (c .before .before .before .before .loop .inv) (c .before .lowest-foldable .ensures .none (not-true _ (c .if1 .taken)))
+returns c = c .ended .ensures ∙ reached-settled (c .before .before .before .before .before .loop .inv) (c .before .before .lowest-foldable .ensures .none (not-true _ (c .before .if1 .taken)))
 
 -- past the test there is a gate to fold
 next : (c : tie.Else1 Inv-loop μ-loop) → let x = c .before .lowest-foldable .result in NextFold (c .before .before .before .before .loop .result) (c .before .before .before .before .before .args .b) (x .u) (x .pairs)
@@ -51,8 +55,11 @@ loop-again c =
     let turn = else .before .before .before in
     reached-more (turn .before .loop .inv) _ _ _ (turn .loop-test .taken) (next else) (c .before .before .fold-into-readers .ensures)
 
+ended-requires-2 : tie.Need-ended-requires-2 Inv-loop μ-loop
+ended-requires-2 c κs = search needs
+
 returns-2 : tie.Need-returns-2 Inv-loop μ-loop
-returns-2 c = reached-last (c .before .loop .inv) (c .loop-test .left)
+returns-2 c = c .ended2 .ensures ∙ reached-last (c .before .before .loop .inv) (c .before .loop-test .left)
 
 pub sweep-sound-spec : {M : Type 1} → statement M
 sweep-sound-spec =
@@ -62,6 +69,7 @@ sweep-sound-spec =
     μ-loop
     loop-holds
     lowest-foldable-requires
+    ended-requires
     returns
     fold-into-readers-requires
     sub-lower-hints
@@ -69,4 +77,5 @@ sweep-sound-spec =
     add-collapses
     loop-less
     loop-again
+    ended-requires-2
     returns-2)
