@@ -1,1 +1,5 @@
 pub mod ReaderLaws
+pub mod PairingLaws
+pub mod PartLaws
+pub mod CallLaws
+pub mod TurnLaws

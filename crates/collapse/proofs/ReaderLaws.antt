@@ -1,5 +1,5 @@
 -- Laws of the readers of a signal: what is left to look at after each place and each gate. Assumes nothing.
-use mathlib.Core.Path.{_≡_, refl, ap}
+use mathlib.Core.Path.{_≡_, ap}
 use mathlib.Core.Bool.{Bool, true, false, not, cond}
 use mathlib.Core.List.{List, _∷_, map, map-map}
 use Prim.Native.Nat.{ℕ, _+_, _*_, _-_, _≤_, _<_}
@@ -34,11 +34,6 @@ module _ (xs : List ℕ) (p e s : ℕ) where
 pub reads-places : (fs : List ℕ) (ts : List ℤ) (ss : List ℕ) (ws : List ℤ) (g s : ℕ) → reads s (gateFrom fs ts ss ws g) ≡ occurs ss (16 * g) (getD fs g 0) s
 unfolding reads silent gateFrom feedsFrom signalsOf feedAt occurs
 reads-places fs ts ss ws g s = ap (λ (l : List ℕ). not (all (other s) l)) (map-map (λ (f : Feed). f .signal) (feedAt ss ws) (range (16 * g) (getD fs g 0)))
-
--- a bool as a number
-pub byte-below : (b : Bool) → boolByte b ≤ 1
-byte-below true = omega arith
-byte-below false = omega arith
 
 -- ---- what is kept of a table, from its member a to the end e
 module _ {A : Type 0} (p : A → Bool) (f : ℕ → A) (a e : ℕ) where

@@ -1,13 +1,12 @@
 -- The lent arrays of a sound record: what each gate in them has. Assumes nothing.
-use mathlib.Core.Path.{_≡_, subst}
+use mathlib.Core.Path.{subst}
 use mathlib.Core.List.{List}
-use Prim.Native.Nat.{ℕ, _+_, _*_, _-_, _≤_, _<_}
+use Prim.Native.Nat.{ℕ, _+_, _*_, _<_}
 use native.Mathlib.Omega.{arith}
 use lib.Dec.{T}
 use lib.IntN.{ℤ}
-use lib.ListN.{length, getD}
+use lib.ListN.{getD}
 use Rattle.integers.specs.ListLaws.{length-tab, getD-tab}
-use Rattle.network.specs.Threshold.{Gate}
 use Rattle.network.specs.LimitLaws.{GateOk, gates-at}
 use Rattle.network.specs.Record.{gateFrom, netOf, noGate, soundRecord}
 use Rattle.network.specs.PlaceLaws.{length-feeds}

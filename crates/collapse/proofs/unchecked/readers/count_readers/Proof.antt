@@ -10,9 +10,10 @@ use lib.IntN.{ℤ}
 use lib.ListN.{length}
 use Rattle.integers.specs.Lists.{keep, range}
 use Rattle.network.specs.Record.{gateFrom}
+use Rattle.network.proofs.OutputLaws.{byte-below}
 use Rattle.folding.specs.Merge.{reads}
 use Rattle.collapse.specs.Lent.{gatesIn}
-use Rattle.collapse.proofs.ReaderLaws.{kept-step, kept-end, byte-below}
+use Rattle.collapse.proofs.ReaderLaws.{kept-step, kept-end}
 use Rattle.collapse.proofs.unchecked.readers.count_readers.Statement.{statement}
 use Rattle.collapse.proofs.unchecked.readers.count_readers.Tie as tie
 

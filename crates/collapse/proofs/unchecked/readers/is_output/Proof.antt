@@ -1,7 +1,7 @@
 -- The answer from each place on is the whole answer. Assumes nothing.
 use borrow.Author.Needs.{needs}
 use mathlib.Core.Path.{_≡_, sym, _∙_}
-use Prim.Native.Nat.{_+_, _-_, _≤_}
+use Prim.Native.Nat.{_-_, _≤_}
 use native.Mathlib.Omega.{arith}
 use Rattle.collapse.specs.Readers.{occurs}
 use Rattle.collapse.proofs.ReaderLaws.{occurs-here, occurs-next, occurs-end}

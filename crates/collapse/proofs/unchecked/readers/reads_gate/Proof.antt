@@ -1,6 +1,6 @@
 -- A gate reads a signal that stands among the places of its feeds. Assumes nothing.
 use borrow.Author.Needs.{needs}
-use mathlib.Core.Path.{_≡_, sym, _∙_}
+use mathlib.Core.Path.{sym, _∙_}
 use Rattle.collapse.proofs.ReaderLaws.{reads-places}
 use Rattle.collapse.proofs.unchecked.readers.reads_gate.Statement.{statement}
 use Rattle.collapse.proofs.unchecked.readers.reads_gate.Tie as tie

@@ -1,0 +1,239 @@
+-- Laws of gates folded into their readers: what the pair of each gate says of all of them. Assumes nothing.
+use mathlib.Core.Path.{_≡_, refl, sym, ap, _∙_, subst}
+use mathlib.Core.Bool.{Bool, true, false, cond}
+use mathlib.Core.List.{List, [], _∷_, map}
+use mathlib.Core.Logic.{_≢_}
+use Prim.Native.Nat.{ℕ, zero, suc, _+_, _-_, _≤_, _<_}
+use native.Mathlib.Decide.{decLt}
+use native.Mathlib.Omega.{arith}
+use borrow.Author.Tests.{eq-eqb, ne-eqb}
+use lib.Dec.{T, not-T, leb→le}
+use Rattle.integers.specs.Lists.{range, tab}
+use Rattle.integers.specs.Tests.{is-true, T-isnt, not-not, cond-case}
+use Rattle.integers.specs.Refusals.{Answer, accepted, refused, checks, bind}
+use Rattle.integers.specs.RefusalLaws.{accepted≢refused, accepted-inj}
+use Rattle.network.specs.Threshold.{Gate}
+use Rattle.network.specs.LimitLaws.{GateOk}
+use Rattle.network.specs.Record.{gateOf, netOf}
+use Rattle.network.specs.Changes.{gateAt, without}
+use Rattle.network.specs.Places.{SoundGate}
+use Rattle.network.specs.RecordLaws.{gate-within, gate-number}
+use Rattle.network.specs.declared.Network.{Network}
+use Rattle.folding.specs.Merge.{Edge, silent, reads, merged, withGrain, narrow}
+use Rattle.folding.specs.Pair.{Pair, pairs, qualifies, first, pairOf}
+use Rattle.folding.specs.Collapse.{fuse, fuseAll, withGates}
+use Rattle.folding.specs.RefusalMore.{Refused}
+use Rattle.folding.specs.SoundLaws.{merged-ok, reader-above}
+use Rattle.folding.specs.PairLaws.{qualified-of, dial-of, pairOf-found}
+use Rattle.collapse.specs.Answers.{asPair}
+use Rattle.collapse.specs.Fusing.{folded, edgeTo, readerPair, fused, fusion, pairAt, AllPairs, fusedGates, foldedBy}
+use Rattle.collapse.specs.declared.PairFound.{PairFound}
+use Rattle.collapse.specs.declared.Pairs.{Pairs}
+
+-- ---- refusals that go on
+refused-bind : {A B : Type 0} (r : Answer A) (f : A → Answer B) → Refused r → Refused (bind r f)
+unfolding bind
+refused-bind (accepted a) f h = absurd h
+refused-bind (refused c) f h = tt
+
+each-refused : {A B : Type 0} (r : Answer A) (f : A → Answer B) → ((a : A) → Refused (f a)) → Refused (bind r f)
+unfolding bind
+each-refused (accepted a) f h = h a
+each-refused (refused c) f h = tt
+
+-- ---- the number of a refusal
+
+-- it is not 0
+abbrev pub Numbered : {A : Type 0} → Answer A → Type 0
+Numbered (accepted a) = Unit {0}
+Numbered (refused c) = c ≢ 0
+
+first-numbered : {A : Type 0} (p : A → Bool) (xs : List A) (c : ℕ) → c ≢ 0 → Numbered (first p xs c)
+unfolding first
+first-numbered p [] c h = h
+first-numbered p (x ∷ xs) c h = cond-case Numbered (p x) {x = accepted x} {y = first p xs c} (λ t. tt) (λ t. first-numbered p xs c h)
+
+pairOf-numbered : (e : Edge) → Numbered (pairOf e)
+unfolding pairOf checks
+pairOf-numbered e = cond-case Numbered (withGrain e) {x = cond (narrow e) (first (qualifies e) pairs 16) (refused 7)} {y = refused 13}
+    (λ t. cond-case Numbered (narrow e) {x = first (qualifies e) pairs 16} {y = refused 7} (λ s. first-numbered (qualifies e) pairs 16 (omega arith)) (λ s. omega arith))
+    (λ t. omega arith)
+
+pub readerPair-numbered : (e : Edge) → Numbered (readerPair e)
+unfolding readerPair
+readerPair-numbered e = cond-case Numbered (silent (e .u) (e .gateV)) {x = accepted (record { k = 0; l = 0 })} {y = pairOf e} (λ t. tt) (λ t. pairOf-numbered e)
+
+-- a pair's answer as a call gives it, by its code
+pub asPair-accepted : (a : Answer Pair) (x : PairFound) → x ≡ asPair a → Numbered a → x .code ≡ 0 → a ≡ accepted (record { k = x .k; l = x .l })
+unfolding asPair
+asPair-accepted (accepted p) x e n z = ap (λ (y : PairFound). accepted (record { k = y .k; l = y .l })) (sym e)
+asPair-accepted (refused c) x e n z = absurd (n (ap (λ (y : PairFound). y .code) (sym e) ∙ z))
+
+pub asPair-refused : (a : Answer Pair) (x : PairFound) → x ≡ asPair a → x .code ≢ 0 → a ≡ refused (x .code)
+unfolding asPair
+asPair-refused (accepted p) x e h = absurd (h (ap (λ (y : PairFound). y .code) e))
+asPair-refused (refused c) x e h = ap (λ (y : PairFound). refused (y .code)) (sym e)
+
+-- ---- the pair of one gate
+
+-- no pair
+abbrev none : Pair
+none = record { k = 0; l = 0 }
+
+-- a gate does not read its own signal
+pub own-silent : (u : ℕ) (g : Gate) → GateOk u g → silent u g ≡ true
+unfolding reads
+own-silent u g h = is-true (silent u g) (not-not (silent u g) (not-T (reads u g) λ t. let l = reader-above u u g h t in omega arith))
+
+module _ (e : Edge) where
+  -- a gate that does not read u, and a reader
+  pub pair-silent : silent (e .u) (e .gateV) ≡ true → readerPair e ≡ accepted none
+  unfolding readerPair
+  pair-silent t = rw t
+
+  pub pair-reader : silent (e .u) (e .gateV) ≡ false → readerPair e ≡ pairOf e
+  unfolding readerPair
+  pair-reader t = rw t
+
+  -- where its pair is k and l, u is merged into the gate
+  pub record Merges (p : Pair) : Type 0 where
+    pub reader : T (reads (e .u) (e .gateV))
+    pub few : T (narrow e)
+    pub qualified : T (qualifies e p)
+    pub dials : (1 ≤ p .k) × (p .k ≤ 32) × (1 ≤ p .l) × (p .l ≤ 32)
+
+  module _ (p : Pair) (h : readerPair e ≡ accepted p) where
+    -- the two cases of an accepted pair
+    pair-case : {X : Type 0} → (silent (e .u) (e .gateV) ≡ true → p ≡ none → X) → (silent (e .u) (e .gateV) ≡ false → pairOf e ≡ accepted p → Merges p → X) → X
+    unfolding reads
+    pair-case {X} f g = elim (silent (e .u) (e .gateV)) as (λ b. silent (e .u) (e .gateV) ≡ b → X) [
+      | true ↦ λ t. f t (accepted-inj (sym h ∙ pair-silent t))
+      | false ↦ λ t. let q : pairOf e ≡ accepted p = sym (pair-reader t) ∙ h in
+          let found = pairOf-found e p q in
+          let d = qualified-of e p (found .best .qualified) in
+          let k = dial-of (p .k) (d .k-dial) in
+          let l = dial-of (p .l) (d .l-dial) in
+          g t q (record { reader = T-isnt _ t; few = found .passed .1 .0; qualified = found .best .qualified; dials = (k .0, k .1, l .0, l .1) })
+    ] refl
+
+    pub pair-small : (p .k ≤ 32) × (p .l ≤ 32)
+    pair-small = pair-case (λ t q. rw q (omega arith)) (λ t q m. (m .dials .1, m .dials .3))
+
+    pub pair-merges : p .k ≢ 0 → Merges p
+    pair-merges n = pair-case (λ t q. absurd (n (ap (λ (x : Pair). x .k) q))) (λ t q m. m)
+
+    -- a gate whose k is 0 stays as it is, and so does one that does not read u
+    pub fused-zero : p .k ≡ 0 → fused e p ≡ e .gateV
+    unfolding fused
+    fused-zero z = rw (eq-eqb (p .k) 0 z)
+
+    pub fused-merged : p .k ≢ 0 → fused e p ≡ merged e (p .k) (p .l)
+    unfolding fused
+    fused-merged n = rw (ne-eqb (p .k) 0 n)
+
+    pub fused-silent : silent (e .u) (e .gateV) ≡ true → fused e p ≡ e .gateV
+    fused-silent t = fused-zero (ap (λ (x : Pair). x .k) (accepted-inj (sym h ∙ pair-silent t)))
+
+    -- the gate with its pair is what becomes of it
+    pub fuse-pair : fuse e ≡ accepted (fused e p)
+    unfolding fuse bind
+    fuse-pair = pair-case
+        (λ t q. rw t (ap accepted (sym (fused-silent t))))
+        (λ t q m. rw (t, q) (ap accepted (sym (fused-merged (λ z. omega (arith, m .dials))))))
+
+    -- it is within the limits
+    pub fused-ok : GateOk (e .v) (e .gateV) → GateOk (e .v) (fused e p)
+    unfolding narrow
+    fused-ok ok = pair-case
+        (λ t q. subst (GateOk (e .v)) (sym (fused-silent t)) ok)
+        (λ t q m. subst (GateOk (e .v)) (sym (fused-merged (λ z. omega (arith, m .dials))))
+        (merged-ok e (p .k) (p .l) (leb→le _ 16 (m .few)) (qualified-of e p (m .qualified) .scaled)))
+
+  -- a reader whose pair is refused
+  pub fuse-refused : (c : ℕ) → readerPair e ≡ refused c → fuse e ≡ refused c
+  unfolding readerPair fuse bind
+  fuse-refused c h = elim (silent (e .u) (e .gateV)) as (λ b. cond b (accepted none) (pairOf e) ≡ refused c → cond b (accepted (e .gateV)) (bind (pairOf e) (λ p. accepted (merged e (p .k) (p .l)))) ≡ refused c) [
+    | true ↦ λ q. accepted≢refused q
+    | false ↦ λ q. rw q
+  ] h
+
+-- ---- all gates: those with numbers from a on, n of them
+module _ (u : ℕ) (gateU : Gate) (inputs : ℕ) (gate : ℕ → Gate) where
+  abbrev at : ℕ → Edge
+  at g = record { u = u; v = inputs + g; gateU = gateU; gateV = gate g }
+
+  abbrev from : ℕ → ℕ → Answer (List Gate)
+  from a n = fuseAll u gateU (inputs + a) (map gate (range a n))
+
+  -- the first gate, and those after it
+  fuseAll-step : (a n : ℕ) → from a (suc n) ≡ bind (fuse (at a)) (λ h. bind (from (suc a) n) (λ hs. accepted (h ∷ hs)))
+  unfolding fuseAll range
+  fuseAll-step a n = rw (let e : inputs + suc a ≡ suc (inputs + a) = omega arith in e)
+
+  -- where every gate is accepted, all are
+  pub fuseAll-accepted : (h : ℕ → Gate) (a n : ℕ) → ((g : ℕ) → a ≤ g → g < a + n → fuse (at g) ≡ accepted (h g)) → from a n ≡ accepted (map h (range a n))
+  unfolding fuseAll range bind
+  fuseAll-accepted h a zero q = refl
+  fuseAll-accepted h a (suc n) q = fuseAll-step a n
+      ∙ rw (q a (omega arith) (omega arith), fuseAll-accepted h (suc a) n (λ g k l. q g (omega arith) (omega arith)))
+
+  -- the first refused gate is the answer
+  pub fuseAll-refused : (h : ℕ → Gate) (a n g c : ℕ) → a ≤ g → g < a + n → ((i : ℕ) → i < g → fuse (at i) ≡ accepted (h i)) → fuse (at g) ≡ refused c → from a n ≡ refused c
+  unfolding bind
+  fuseAll-refused h a zero g c k l q r = absurd (omega arith)
+  fuseAll-refused h a (suc n) g c k l q r = fuseAll-step a n ∙ (elim (decLt a g) as (λ d. bind (fuse (at a)) (λ h. bind (from (suc a) n) (λ hs. accepted (h ∷ hs))) ≡ refused c) [
+    | yes j ↦ rw (q a j, fuseAll-refused h (suc a) n g c j (omega arith) q r)
+    | no j ↦ let e : a ≡ g = omega arith in rw (e, r)
+  ])
+
+  -- any refused gate is a refusal
+  pub fuseAll-some : (a n g : ℕ) → a ≤ g → g < a + n → Refused (fuse (at g)) → Refused (from a n)
+  unfolding bind
+  fuseAll-some a zero g k l r = absurd (omega arith)
+  fuseAll-some a (suc n) g k l r = subst Refused (sym (fuseAll-step a n)) (elim (decLt a g) as (λ d. Refused (bind (fuse (at a)) (λ h. bind (from (suc a) n) (λ hs. accepted (h ∷ hs))))) [
+    | yes j ↦ each-refused (fuse (at a)) (λ h. bind (from (suc a) n) (λ hs. accepted (h ∷ hs))) (λ h. refused-bind (from (suc a) n) (λ hs. accepted (h ∷ hs)) (fuseAll-some (suc a) n g j (omega arith) r))
+    | no j ↦ let e : a ≡ g = omega arith in refused-bind (fuse (at a)) (λ h. bind (from (suc a) n) (λ hs. accepted (h ∷ hs))) (rw e r)
+  ])
+
+-- ---- all gates by their pairs
+module _ (gate : ℕ → Gate) (inputs gates u : ℕ) where
+  -- the answer from the first gate on
+  abbrev all-from : Answer (List Gate)
+  all-from = from u (gate (u - inputs)) inputs gate 0 gates
+
+  from-first : all-from ≡ fusion gate inputs gates u
+  from-first = ap (λ (n : ℕ). fuseAll u (gate (u - inputs)) n (tab gates gate)) (let e : inputs + 0 ≡ inputs = omega arith in e)
+
+  -- where every gate has its pair, all are accepted
+  pub fusion-pairs : (p : Pairs) → AllPairs gate inputs gates u p → fusion gate inputs gates u ≡ accepted (fusedGates gate inputs gates u p)
+  fusion-pairs p h = sym from-first ∙ fuseAll-accepted u (gate (u - inputs)) inputs gate (λ g. fused (edgeTo gate inputs u g) (pairAt p g)) 0 gates
+      λ g k l. fuse-pair (edgeTo gate inputs u g) (pairAt p g) (h .each g (omega arith))
+
+  -- the first gate whose pair is refused is the answer
+  pub fusion-first : (q : ℕ → Pair) (g c : ℕ) → g < gates → ((i : ℕ) → i < g → readerPair (edgeTo gate inputs u i) ≡ accepted (q i)) → readerPair (edgeTo gate inputs u g) ≡ refused c
+      → fusion gate inputs gates u ≡ refused c
+  fusion-first q g c l h r = sym from-first ∙ fuseAll-refused u (gate (u - inputs)) inputs gate (λ i. fused (edgeTo gate inputs u i) (q i)) 0 gates g c (omega arith) (omega arith)
+      (λ i k. fuse-pair (edgeTo gate inputs u i) (q i) (h i k)) (fuse-refused (edgeTo gate inputs u g) c r)
+
+  -- any gate whose pair is refused is a refusal
+  pub fusion-some : (g c : ℕ) → g < gates → readerPair (edgeTo gate inputs u g) ≡ refused c → Refused (fusion gate inputs gates u)
+  fusion-some g c l r = subst Refused from-first (fuseAll-some u (gate (u - inputs)) inputs gate 0 gates g (omega arith) (omega arith) (subst Refused (sym (fuse-refused (edgeTo gate inputs u g) c r)) tt))
+
+-- ---- a record's gate folded into its readers
+module _ (r : Network) (u : ℕ) (s : SoundGate r u) where
+  -- the collapse, by the gates' numbers
+  folded-fusion : folded (netOf r) u ≡ bind (fusion (gateOf r) (r .inputs) (r .gates) u) (λ gs. accepted (without (withGates (netOf r) gs) u))
+  unfolding folded gateAt netOf
+  folded-fusion = ap (λ (g : Gate). bind (fuseAll u g (r .inputs) (tab (r .gates) (gateOf r))) (λ gs. accepted (without (withGates (netOf r) gs) u)))
+      (gate-within r (u - r .inputs) (gate-number r u s .1))
+
+  pub folded-pairs : (p : Pairs) → AllPairs (gateOf r) (r .inputs) (r .gates) u p → folded (netOf r) u ≡ accepted (foldedBy r u p)
+  unfolding bind foldedBy
+  folded-pairs p h = folded-fusion ∙ rw (fusion-pairs (gateOf r) (r .inputs) (r .gates) u p h)
+
+  pub folded-first : (c : ℕ) → fusion (gateOf r) (r .inputs) (r .gates) u ≡ refused c → folded (netOf r) u ≡ refused c
+  unfolding bind
+  folded-first c h = folded-fusion ∙ rw h
+
+  pub folded-some : Refused (fusion (gateOf r) (r .inputs) (r .gates) u) → Refused (folded (netOf r) u)
+  folded-some h = subst Refused (sym folded-fusion) (refused-bind (fusion (gateOf r) (r .inputs) (r .gates) u) (λ gs. accepted (without (withGates (netOf r) gs) u)) h)

@@ -1,0 +1,74 @@
+-- What becomes of each gate when gate u is folded into its readers, by the pairs that were found for them. The gates are given by
+-- their numbers: gate g has signal inputs + g. Nothing is proved here.
+use mathlib.Core.Path.{_≡_}
+use mathlib.Core.Bool.{cond}
+use mathlib.Core.List.{List}
+use mathlib.Core.Logic.{_≢_}
+use Prim.Native.Nat.{ℕ, _+_, _-_, _<_}
+use lib.Dec.{eqb}
+use lib.ListN.{getD}
+use Rattle.integers.specs.Lists.{tab}
+use Rattle.integers.specs.Refusals.{Answer, accepted, refused, bind}
+use Rattle.network.specs.Threshold.{Gate, Net}
+use Rattle.network.specs.Record.{gateOf, netOf}
+use Rattle.network.specs.Changes.{gateAt, without}
+use Rattle.network.specs.declared.Network.{Network}
+use Rattle.folding.specs.Merge.{Edge, silent, merged}
+use Rattle.folding.specs.Pair.{Pair, pairOf}
+use Rattle.folding.specs.Collapse.{fuseAll, withGates}
+use Rattle.folding.specs.RefusalMore.{Refused}
+use Rattle.collapse.specs.declared.Pairs.{Pairs}
+
+-- a collapse of u, once 20, 11 and 17 do not apply
+unfoldable pub folded : Net → ℕ → Answer Net
+folded N u = bind (fuseAll u (gateAt N u) (N .inputs) (N .gates)) (λ gs. accepted (without (withGates N gs) u))
+
+-- ---- one gate
+
+-- gates u and g, g by its number, as an edge
+abbrev pub edgeTo : (ℕ → Gate) → ℕ → ℕ → ℕ → Edge
+edgeTo gate inputs u g = record { u = u; v = inputs + g; gateU = gate (u - inputs); gateV = gate g }
+
+-- the pair of a reader of u; 0 and 0 for a gate that does not read u
+unfoldable pub readerPair : Edge → Answer Pair
+readerPair e = cond (silent (e .u) (e .gateV)) (accepted (record { k = 0; l = 0 })) (pairOf e)
+
+-- the gate with its pair: merged, or as it was where the pair is 0 and 0
+unfoldable pub fused : Edge → Pair → Gate
+fused e p = cond (eqb (p .k) 0) (e .gateV) (merged e (p .k) (p .l))
+
+-- ---- all gates
+
+-- what becomes of the gates, or the first refusal
+abbrev pub fusion : (ℕ → Gate) → ℕ → ℕ → ℕ → Answer (List Gate)
+fusion gate inputs gates u = fuseAll u (gate (u - inputs)) inputs (tab gates gate)
+
+-- the pair that was found for gate g
+abbrev pub pairAt : Pairs → ℕ → Pair
+pairAt p g = record { k = getD (p .ks) g 0; l = getD (p .ls) g 0 }
+
+-- p has the pair of every gate
+pub record AllPairs (gate : ℕ → Gate) (inputs gates u : ℕ) (p : Pairs) : Type 0 where
+  pub each : (g : ℕ) → g < gates → readerPair (edgeTo gate inputs u g) ≡ accepted (pairAt p g)
+
+-- p has the pair of every gate, or else the first refusal
+pub record ReaderPairs (gate : ℕ → Gate) (inputs gates u : ℕ) (p : Pairs) : Type 0 where
+  pub found : p .code ≡ 0 → AllPairs gate inputs gates u p
+  pub none : p .code ≢ 0 → fusion gate inputs gates u ≡ refused (p .code)
+  pub within : p .last < 128
+
+-- p has the pair of every gate, or else there is a refusal
+pub record TriedPairs (gate : ℕ → Gate) (inputs gates u : ℕ) (p : Pairs) : Type 0 where
+  pub found : p .code ≡ 0 → AllPairs gate inputs gates u p
+  pub none : p .code ≢ 0 → Refused (fusion gate inputs gates u)
+  pub within : p .last < 128
+
+-- ---- a record
+
+-- the gates with their pairs
+abbrev pub fusedGates : (ℕ → Gate) → ℕ → ℕ → ℕ → Pairs → List Gate
+fusedGates gate inputs gates u p = tab gates (λ g. fused (edgeTo gate inputs u g) (pairAt p g))
+
+-- the network of a record, with gate u folded into its readers by their pairs
+unfoldable pub foldedBy : Network → ℕ → Pairs → Net
+foldedBy r u p = without (withGates (netOf r) (fusedGates (gateOf r) (r .inputs) (r .gates) u p)) u
