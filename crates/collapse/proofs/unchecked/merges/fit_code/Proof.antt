@@ -55,13 +55,19 @@ agreed c =
     let a = t .before .before .before .args in
     c .agrees-everywhere .ensures ∙ ap (λ (g : Levels). agreesAll (alignedBy (a .a .us) (a .a .vs) (a .a .count) g) (a .k) (a .l)) (t .levels-of .ensures)
 
+differs : (c : tie.Then2) → let a = c .before .before .before .before .before .before .before .before .before .before .before .args in agreesAll (alignedIn (a .a)) (a .k) (a .l) ≡ false
+differs c = sym (agreed (c .before)) ∙ not-true _ (c .if2 .taken)
+
+alike : (c : tie.Else2) → let a = c .before .before .before .before .before .before .before .before .before .before .before .args in agreesAll (alignedIn (a .a)) (a .k) (a .l) ≡ true
+alike c = sym (agreed (c .before)) ∙ not-false _ (c .if2 .left)
+
 returns-2 : tie.Need-returns-2
 unfolding codeOf fitTests
-returns-2 c = rw (on (c .before .before .before .before), sym (agreed (c .before)) ∙ not-true _ (c .if2 .taken))
+returns-2 c = rw (on (c .before .before .before .before), differs c)
 
 returns-3 : tie.Need-returns-3
 unfolding codeOf fitTests
-returns-3 c = rw (on (c .before .before .before .before), sym (agreed (c .before)) ∙ not-false _ (c .if2 .left))
+returns-3 c = rw (on (c .before .before .before .before), alike c)
 
 pub fit-code-spec : {M : Type 1} → statement M
 fit-code-spec =
