@@ -11,15 +11,6 @@ use lib.Pow.{pow-pos}
 use lib.ListN.{length, getD}
 use Rattle.network.specs.Threshold.{frame, fitsFrame, digit, wordOf}
 
-pub word-below : (bs : List Bool) → wordOf bs < 2 ^ length bs
-unfolding wordOf
-word-below [] = omega arith
-word-below (b ∷ bs) = rw (pow-succ' 2 (length bs)) (more b (word-below bs))
-  where
-    more : (b : Bool) → wordOf bs < 2 ^ length bs → digit b + 2 * wordOf bs < 2 * 2 ^ length bs
-    more true h = omega arith
-    more false h = omega arith
-
 first-bit : (b : Bool) (w : ℕ) → eqb ((digit b + 2 * w) / 2 ^ 0 % 2) 1 ≡ b
 first-bit true w = rw (let e : (1 + 2 * w) / 2 ^ 0 % 2 ≡ 1 = omega arith in e)
 first-bit false w = rw (let e : (0 + 2 * w) / 2 ^ 0 % 2 ≡ 0 = omega arith in e)

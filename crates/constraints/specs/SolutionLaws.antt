@@ -22,7 +22,8 @@ use Rattle.constraints.specs.Demand.{HasSolution, Differ, Decides, secon
 use Rattle.constraints.specs.Stretches.{secondOf, firstLines, secondLines, pairLines, lastOf}
 use Rattle.constraints.specs.ListMore.{each-append, append-left, append-right}
 use Rattle.constraints.specs.LineLaws.{second-input, second-gate, question-is}
-use Rattle.constraints.specs.FrameLaws.{word-below, frame-word}
+use Rattle.constraints.specs.FrameLaws.{frame-word}
+use Rattle.network.specs.WordLaws.{word-below}
 use Rattle.constraints.specs.SolutionLawsGates.{lines-fit}
 use Rattle.constraints.specs.SolutionLawsOutputs.{outputs-apart, last-some}
 

@@ -11,7 +11,6 @@ pub mod LowerLaws
 pub mod AgreeLaws
 pub mod SoundLaws
 pub mod PairLaws
-pub mod SearchLaws
 pub mod StepLaws
 pub mod CollapseLaws
 pub mod SweepLaws
