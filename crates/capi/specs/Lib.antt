@@ -1,2 +1,4 @@
 pub mod Exports
 pub mod Runs
+pub mod Places
+pub mod ExportLaws

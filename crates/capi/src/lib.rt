@@ -1,2 +1,102 @@
 // The folder for C and Rust: each function takes a PMN file and numbers, and answers 0 or the refusal. include/pmn.h has the
 // declarations; a slice is a pointer and then a length.
+ghost use mathlib.Core.Path.{_≡_};
+ghost use Rattle.capi.specs.Exports.{readNet, codeOf, stored, lengthOf, framePlaces, reportPlaces, fileOut, partOut};
+
+// The network of a file is read, and nothing more.
+#[no_mangle]
+pub extern "C" fn pmn_check(file: &[u8]) -> u8
+    ensures { λ r. ⌜ r ≡ codeOf (readNet (now (file .entry))) ⌝ }
+{
+    let loaded = pmn::read(file);
+    loaded.code
+}
+
+// A frame is read: the output bits go into place 0 of the answer, the number of ones into place 1.
+#[no_mangle]
+pub extern "C" fn pmn_frame(file: &[u8], frame: u64, answer: &mut [u64]) -> u8
+    ensures { λ r. ⌜ r ≡ codeOf (framePlaces (now (file .entry)) frame (now (answer .entry))) ⌝ }
+    ensures { λ _. ⌜ now (answer .exit) ≡ stored (framePlaces (now (file .entry)) frame (now (answer .entry))) (now (answer .entry)) ⌝ }
+{
+    let loaded = pmn::read(file);
+    let code = loaded.code;
+    if code != 0 {
+        return code;
+    }
+    if answer.len() < 2 {
+        return 18;
+    }
+    let reading = network::read_frame(loaded.network, frame);
+    unchecked::put_two(answer, reading.code, reading.bits, reading.ones as u64)
+}
+
+// The size of the network: gates, cost and levels go into the first three places of the answer.
+#[no_mangle]
+pub extern "C" fn pmn_report(file: &[u8], answer: &mut [u64]) -> u8
+    ensures { λ r. ⌜ r ≡ codeOf (reportPlaces (now (file .entry)) (now (answer .entry))) ⌝ }
+    ensures { λ _. ⌜ now (answer .exit) ≡ stored (reportPlaces (now (file .entry)) (now (answer .entry))) (now (answer .entry)) ⌝ }
+{
+    let loaded = pmn::read(file);
+    let code = loaded.code;
+    if code != 0 {
+        return code;
+    }
+    if answer.len() < 3 {
+        return 18;
+    }
+    let size = report::report(loaded.network);
+    unchecked::put_three(
+        answer,
+        size.code,
+        size.gates as u64,
+        size.cost,
+        size.levels as u64,
+    )
+}
+
+// The file is written anew into `out`, and its length goes into place 0 of the answer.
+#[no_mangle]
+pub extern "C" fn pmn_write(file: &[u8], out: &mut [u8], answer: &mut [u64]) -> u8
+    ensures { λ r. ⌜ r ≡ codeOf (fileOut (now (file .entry)) (now (out .entry)) (now (answer .entry))) ⌝ }
+    ensures { λ _. ⌜ now (out .exit) ≡ stored (fileOut (now (file .entry)) (now (out .entry)) (now (answer .entry))) (now (out .entry)) ⌝ }
+    ensures { λ _. ⌜ now (answer .exit) ≡ stored (lengthOf (fileOut (now (file .entry)) (now (out .entry)) (now (answer .entry)))) (now (answer .entry)) ⌝ }
+{
+    let loaded = pmn::read(file);
+    let code = loaded.code;
+    if code != 0 {
+        return code;
+    }
+    if answer.len() < 1 {
+        return 18;
+    }
+    let written = pmn::write(loaded.network, out);
+    unchecked::put_one(answer, written.code, written.length as u64)
+}
+
+// The bytes of the gate with a signal are copied into `out`, and their number goes into place 0 of the answer.
+#[no_mangle]
+pub extern "C" fn pmn_part(file: &[u8], signal: u64, out: &mut [u8], answer: &mut [u64]) -> u8
+    ensures { λ r. ⌜ r ≡ codeOf (partOut (now (file .entry)) signal (now (out .entry)) (now (answer .entry))) ⌝ }
+    ensures { λ _. ⌜ now (out .exit) ≡ stored (partOut (now (file .entry)) signal (now (out .entry)) (now (answer .entry))) (now (out .entry)) ⌝ }
+    ensures { λ _. ⌜ now (answer .exit) ≡ stored (lengthOf (partOut (now (file .entry)) signal (now (out .entry)) (now (answer .entry)))) (now (answer .entry)) ⌝ }
+{
+    let code = pmn_check(file);
+    if code != 0 {
+        return code;
+    }
+    if answer.len() < 1 {
+        return 18;
+    }
+    let part = pmn::gate_part(file, signal as usize);
+    let length = part.len();
+    if length == 0 {
+        return 11;
+    }
+    if out.len() < length {
+        return 18;
+    }
+    unchecked::copy(part, out);
+    unchecked::put_one(answer, 0, length as u64)
+}
+
+mod unchecked;
