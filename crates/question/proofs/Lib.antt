@@ -1,0 +1,4 @@
+pub mod PartWrites
+pub mod PutLaws
+pub mod SignLaws
+pub mod SumLaws
