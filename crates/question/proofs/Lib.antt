@@ -2,3 +2,4 @@ pub mod PartWrites
 pub mod PutLaws
 pub mod SignLaws
 pub mod SumLaws
+pub mod GateNumbers

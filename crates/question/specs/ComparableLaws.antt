@@ -16,7 +16,7 @@ use Rattle.network.specs.Places.{rowAt}
 use Rattle.network.specs.LimitLaws.{Sound, GateOk, gates-at}
 use Rattle.network.specs.PlaceLaws.{gateIn-gateRecord}
 use Rattle.network.specs.RecordLaws.{count-gates, count-outputs, gate-within, sound-net, row-gate}
-use Rattle.network.specs.SoundLaws.{Sized, sized-of}
+use Rattle.network.specs.SoundLaws.{sized-of}
 use Rattle.network.specs.declared.GateRecord.{GateRecord}
 use Rattle.network.specs.declared.Network.{Network}
 use Rattle.constraints.specs.Question.{firstDifference, question, variables}
@@ -59,11 +59,9 @@ unfolding alike netOf
 alike-is a b = sym (rw (count-outputs a, count-outputs b))
 
 module _ {a b : Network} (p : Comparable a b) where
-  pub first-sized : Sized a
-  first-sized = sized-of a (p .first-sound)
-
-  pub second-sized : Sized b
-  second-sized = sized-of b (p .second-sound)
+  -- the counts are small
+  pub small-counts : (a .inputs ≤ 40) × (a .gates ≤ 128) × (b .gates ≤ 128) × (a .outputs ≤ 16)
+  small-counts = let x = sized-of a (p .first-sound) in (x .few-inputs, x .few-gates, sized-of b (p .second-sound) .few-gates, x .few-outputs)
 
   pub same-inputs : a .inputs ≡ b .inputs
   same-inputs = eqb-true (a .inputs) (b .inputs) (and-left _ (eqb (a .outputs) (b .outputs)) (alike-is a b ∙ p .same-counts))

@@ -1,23 +1,25 @@
 -- The lines of a gate and of an output by their number, made from the records. Assumes nothing.
-use mathlib.Core.Path.{_≡_, refl, sym, ap, _∙_}
-use mathlib.Core.Bool.{Bool, true, false, cond}
-use Prim.Native.Nat.{ℕ, _+_, _*_, _/_, _%_, _<_}
+use mathlib.Core.Path.{_≡_, sym, ap, _∙_}
+use mathlib.Core.Bool.{true}
+use Prim.Native.Nat.{ℕ, _+_, _*_, _-_, _/_, _%_, _≤_, _<_}
 use native.Mathlib.Omega.{arith}
 use borrow.Author.Tests.{eq-eqb, ne-eqb}
-use lib.Dec.{eqb}
 use lib.IntN.{pos, negsuc}
-use lib.ListN.{length, getD}
-use Rattle.network.specs.Threshold.{Gate, Net}
+use lib.ListN.{getD}
+use Rattle.network.specs.Threshold.{Gate}
 use Rattle.network.specs.Record.{netOf, soundRecord, gateIn, nthGate}
 use Rattle.network.specs.Places.{rowAt}
-use Rattle.network.specs.RecordLaws.{count-gates, output-within}
+use Rattle.network.specs.RecordLaws.{count-gates, count-outputs, output-within}
 use Rattle.network.specs.declared.GateRecord.{GateRecord}
 use Rattle.network.specs.declared.Network.{Network}
-use Rattle.constraints.specs.Question.{Line, upper, lower, secondVariable, overGate, someLine, notBothLine, firstDifference}
+use Rattle.constraints.specs.Question.{Line, upper, lower, secondVariable, overGate, someLine, notBothLine, lastLine, firstDifference, question}
+use Rattle.constraints.specs.Text.{noLine}
 use Rattle.constraints.specs.Stretches.{secondOf}
-use Rattle.question.specs.Lines.{gateLine, threeTerms, outputLine, Comparable}
+use Rattle.constraints.specs.LineLaws.{last-line}
+use Rattle.question.specs.Lines.{gateLine, threeTerms, outputLine, Comparable, linesOf}
 use Rattle.question.specs.TermLaws.{some-is, notBoth-is}
-use Rattle.question.specs.ComparableLaws.{row-gate-is, same-outputs, difference-is}
+use Rattle.question.specs.StretchLaws.{first-stretch, second-stretch, output-stretch}
+use Rattle.question.specs.ComparableLaws.{row-gate-is, same-inputs, same-outputs, same-drivers, lines-are, difference-is}
 
 
 -- ---- a gate's lines
@@ -59,3 +61,28 @@ module _ {a b : Network} (pair : Comparable a b) (i : ℕ) (h : i < 2 * a .outpu
   pub odd-output : (i % 2 ≡ 0 → ⊥) → threeTerms p q d (negsuc 0) (negsuc 1) ≡ outputLine (netOf a) (netOf b) i
   unfolding outputLine
   odd-output z = notBoth-is p q d ∙ rw (ne-eqb (i % 2) 0 z) (parts notBothLine)
+
+-- ---- line i of the question, stretch by stretch
+module _ {a b : Network} (pair : Comparable a b) (i : ℕ) where
+  abbrev there : Line
+  there = getD (question (netOf a) (netOf b)) i noLine
+
+  -- the line at a number by another name of the number
+  renamed : {k : ℕ} → k ≡ i → getD (question (netOf a) (netOf b)) k noLine ≡ there
+  renamed e = ap (λ (k : ℕ). getD (question (netOf a) (netOf b)) k noLine) e
+
+  pub in-first : i < 2 * a .gates → gateLine (netOf a) 0 i ≡ there
+  in-first h = sym (first-stretch (netOf a) (netOf b) i (omega (arith, count-gates a)))
+
+  pub in-second : 2 * a .gates ≤ i → i < 2 * a .gates + 2 * b .gates → gateLine (netOf b) (a .gates) (i - 2 * a .gates) ≡ there
+  unfolding netOf
+  in-second k h = ap (λ (g : ℕ). gateLine (netOf b) g (i - 2 * a .gates)) (sym (count-gates a))
+      ∙ sym (second-stretch (netOf a) (netOf b) (same-inputs pair) (i - 2 * a .gates) (omega (arith, count-gates b))) ∙ renamed (omega (arith, count-gates a))
+
+  pub in-outputs : 2 * a .gates + 2 * b .gates ≤ i → i < 2 * a .gates + 2 * b .gates + 2 * a .outputs → outputLine (netOf a) (netOf b) (i - (2 * a .gates + 2 * b .gates)) ≡ there
+  in-outputs k h = sym (output-stretch (netOf a) (netOf b) (same-drivers pair) (i - (2 * a .gates + 2 * b .gates)) (omega (arith, count-outputs a)))
+      ∙ renamed (omega (arith, count-gates a, count-gates b))
+
+  pub at-last : 2 * a .gates + 2 * b .gates + 2 * a .outputs ≤ i → i < linesOf (netOf a) (netOf b) → lastLine (a .inputs + a .gates + b .gates) (a .outputs) ≡ there
+  at-last k h = ap (λ (d : ℕ). lastLine d (a .outputs)) (sym (difference-is pair)) ∙ ap (lastLine (firstDifference (netOf a) (netOf b))) (sym (count-outputs a))
+      ∙ sym (last-line (netOf a) (netOf b) (same-drivers pair)) ∙ renamed (omega (arith, count-gates a, count-gates b, count-outputs a, lines-are pair))

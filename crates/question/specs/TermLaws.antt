@@ -79,6 +79,15 @@ unfolding gateIn feedAt
 scaled-at gate s i h = rw (feeds-at (gate .signals) (gate .weights) 0 (gate .fanin) i h, let e : 0 + i ≡ i = omega arith in e)
     at (each-getD (λ f. natAbs (f .weight) ≤ 1000000) (gateIn gate .feeds) noFeed (s .sizes) i (omega (arith, length-feeds (gate .signals) (gate .weights) 0 (gate .fanin))))
 
+-- as many feeds as a gate counts, and as many terms
+pub feed-count : (gate : GateRecord) → length (gateIn gate .feeds) ≡ gate .fanin
+unfolding gateIn
+feed-count gate = length-feeds (gate .signals) (gate .weights) 0 (gate .fanin)
+
+pub term-count : (negative : Bool) (φ : ℕ → ℕ) (g : Gate) (z : ℤ) → length (feedTerms negative φ g z .terms) ≡ length (g .feeds)
+unfolding feedTerms
+term-count negative φ g z = length-map (g .feeds) (feedTerm negative φ)
+
 -- ---- M and m
 
 -- what a weight adds to M and to m

@@ -2,17 +2,14 @@
 // the answer is the part's length.
 use crate::unchecked::lines::LineRecord;
 use integers::magnitude;
-ghost use mathlib.Core.Path.{_≡_};
-ghost use mathlib.Core.Bool.{cond};
-ghost use mathlib.Core.List.{_∷_};
+ghost use mathlib.Core.List.{_++_};
 ghost use Prim.Native.Nat.{_+_, _≤_, _<_};
 ghost use lib.ListN.{length};
-ghost use lib.Signed.{nonNeg};
 ghost use Rattle.network.specs.Record.{feedsFrom};
 ghost use Rattle.constraints.specs.Question.{term};
-ghost use Rattle.constraints.specs.Text.{decimal, rightSide, termText, termsText, lineText, headerText};
+ghost use Rattle.constraints.specs.Text.{decimal, coefficient, rightSide, termText, termsText, lineText, headerText};
 ghost use Rattle.question.specs.Lines.{lineIn};
-ghost use Rattle.question.specs.Writes.{Put, Printable, PrintableLine};
+ghost use Rattle.question.specs.Writes.{Put, relationText, Printable, PrintableLine};
 
 // Bytes as they are.
 pub fn put_bytes(out: &mut [u8], bytes: &[u8]) -> usize
@@ -39,20 +36,37 @@ fn put_decimal(out: &mut [u8], n: usize) -> usize
     at + 1
 }
 
-// A byte, and the decimal digits of a number after it.
-fn put_marked(out: &mut [u8], mark: u8, n: usize) -> usize
-    requires { ⌜ length (mark ∷ decimal n) ≤ length (now out) ⌝ }
-    ensures { λ r. ⌜ Put (mark ∷ decimal n) r (now (out .entry)) (now (out .exit)) ⌝ }
+// A word, and the decimal digits of a number after it.
+fn put_number(out: &mut [u8], word: &[u8], n: usize) -> usize
+    requires { ⌜ length (now word) + length (decimal n) ≤ length (now out) ⌝ }
+    ensures { λ r. ⌜ Put (now (word .entry) ++ decimal n) r (now (out .entry)) (now (out .exit)) ⌝ }
 {
-    out[0] = mark;
-    1 + put_decimal(&mut out[1..], n)
+    let at = put_bytes(out, word);
+    at + put_decimal(&mut out[at..], n)
 }
 
-// The sign that a coefficient carries.
-fn sign(z: i32) -> u8
-    ensures { λ r. ⌜ r ≡ cond (nonNeg z) 43 45 ⌝ }
+// A coefficient, with its sign.
+fn put_coefficient(out: &mut [u8], z: i32) -> usize
+    requires { ⌜ length (coefficient z) ≤ length (now out) ⌝ }
+    ensures { λ r. ⌜ Put (coefficient z) r (now (out .entry)) (now (out .exit)) ⌝ }
 {
-    if z < 0 { 45 } else { 43 }
+    let size = magnitude(z) as usize;
+    if z < 0 {
+        return put_number(out, b"-", size);
+    }
+    put_number(out, b"+", size)
+}
+
+// A right side, with a sign only below 0.
+fn put_right(out: &mut [u8], z: i32) -> usize
+    requires { ⌜ length (rightSide z) ≤ length (now out) ⌝ }
+    ensures { λ r. ⌜ Put (rightSide z) r (now (out .entry)) (now (out .exit)) ⌝ }
+{
+    let size = magnitude(z) as usize;
+    if z < 0 {
+        return put_number(out, b"-", size);
+    }
+    put_decimal(out, size)
 }
 
 // A coefficient on a variable, with a space after it.
@@ -61,12 +75,9 @@ fn put_term(out: &mut [u8], coefficient: i32, variable: usize) -> usize
     requires { ⌜ length (termText (term variable coefficient)) ≤ length (now out) ⌝ }
     ensures { λ r. ⌜ Put (termText (term variable coefficient)) r (now (out .entry)) (now (out .exit)) ⌝ }
 {
-    let size = magnitude(coefficient) as usize;
-    let space = put_marked(out, sign(coefficient), size);
-    out[space] = 32;
-    let at = space + 1;
-    let end = at + put_marked(&mut out[at..], 120, variable + 1);
-    out[end] = 32;
+    let at = put_coefficient(out, coefficient);
+    let end = at + put_number(&mut out[at..], b" x", variable + 1);
+    out[end] = b' ';
     end + 1
 }
 
@@ -89,28 +100,24 @@ fn put_terms<'a>(
     at
 }
 
-// The right side of a line, with a sign only below 0.
-fn put_right(out: &mut [u8], z: i32) -> usize
-    requires { ⌜ length (rightSide z) ≤ length (now out) ⌝ }
-    ensures { λ r. ⌜ Put (rightSide z) r (now (out .entry)) (now (out .exit)) ⌝ }
+// `>=`, the right side, `;` and a line feed.
+fn put_relation(out: &mut [u8], right: i32) -> usize
+    requires { ⌜ length (relationText right) ≤ length (now out) ⌝ }
+    ensures { λ r. ⌜ Put (relationText right) r (now (out .entry)) (now (out .exit)) ⌝ }
 {
-    let size = magnitude(z) as usize;
-    if z < 0 {
-        return put_marked(out, 45, size);
-    }
-    put_decimal(out, size)
+    let at = put_bytes(out, b">= ");
+    let end = at + put_right(&mut out[at..], right);
+    end + put_bytes(&mut out[end..], b" ;\n")
 }
 
-// A line: its terms, `>=`, the right side, `;` and a line feed.
+// A line: its terms, and its relation to the right side.
 pub fn put_line(out: &mut [u8], line: LineRecord) -> usize
     requires { ⌜ PrintableLine line ⌝ }
     requires { ⌜ 254 ≤ length (now out) ⌝ }
     ensures { λ r. ⌜ Put (lineText (lineIn line)) r (now (out .entry)) (now (out .exit)) ⌝ }
 {
-    let relation = put_terms(out, &line.variables, &line.coefficients, line.count);
-    let right = relation + put_bytes(&mut out[relation..], b">= ");
-    let end = right + put_right(&mut out[right..], line.right);
-    end + put_bytes(&mut out[end..], b" ;\n")
+    let at = put_terms(out, &line.variables, &line.coefficients, line.count);
+    at + put_relation(&mut out[at..], line.right)
 }
 
 // The header, with the number of variables and the number of lines after it.
@@ -118,10 +125,8 @@ pub fn put_header(out: &mut [u8], variables: usize, lines: usize) -> usize
     requires { ⌜ length (headerText variables lines) ≤ length (now out) ⌝ }
     ensures { λ r. ⌜ Put (headerText variables lines) r (now (out .entry)) (now (out .exit)) ⌝ }
 {
-    let first = put_bytes(out, b"* #variable= ");
-    let word = first + put_decimal(&mut out[first..], variables);
-    let second = word + put_bytes(&mut out[word..], b" #constraint= ");
-    let end = second + put_decimal(&mut out[second..], lines);
-    out[end] = 10;
+    let at = put_number(out, b"* #variable= ", variables);
+    let end = at + put_number(&mut out[at..], b" #constraint= ", lines);
+    out[end] = b'\n';
     end + 1
 }

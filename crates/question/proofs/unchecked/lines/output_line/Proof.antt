@@ -1,46 +1,42 @@
 -- The three variables are those of the output's two lines.
-use mathlib.Core.Path.{_≡_, refl, ap, _∙_}
-use Prim.Native.Nat.{ℕ, _/_, _≤_, _<_}
+use mathlib.Core.Path.{refl, ap, _∙_}
+use Prim.Native.Nat.{_/_, _<_}
 use native.Mathlib.Omega.{arith}
 use borrow.Author.Needs.{needs}
 use Rattle.constraints.specs.Question.{secondVariable}
 use Rattle.question.specs.TermLaws.{stands-is}
-use Rattle.question.specs.ComparableLaws.{first-sized, second-sized}
+use Rattle.question.specs.ComparableLaws.{small-counts}
 use Rattle.question.specs.NumberLaws.{even-output, odd-output}
 use Rattle.question.proofs.unchecked.lines.output_line.Statement.{statement}
 use Rattle.question.proofs.unchecked.lines.output_line.Tie as tie
 
--- the counts are small
-small : (c : tie.Start) → (c .args .t1 .inputs ≤ 40) × (c .args .t1 .gates ≤ 128) × (c .args .t2 .gates ≤ 128) × (c .args .i / 2 < 16)
-small c =
-    let a = first-sized (c .pre .0) in
-    let b = second-sized (c .pre .0) in
-    let h = c .pre .1 in
-    (a .few-inputs, a .few-gates, b .few-gates, omega (arith, a .few-outputs))
+-- the output is one of 16
+below : (c : tie.Start) → c .args .i / 2 < 16
+below c = let h = c .pre .1 in omega (arith, small-counts (c .pre .0))
 
 element-copy-out-wide : tie.Need-element-copy-out-wide
-element-copy-out-wide c = small c .3
+element-copy-out-wide c = below c
 
 wide-requires : tie.Need-wide-requires
 wide-requires c κs = search needs
 
 element-copy-out-wide-2 : tie.Need-element-copy-out-wide-2
-element-copy-out-wide-2 c = small (c .before .before) .3
+element-copy-out-wide-2 c = below (c .before .before)
 
 wide-requires-2 : tie.Need-wide-requires-2
 wide-requires-2 c κs = search needs
 
 variable-of-requires : tie.Need-variable-of-requires
-variable-of-requires c κs = let s = small (c .before .before .before .before) in omega (arith, c .wide2 .ensures)
+variable-of-requires c κs = let s = small-counts (c .before .before .before .before .pre .0) in omega (arith, c .wide2 .ensures)
 
 add-d : tie.Need-add-d
-add-d c = let s = small (c .before .before .before .before .before) in record { fits = omega arith }
+add-d c = let s = small-counts (c .before .before .before .before .before .pre .0) in record { fits = omega arith }
 
 add-d-2 : tie.Need-add-d-2
-add-d-2 c = let s = small (c .before .before .before .before .before) in record { fits = omega arith }
+add-d-2 c = let s = small-counts (c .before .before .before .before .before .pre .0) in record { fits = omega arith }
 
 add-d-3 : tie.Need-add-d-3
-add-d-3 c = let s = small (c .before .before .before .before .before) in record { fits = omega arith }
+add-d-3 c = let s = small-counts (c .before .before .before .before .before .pre .0) in let h = below (c .before .before .before .before .before) in record { fits = omega arith }
 
 three-terms-requires : tie.Need-three-terms-requires
 three-terms-requires c κs = search needs

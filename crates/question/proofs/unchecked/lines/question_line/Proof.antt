@@ -1,71 +1,72 @@
-use borrow.Author.Needs.{needs}
+-- Each stretch of the question by its numbers.
+use native.Mathlib.Omega.{arith}
+use Rattle.question.specs.TermLaws.{stands-is}
+use Rattle.question.specs.ComparableLaws.{small-counts}
+use Rattle.question.specs.NumberLaws.{in-first, in-second, in-outputs, at-last}
 use Rattle.question.proofs.unchecked.lines.question_line.Statement.{statement}
 use Rattle.question.proofs.unchecked.lines.question_line.Tie as tie
-use Rattle.question.proofs.unchecked.lines.question_line.Reads as reads
-use Rattle.question.proofs.unchecked.lines.question_line.Lts as lts
-use Rattle.question.proofs.unchecked.lines.gate_line.Reads as gate-line-reads
-use Rattle.question.proofs.unchecked.lines.last_line.Reads as last-line-reads
-use Rattle.question.proofs.unchecked.lines.output_line.Reads as output-line-reads
 
--- src/unchecked/lines.rt:193:21
 mul-first-end : tie.Need-mul-first-end
-mul-first-end c = search needs
+mul-first-end c = let s = small-counts (c .before .pre .0) in record { fits = omega arith }
 
--- src/unchecked/lines.rt:194:34
 mul-second-end : tie.Need-mul-second-end
-mul-second-end c = search needs
+mul-second-end c = let s = small-counts (c .before .before .pre .0) in record { fits = omega arith }
 
--- src/unchecked/lines.rt:194:22
 add-second-end : tie.Need-add-second-end
-add-second-end c = search needs
+add-second-end c = let s = small-counts (c .before .before .pre .0) in record { fits = omega arith }
 
--- src/unchecked/lines.rt:195:36
 mul-outputs-end : tie.Need-mul-outputs-end
-mul-outputs-end c = search needs
+mul-outputs-end c = let s = small-counts (c .before .before .before .pre .0) in record { fits = omega arith }
 
--- src/unchecked/lines.rt:195:23
 add-outputs-end : tie.Need-add-outputs-end
-add-outputs-end c = search needs
+add-outputs-end c = let s = small-counts (c .before .before .before .pre .0) in record { fits = omega arith }
 
--- src/unchecked/lines.rt:197:9
 gate-line-requires : tie.Need-gate-line-requires
-gate-line-requires c κs = search needs
+gate-line-requires c κs = (c .before .before .before .before .pre .0 .first-sound, omega arith, c .if1 .taken)
 
--- src/unchecked/lines.rt:197:9
 returns : tie.Need-returns
-returns c = search needs
+returns c =
+    let start = c .before .before .before .before .before in
+    stands-is (in-first (start .pre .0) (start .args .i) (c .before .if1 .taken)) (c .gate-line .ensures)
 
--- src/unchecked/lines.rt:200:9
 gate-line-requires-2 : tie.Need-gate-line-requires-2
-gate-line-requires-2 c κs = search needs
+gate-line-requires-2 c κs =
+    let start = c .before .before .before .before .before in
+    let low = c .before .if1 .left in
+    let high = c .if2 .taken in
+    let s = small-counts (start .pre .0) in
+    (start .pre .0 .second-sound, s .1, omega arith)
 
--- src/unchecked/lines.rt:200:9
 returns-2 : tie.Need-returns-2
-returns-2 c = search needs
+returns-2 c =
+    let start = c .before .before .before .before .before .before in
+    stands-is (in-second (start .pre .0) (start .args .i) (c .before .before .if1 .left) (c .before .if2 .taken)) (c .gate-line2 .ensures)
 
--- src/unchecked/lines.rt:203:9
 output-line-requires : tie.Need-output-line-requires
-output-line-requires c κs = search needs
+output-line-requires c κs =
+    let low = c .before .if2 .left in
+    let high = c .if3 .taken in
+    (c .before .before .before .before .before .before .pre .0, omega arith)
 
--- src/unchecked/lines.rt:203:9
 returns-3 : tie.Need-returns-3
-returns-3 c = search needs
+returns-3 c =
+    let start = c .before .before .before .before .before .before .before in
+    stands-is (in-outputs (start .pre .0) (start .args .i) (c .before .before .if2 .left) (c .before .if3 .taken)) (c .output-line .ensures)
 
--- src/unchecked/lines.rt:205:15
 add-last-line : tie.Need-add-last-line
-add-last-line c = search needs
+add-last-line c = let s = small-counts (c .before .before .before .before .before .before .before .pre .0) in record { fits = omega arith }
 
--- src/unchecked/lines.rt:205:15
 add-last-line-2 : tie.Need-add-last-line-2
-add-last-line-2 c = search needs
+add-last-line-2 c = let s = small-counts (c .before .before .before .before .before .before .before .before .pre .0) in record { fits = omega arith }
 
--- src/unchecked/lines.rt:205:5
 last-line-requires : tie.Need-last-line-requires
-last-line-requires c κs = search needs
+last-line-requires c κs = let s = small-counts (c .before .before .before .before .before .before .before .before .pre .0) in (s .3, omega arith)
 
--- src/unchecked/lines.rt:189:1
 returns-4 : tie.Need-returns-4
-returns-4 c = search needs
+returns-4 c =
+    let left = c .before .before .before in
+    let start = left .before .before .before .before .before .before in
+    stands-is (at-last (start .pre .0) (start .args .i) (left .if3 .left) (start .pre .1)) (c .last-line .ensures)
 
 pub question-line-spec : {M : Type 1} → statement M
 question-line-spec =

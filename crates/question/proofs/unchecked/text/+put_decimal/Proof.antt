@@ -7,7 +7,7 @@ use lib.ListN.{length, length-append, length-set}
 use lib.Seq.{sets-eq}
 use Rattle.constraints.specs.Text.{decimal}
 use Rattle.question.specs.Writes.{Put}
-use Rattle.question.specs.DecimalLaws.{decimal-one, decimal-more}
+use Rattle.question.specs.TextParts.{decimal-one, decimal-more}
 use Rattle.question.proofs.PutLaws.{put-none, put-text, put-length, put-byte}
 use borrow.Fn.Kinds.{In}
 use borrow.Fn.PlainCycle.{Measures, is, falls, and}

@@ -3,71 +3,54 @@ use Rattle.question.proofs.unchecked.text.put_term.Statement.{statement
 use Rattle.question.proofs.unchecked.text.put_term.Tie as tie
 use Rattle.question.proofs.unchecked.text.put_term.Reads as reads
 use Rattle.question.proofs.unchecked.text.put_term.Lts as lts
-use Rattle.integers.proofs.magnitude.Reads as magnitude-reads
-use Rattle.question.proofs.unchecked.text.put_marked.Reads as put-marked-reads
-use Rattle.question.proofs.unchecked.text.sign.Reads as sign-reads
+use Rattle.question.proofs.unchecked.text.put_coefficient.Reads as put-coefficient-reads
+use Rattle.question.proofs.unchecked.text.put_number.Reads as put-number-reads
 
--- src/unchecked/text.rt:64:16
-magnitude-requires : tie.Need-magnitude-requires
-magnitude-requires c κs = search needs
+-- src/unchecked/text.rt:78:9
+put-coefficient-requires : tie.Need-put-coefficient-requires
+put-coefficient-requires c κs = search needs
 
--- src/unchecked/text.rt:64:16
-cast-size : tie.Need-cast-size
-cast-size c = search needs
+-- src/unchecked/text.rt:79:31
+sub-put-number : tie.Need-sub-put-number
+sub-put-number c = search needs
 
--- src/unchecked/text.rt:65:33
-sign-requires : tie.Need-sign-requires
-sign-requires c κs = search needs
+-- src/unchecked/text.rt:79:31
+part-put-number-start : tie.Need-part-put-number-start
+part-put-number-start c = search needs
 
--- src/unchecked/text.rt:65:9
-put-marked-requires : tie.Need-put-marked-requires
-put-marked-requires c κs = search needs
+-- src/unchecked/text.rt:79:31
+part-put-number-end : tie.Need-part-put-number-end
+part-put-number-end c = search needs
 
--- src/unchecked/text.rt:66:5
-slice-write-out : tie.Need-slice-write-out
-slice-write-out c = search needs
+-- src/unchecked/text.rt:79:47
+slice-aggregate-put-number : tie.Need-slice-aggregate-put-number
+slice-aggregate-put-number c = search needs
 
--- src/unchecked/text.rt:67:14
-add-at : tie.Need-add-at
-add-at c = search needs
+-- src/unchecked/text.rt:79:54
+add-put-number : tie.Need-add-put-number
+add-put-number c = search needs
 
--- src/unchecked/text.rt:68:31
-sub-put-marked : tie.Need-sub-put-marked
-sub-put-marked c = search needs
+-- src/unchecked/text.rt:79:20
+put-number-requires : tie.Need-put-number-requires
+put-number-requires c κs = search needs
 
--- src/unchecked/text.rt:68:31
-part-put-marked-start : tie.Need-part-put-marked-start
-part-put-marked-start c = search needs
-
--- src/unchecked/text.rt:68:31
-part-put-marked-end : tie.Need-part-put-marked-end
-part-put-marked-end c = search needs
-
--- src/unchecked/text.rt:68:52
-add-put-marked : tie.Need-add-put-marked
-add-put-marked c = search needs
-
--- src/unchecked/text.rt:68:20
-put-marked-requires-2 : tie.Need-put-marked-requires-2
-put-marked-requires-2 c κs = search needs
-
--- src/unchecked/text.rt:68:15
+-- src/unchecked/text.rt:79:15
 add-end : tie.Need-add-end
 add-end c = search needs
 
--- src/unchecked/text.rt:69:5
-slice-write-out-2 : tie.Need-slice-write-out-2
-slice-write-out-2 c = search needs
+-- src/unchecked/text.rt:80:5
+slice-write-out : tie.Need-slice-write-out
+slice-write-out c = search needs
 
--- src/unchecked/text.rt:70:5
+-- src/unchecked/text.rt:81:5
 add-result : tie.Need-add-result
 add-result c = search needs
 
--- src/unchecked/text.rt:59:1
+-- src/unchecked/text.rt:73:1
 same-length : tie.Need-same-length
 same-length c = search needs
 
--- src/unchecked/text.rt:59:1
+-- src/unchecked/text.rt:73:1
 returns : tie.Need-returns
 returns c = search needs
 
@@ -75,19 +58,15 @@ pub put-term-spec : {M : Type 1} → statement M
 put-term-spec =
     tie.close
     (tie.spec
-    magnitude-requires
-    cast-size
-    sign-requires
-    put-marked-requires
-    slice-write-out
-    add-at
-    sub-put-marked
-    part-put-marked-start
-    part-put-marked-end
-    add-put-marked
-    put-marked-requires-2
+    put-coefficient-requires
+    sub-put-number
+    part-put-number-start
+    part-put-number-end
+    slice-aggregate-put-number
+    add-put-number
+    put-number-requires
     add-end
-    slice-write-out-2
+    slice-write-out
     add-result
     same-length
     returns)
