@@ -2,7 +2,7 @@
 -- nothing.
 use mathlib.Core.Path.{_≡_, refl, sym, ap, _∙_, subst}
 use mathlib.Core.Bool.{Bool, true, _&&_}
-use Prim.Native.Nat.{ℕ, zero, suc, _+_, _*_, _≤_, _<_}
+use Prim.Native.Nat.{ℕ, zero, suc, _+_, _*_, _-_, _≤_, _<_}
 use native.Mathlib.Omega.{arith}
 use borrow.Author.Tests.{eqb-true}
 use lib.Dec.{eqb}
@@ -20,7 +20,7 @@ use Rattle.network.specs.SoundLaws.{sized-of}
 use Rattle.network.specs.declared.GateRecord.{GateRecord}
 use Rattle.network.specs.declared.Network.{Network}
 use Rattle.constraints.specs.Question.{firstDifference, question, variables}
-use Rattle.constraints.specs.Text.{noLine, headerText, questionText}
+use Rattle.constraints.specs.Text.{lineText, noLine, headerText, questionText}
 use Rattle.constraints.specs.LineLaws.{question-length}
 use Rattle.constraints.specs.SizeLaws.{gate-sizes, Narrow, question-narrow, line-short}
 use Rattle.question.specs.Answers.{alike}
@@ -100,3 +100,13 @@ module _ {a b : Network} (p : Comparable a b) where
   pub text-short : (n : ℕ) → n ≤ linesOf (netOf a) (netOf b) → length (questionText (netOf a) (netOf b) n) ≤ 254
   unfolding linesOf
   text-short n h = line-short (netOf a) (netOf b) first-net second-net same-drivers n h
+
+  -- the text of line n, the header or a line after it
+  pub header-is : {n v c : ℕ} → n ≡ 0 → v ≡ a .inputs + a .gates + b .gates + a .outputs → c ≡ linesOf (netOf a) (netOf b) → headerText v c ≡ questionText (netOf a) (netOf b) n
+  unfolding questionText linesOf
+  header-is z e d = rw (z, e, d, variables-are)
+
+pub line-is : (N M : Net) (n : ℕ) → 0 < n → lineText (getD (question N M) (n - 1) noLine) ≡ questionText N M n
+unfolding questionText
+line-is N M zero h = absurd (omega arith)
+line-is N M (suc n) h = ap (λ (k : ℕ). lineText (getD (question N M) k noLine)) (let e : suc n - 1 ≡ n = omega arith in e)

@@ -11,55 +11,55 @@ use Rattle.question.proofs.write_line.Reads as write-line-reads
 
 -- src/lib.rt:79:10
 is-sound-requires : tie.Need-is-sound-requires
-is-sound-requires c κs = search needs
+is-sound-requires c κs = ?
 
 -- src/lib.rt:79:48
 is-sound-requires-2 : tie.Need-is-sound-requires-2
-is-sound-requires-2 c κs = search needs
+is-sound-requires-2 c κs = ?
 
 -- src/lib.rt:80:9
 refusal-requires : tie.Need-refusal-requires
-refusal-requires c κs = search needs
+refusal-requires c κs = ?
 
 -- src/lib.rt:80:9
 returns : tie.Need-returns
-returns c = search needs
+returns c = ?
 
 -- src/lib.rt:82:9
 are-alike-requires : tie.Need-are-alike-requires
-are-alike-requires c κs = search needs
+are-alike-requires c κs = ?
 
 -- src/lib.rt:83:9
 refusal-requires-2 : tie.Need-refusal-requires-2
-refusal-requires-2 c κs = search needs
+refusal-requires-2 c κs = ?
 
 -- src/lib.rt:83:9
 returns-2 : tie.Need-returns-2
-returns-2 c = search needs
+returns-2 c = ?
 
 -- src/lib.rt:85:8
 line-count-requires : tie.Need-line-count-requires
-line-count-requires c κs = search needs
+line-count-requires c κs = ?
 
 -- src/lib.rt:86:9
 refusal-requires-3 : tie.Need-refusal-requires-3
-refusal-requires-3 c κs = search needs
+refusal-requires-3 c κs = ?
 
 -- src/lib.rt:86:9
 returns-3 : tie.Need-returns-3
-returns-3 c = search needs
+returns-3 c = ?
 
 -- src/lib.rt:88:5
 write-line-requires : tie.Need-write-line-requires
-write-line-requires c κs = search needs
+write-line-requires c κs = ?
 
 -- src/lib.rt:75:1
 same-length : tie.Need-same-length
-same-length c = search needs
+same-length c = ?
 
 -- src/lib.rt:75:1
 returns-4 : tie.Need-returns-4
-returns-4 c = search needs
+returns-4 c = ?
 
 pub line-spec : {M : Type 1} → statement M
 line-spec =

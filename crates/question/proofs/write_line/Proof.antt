@@ -9,39 +9,39 @@ use Rattle.question.proofs.unchecked.text.put_bytes.Reads as put-bytes-
 
 -- src/lib.rt:65:49
 slice-aggregate-put-question : tie.Need-slice-aggregate-put-question
-slice-aggregate-put-question c = search needs
+slice-aggregate-put-question c = ?
 
 -- src/lib.rt:65:9
 put-question-requires : tie.Need-put-question-requires
-put-question-requires c κs = search needs
+put-question-requires c κs = ?
 
 -- src/lib.rt:67:9
 refusal-requires : tie.Need-refusal-requires
-refusal-requires c κs = search needs
+refusal-requires c κs = ?
 
 -- src/lib.rt:67:9
 returns : tie.Need-returns
-returns c = search needs
+returns c = ?
 
 -- src/lib.rt:69:37
 array-share-prefix-text : tie.Need-array-share-prefix-text
-array-share-prefix-text c = search needs
+array-share-prefix-text c = ?
 
 -- src/lib.rt:69:37
 slice-aggregate-put-bytes : tie.Need-slice-aggregate-put-bytes
-slice-aggregate-put-bytes c = search needs
+slice-aggregate-put-bytes c = ?
 
 -- src/lib.rt:69:5
 put-bytes-requires : tie.Need-put-bytes-requires
-put-bytes-requires c κs = search needs
+put-bytes-requires c κs = ?
 
 -- src/lib.rt:59:1
 same-length : tie.Need-same-length
-same-length c = search needs
+same-length c = ?
 
 -- src/lib.rt:59:1
 returns-2 : tie.Need-returns-2
-returns-2 c = search needs
+returns-2 c = ?
 
 pub write-line-spec : {M : Type 1} → statement M
 write-line-spec =

@@ -1,42 +1,54 @@
+-- The word, and the digits in the part after it.
+use Prim.Native.Nat.{ℕ, _+_, _≤_}
+use native.Mathlib.Omega.{arith}
+use lib.ListN.{length}
 use borrow.Author.Needs.{needs}
+use Rattle.question.proofs.PartWrites.{tail-length}
+use Rattle.question.proofs.PutLaws.{put-part, put-length}
 use Rattle.question.proofs.unchecked.text.put_number.Statement.{statement}
 use Rattle.question.proofs.unchecked.text.put_number.Tie as tie
-use Rattle.question.proofs.unchecked.text.put_number.Reads as reads
-use Rattle.question.proofs.unchecked.text.put_number.Lts as lts
-use Rattle.question.proofs.unchecked.text.put_bytes.Reads as put-bytes-reads
-use Rattle.question.proofs.unchecked.text.put_decimal.Reads as put-decimal-reads
 
--- src/unchecked/text.rt:44:9
+-- the word leaves room for the digits
+room : (c : tie.After-put-bytes) → c .put-bytes .result ≤ length (c .before .before .before .before .args .out .now)
+room c = omega (arith, c .put-bytes .ensures .long, c .before .before .before .before .pre)
+
+-- and the digits have room
+end : (c : tie.After-put-decimal) → c .before .before .before .before .put-bytes .result + c .put-decimal .result ≤ length (c .before .before .before .before .before .before .before .before .args .out .now)
+end c =
+    let first = c .before .before .before .before in
+    omega (arith, first .put-bytes .ensures .long, c .put-decimal .ensures .long, first .before .before .before .before .pre)
+
 put-bytes-requires : tie.Need-put-bytes-requires
-put-bytes-requires c κs = search needs
+put-bytes-requires c κs = omega (arith, c .before .before .before .pre)
 
--- src/unchecked/text.rt:45:22
 sub-put-decimal : tie.Need-sub-put-decimal
-sub-put-decimal c = search needs
+sub-put-decimal c = let done = c .before .before in omega (arith, room done, put-length (done .put-bytes .ensures) (room done))
 
--- src/unchecked/text.rt:45:22
 part-put-decimal-start : tie.Need-part-put-decimal-start
-part-put-decimal-start c = search needs
+part-put-decimal-start c = let done = c .before .before in omega (arith, room done, put-length (done .put-bytes .ensures) (room done))
 
--- src/unchecked/text.rt:45:22
 part-put-decimal-end : tie.Need-part-put-decimal-end
 part-put-decimal-end c = search needs
 
--- src/unchecked/text.rt:45:10
 put-decimal-requires : tie.Need-put-decimal-requires
-put-decimal-requires c κs = search needs
+put-decimal-requires c κs =
+    let done = c .before .before .before in
+    omega (
+      arith,
+      tail-length (done .put-bytes .result) (done .put-bytes .last .0),
+      put-length (done .put-bytes .ensures) (room done),
+      done .put-bytes .ensures .long,
+      done .before .before .before .before .pre
+    )
 
--- src/unchecked/text.rt:45:5
 add-result : tie.Need-add-result
-add-result c = search needs
+add-result c = record { fits = omega (arith, end (c .before .before), c .before .before .before .before .before .before .before .before .before .before .good .0 .0) }
 
--- src/unchecked/text.rt:40:1
-same-length : tie.Need-same-length
-same-length c = search needs
-
--- src/unchecked/text.rt:40:1
 returns : tie.Need-returns
-returns c = search needs
+returns c = let done = c .before .before in put-part (done .before .before .before .before .put-bytes .ensures) (end done) (done .put-decimal .ensures)
+
+same-length : tie.Need-same-length
+same-length c = put-length (returns c) (end (c .before .before))
 
 pub put-number-spec : {M : Type 1} → statement M
 put-number-spec =
