@@ -1,10 +1,10 @@
 -- Laws of the feeds at a run of places: one place more, two runs after each other, and places written. Assumes nothing.
-use mathlib.Core.Path.{_≡_, refl, sym, ap, _∙_}
+use mathlib.Core.Path.{_≡_, refl, ap, _∙_}
 use mathlib.Core.List.{List, [], _∷_, _++_, map}
 use Prim.Native.Nat.{ℕ, _+_, _<_}
 use native.Mathlib.Omega.{arith}
 use lib.IntN.{ℤ, pos}
-use lib.ListN.{length, getD, set}
+use lib.ListN.{length, set}
 use lib.Seq.{getD-set-same, getD-set-other}
 use Rattle.integers.specs.Lists.{range}
 use Rattle.integers.specs.ListLaws.{range-append, range-more, tab-same}
@@ -35,11 +35,11 @@ module _ (ss : List ℕ) (ws : List ℤ) where
 
   module _ (n s : ℕ) (w : ℤ) where
     -- the feed at a place just written, and at a place before it
-    pub feed-here : n < length ss → n < length ws → feedAt (set ss n s) (set ws n w) n ≡ record { signal = s; weight = w }
+    feed-here : n < length ss → n < length ws → feedAt (set ss n s) (set ws n w) n ≡ record { signal = s; weight = w }
     unfolding feedAt
     feed-here h k = λ x. record { signal = getD-set-same ss n s 0 h x; weight = getD-set-same ws n w (pos 0) k x }
 
-    pub feed-before : (i : ℕ) → i < n → feedAt (set ss n s) (set ws n w) i ≡ feedAt ss ws i
+    feed-before : (i : ℕ) → i < n → feedAt (set ss n s) (set ws n w) i ≡ feedAt ss ws i
     unfolding feedAt
     feed-before i h = λ x. record { signal = getD-set-other ss n i s 0 (λ e. omega arith) x; weight = getD-set-other ws n i w (pos 0) (λ e. omega arith) x }
 

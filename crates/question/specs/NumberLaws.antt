@@ -21,7 +21,6 @@ use Rattle.question.specs.TermLaws.{some-is, notBoth-is}
 use Rattle.question.specs.StretchLaws.{first-stretch, second-stretch, output-stretch}
 use Rattle.question.specs.ComparableLaws.{row-gate-is, same-inputs, same-outputs, same-drivers, lines-are, difference-is}
 
-
 -- ---- a gate's lines
 module _ (r : Network) (shift i : ℕ) (sound : soundRecord r ≡ true) (h : i < 2 * r .gates) (gate : GateRecord) (e : gate ≡ rowAt (r .fanins) (r .thresholds) (r .signals) (r .weights) (i / 2)) where
   gate-is : gateIn gate ≡ nthGate (netOf r .gates) (i / 2)
@@ -37,7 +36,7 @@ module _ (r : Network) (shift i : ℕ) (sound : soundRecord r ≡ true) (h : i <
 
 -- ---- an output's lines
 module _ {a b : Network} (pair : Comparable a b) (i : ℕ) (h : i < 2 * a .outputs) {p q d : ℕ} (ep : p ≡ getD (a .drivers) (i / 2) 0)
-  (eq : q ≡ secondVariable (a .inputs) (a .gates) (getD (b .drivers) (i / 2) 0)) (ed : d ≡ a .inputs + a .gates + b .gates + i / 2) where
+    (eq : q ≡ secondVariable (a .inputs) (a .gates) (getD (b .drivers) (i / 2) 0)) (ed : d ≡ a .inputs + a .gates + b .gates + i / 2) where
   first-driver : p ≡ getD (netOf a .outputs) (i / 2) 0
   first-driver = ep ∙ sym (output-within a (i / 2) (omega arith))
 

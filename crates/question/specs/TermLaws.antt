@@ -3,7 +3,7 @@
 use mathlib.Core.Path.{_≡_, refl, sym, ap, _∙_}
 use mathlib.Core.Bool.{Bool, true, false, cond}
 use mathlib.Core.List.{List, [], _∷_, _++_, map, map-map}
-use Prim.Native.Nat.{ℕ, _+_, _*_, _≤_, _<_}
+use Prim.Native.Nat.{ℕ, _+_, _≤_, _<_}
 use native.Mathlib.Omega.{arith}
 use lib.IntN.{ℤ, pos, negsuc, natAbs, negℤ, _+ℤ_, _-ℤ_, +ℤ-assoc, +ℤ-comm}
 use lib.ListN.{length, getD, set, length-map}
@@ -32,7 +32,7 @@ stands-empty vs cs z = record { few = omega arith; is = ap (λ (fs : List Feed).
 
 pub stands-more : (n : ℕ) (vs : List ℕ) (cs : List ℤ) (z : ℤ) (v : ℕ) (c : ℤ) → n < 17 → length vs ≡ 17 → length cs ≡ 17
     → Stands (record { count = n + 1; variables = set vs n v; coefficients = set cs n c; right = z })
-      (withTerm (lineIn (record { count = n; variables = vs; coefficients = cs; right = z })) (term v c))
+    (withTerm (lineIn (record { count = n; variables = vs; coefficients = cs; right = z })) (term v c))
 unfolding lineIn withTerm
 stands-more n vs cs z v c h lv lc = record { few = omega arith; is = ap (λ (fs : List Feed). record { terms = fs; right = z }) (feeds-set vs cs n v c (omega arith) (omega arith)) }
 

@@ -1,6 +1,6 @@
 -- The texts of the question, part by part, as they are written. Assumes nothing.
 use mathlib.Core.Path.{_≡_, refl, sym, ap, _∙_}
-use mathlib.Core.Bool.{Bool, true, false, cond}
+use mathlib.Core.Bool.{true, false, cond}
 use mathlib.Core.List.{List, [], _∷_, _++_, append-assoc, append-nil}
 use Prim.Native.Nat.{ℕ, zero, suc, _+_, _-_, _/_, _%_, _^_, _≤_, _<_}
 use native.Mathlib.Omega.{arith}
@@ -89,7 +89,7 @@ module _ (vs : List ℕ) (cs : List ℤ) where
         ap length (terms-more i),
         ap (λ (k : ℕ). length (termsText (feedsFrom vs cs 0 k))) e,
         ap (λ (fs : List Feed). length (termsText fs)) (feeds-split vs cs (i + 1) (n - (i + 1))),
-        terms-append (feedsFrom vs cs 0 (i + 1)) (feedsFrom vs cs (0 + (i + 1)) (n - (i + 1)))
+        terms-append (feedsFrom vs cs 0 (i + 1)) (feedsFrom vs cs (0 + (i + 1)) (n - (i + 1))),
       )
 
 -- ---- a line and the header

@@ -16,13 +16,11 @@ pub struct LineWritten {
     pub length: usize,
 }
 
+// A refusal: its number, and no length.
 fn refusal(code: u8) -> LineWritten
     ensures { λ r. ⌜ r ≡ asLineWritten (refused code) ⌝ }
 {
-    LineWritten {
-        code,
-        length: 0,
-    }
+    LineWritten { code, length: 0 }
 }
 
 // Whether two networks have equal input and output counts.

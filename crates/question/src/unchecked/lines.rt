@@ -52,7 +52,11 @@ fn variable_of(inputs: usize, shift: usize, signal: usize) -> usize
     requires { ⌜ signal + shift < 1000 ⌝ }
     ensures { λ r. ⌜ r ≡ secondVariable inputs shift signal ⌝ }
 {
-    if signal < inputs { signal } else { signal + shift }
+    if signal < inputs {
+        signal
+    } else {
+        signal + shift
+    }
 }
 
 // A weight, or minus the weight.
@@ -64,7 +68,13 @@ fn signed(negative: bool, weight: i32) -> i32
 }
 
 // The feeds of a gate, each with its weight or with minus its weight.
-fn feed_terms(gate: GateRecord, inputs: usize, shift: usize, negative: bool, right: i32) -> LineRecord
+fn feed_terms(
+    gate: GateRecord,
+    inputs: usize,
+    shift: usize,
+    negative: bool,
+    right: i32,
+) -> LineRecord
     requires { ⌜ Scaled gate × (shift ≤ 128) ⌝ }
     ensures { λ r. ⌜ Stands r (feedTerms negative (secondVariable inputs shift) (gateIn gate) right) ⌝ }
 {

@@ -1,6 +1,6 @@
 -- The gate's places are those of the network's gate, whose numbers are within the limits.
-use mathlib.Core.Path.{_≡_, sym, subst}
-use Prim.Native.Nat.{ℕ, _/_, _≤_, _<_}
+use mathlib.Core.Path.{sym, subst}
+use Prim.Native.Nat.{_/_, _≤_, _<_}
 use native.Mathlib.Omega.{arith}
 use Rattle.network.specs.SoundLaws.{sized-of}
 use Rattle.network.specs.declared.GateRecord.{GateRecord}

@@ -1,15 +1,12 @@
 -- The loop's invariant: the sum is that of the first i feeds.
-use mathlib.Core.Path.{_≡_, refl, sym, ap, _∙_, subst}
+use mathlib.Core.Path.{_≡_, refl, sym, ap, _∙_}
 use mathlib.Core.Bool.{Bool, cond}
 use mathlib.Core.Logic.{⊎-elim}
-use Prim.Native.Nat.{ℕ, _+_, _-_, _≤_, _<_}
+use Prim.Native.Nat.{_+_, _-_, _≤_, _<_}
 use native.Mathlib.Omega.{arith}
 use lib.IntN.{ℤ, pos, natAbs, _+ℤ_}
 use lib.ListN.{getD}
-use mir.Syntax.{w32}
-use mir.Val.{toZ, ofZ}
 use borrow.Author.Needs.{needs}
-use Rattle.constraints.specs.Question.{most}
 use Rattle.network.specs.Record.{gateIn}
 use Rattle.question.specs.TermLaws.{mostOf, most-none, most-more, positivePart, scaled-at}
 use Rattle.question.proofs.SignLaws.{from-sign, under-sign}

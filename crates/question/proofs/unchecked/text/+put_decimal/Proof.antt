@@ -1,12 +1,10 @@
 -- The measure is the number. The digits of a tenth stand at the front, and the last digit is stored after them.
-use mathlib.Core.Path.{_≡_, sym, ap, _∙_}
-use mathlib.Core.List.{List, [], _∷_, _++_}
-use Prim.Native.Nat.{ℕ, _+_, _/_, _%_, _≤_, _<_}
+use mathlib.Core.Path.{sym, ap, _∙_}
+use mathlib.Core.List.{[], _∷_}
+use Prim.Native.Nat.{ℕ, _+_, _/_, _%_, _<_}
 use native.Mathlib.Omega.{arith}
 use lib.ListN.{length, length-append, length-set}
-use lib.Seq.{sets-eq}
 use Rattle.constraints.specs.Text.{decimal}
-use Rattle.question.specs.Writes.{Put}
 use Rattle.question.specs.TextParts.{decimal-one, decimal-more}
 use Rattle.question.proofs.PutLaws.{put-none, put-text, put-length, put-byte}
 use borrow.Fn.Kinds.{In}

@@ -1,5 +1,5 @@
 -- The word, and the digits in the part after it.
-use Prim.Native.Nat.{ℕ, _+_, _≤_}
+use Prim.Native.Nat.{_+_, _≤_}
 use native.Mathlib.Omega.{arith}
 use lib.ListN.{length}
 use borrow.Author.Needs.{needs}
@@ -38,7 +38,7 @@ put-decimal-requires c κs =
       tail-length (done .put-bytes .result) (done .put-bytes .last .0),
       put-length (done .put-bytes .ensures) (room done),
       done .put-bytes .ensures .long,
-      done .before .before .before .before .pre
+      done .before .before .before .before .pre,
     )
 
 add-result : tie.Need-add-result
