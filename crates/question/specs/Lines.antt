@@ -45,7 +45,7 @@ feedTerm negative φ f = term (φ (f .signal)) (cond negative (negℤ (f .weight
 unfoldable pub feedTerms : Bool → (ℕ → ℕ) → Gate → ℤ → Line
 feedTerms negative φ g right = record { terms = map (feedTerm negative φ) (g .feeds); right = right }
 
--- line i of those of a network's gates, whose gates come after so many others
+-- line i of those of a network's gates, before which shift others come
 unfoldable pub gateLine : Net → ℕ → ℕ → Line
 gateLine N shift i =
     cond (eqb (i % 2) 0)

@@ -12,7 +12,7 @@ ghost use Rattle.constraints.specs.Question.{term, most, least, upper, lower, s
 ghost use Rattle.constraints.specs.Text.{noLine};
 ghost use Rattle.question.specs.Lines.{lineIn, Stands, noTerms, withTerm, feedTerms, gateLine, Scaled, threeTerms, outputLine, Comparable, linesOf};
 
-// A line: so many terms, each a coefficient on a variable (counted from 0), and the right side. Spare places hold 0.
+// A line: so many terms, each a coefficient on a variable (counted from 0), and the right side.
 pub struct LineRecord {
     pub count: usize,
     pub variables: [usize; 17],
@@ -20,7 +20,7 @@ pub struct LineRecord {
     pub right: i32,
 }
 
-// The line without terms.
+// A line without terms.
 fn no_terms(right: i32) -> LineRecord
     ensures { λ r. ⌜ Stands r (noTerms right) ⌝ }
 {
@@ -47,7 +47,7 @@ fn with_term(line: LineRecord, variable: usize, coefficient: i32) -> LineRecord
     result
 }
 
-// The variable of a signal of a network whose gates come after so many others.
+// The variable of a signal of a network, before whose gates shift others come.
 fn variable_of(inputs: usize, shift: usize, signal: usize) -> usize
     requires { ⌜ signal + shift < 1000 ⌝ }
     ensures { λ r. ⌜ r ≡ secondVariable inputs shift signal ⌝ }
@@ -67,7 +67,7 @@ fn signed(negative: bool, weight: i32) -> i32
     if negative { 0 - weight } else { weight }
 }
 
-// The feeds of a gate, each with its weight or with minus its weight.
+// The feeds of a gate as terms, each with its weight or with minus its weight, and a right side.
 fn feed_terms(
     gate: GateRecord,
     inputs: usize,
@@ -138,7 +138,7 @@ fn lower_line(gate: GateRecord, inputs: usize, shift: usize, y: usize) -> LineRe
     with_term(feeds, y, least - threshold)
 }
 
-// Line i of those of a network's gates, whose gates come after so many others.
+// Line i of those of a network's gates, before which shift others come.
 fn gate_line(network: Network, shift: usize, i: usize) -> LineRecord
     requires { ⌜ (soundRecord network ≡ true) × (shift ≤ 128) × (i < 2 * network .gates) ⌝ }
     ensures { λ r. ⌜ Stands r (gateLine (netOf network) shift i) ⌝ }
@@ -159,7 +159,7 @@ fn gate_line(network: Network, shift: usize, i: usize) -> LineRecord
     lower_line(gate, inputs, shift, y)
 }
 
-// A line of three terms.
+// A line of three terms: p and q with one coefficient, and minus d.
 fn three_terms(p: usize, q: usize, d: usize, coefficient: i32, right: i32) -> LineRecord
     ensures { λ r. ⌜ Stands r (threeTerms p q d coefficient right) ⌝ }
 {
