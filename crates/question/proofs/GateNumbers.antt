@@ -11,11 +11,11 @@ use Rattle.network.specs.Record.{gateIn}
 use Rattle.network.specs.declared.GateRecord.{GateRecord}
 use Rattle.constraints.specs.Question.{most, least}
 use Rattle.constraints.specs.SizeLaws.{most-size, least-size}
-use Rattle.question.specs.Lines.{Scaled}
+use Rattle.question.specs.Lines.{InLimits}
 use Rattle.question.specs.TermLaws.{feed-count}
 use Rattle.question.proofs.SumLaws.{small-back}
 
-module _ (gate : GateRecord) (s : Scaled gate) where
+module _ (gate : GateRecord) (s : InLimits gate) where
   -- T, M and m
   abbrev T : ℤ
   T = gate .threshold

@@ -24,7 +24,7 @@ use Rattle.constraints.specs.Text.{lineText, noLine, headerText, questionText}
 use Rattle.constraints.specs.LineLaws.{question-length}
 use Rattle.constraints.specs.SizeLaws.{gate-sizes, Narrow, question-narrow, line-short}
 use Rattle.question.specs.Answers.{alike}
-use Rattle.question.specs.Lines.{Scaled, Comparable, linesOf}
+use Rattle.question.specs.Lines.{InLimits, Comparable, linesOf}
 
 -- ---- a gate of a sound record, by itself
 module _ (r : Network) (g : ℕ) (sound : soundRecord r ≡ true) (h : g < r .gates) where
@@ -42,7 +42,7 @@ module _ (r : Network) (g : ℕ) (sound : soundRecord r ≡ true) (h : g < r .ga
   pub row-gate-is : gateIn row ≡ nthGate (netOf r .gates) g
   row-gate-is = ap gateIn row-is ∙ gateIn-gateRecord (nthGate (netOf r .gates) g) (gate-limits .few)
 
-  pub row-scaled : Scaled row
+  pub row-scaled : InLimits row
   unfolding gateRecord gateIn
   row-scaled =
       let sizes = gate-sizes (nthGate (netOf r .gates) g) (gate-limits .scaled) in

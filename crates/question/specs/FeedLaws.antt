@@ -1,6 +1,6 @@
 -- Laws of the feeds at a run of places: one place more, two runs after each other, and places written. Assumes nothing.
 use mathlib.Core.Path.{_≡_, refl, ap, _∙_}
-use mathlib.Core.List.{List, [], _∷_, _++_, map}
+use mathlib.Core.List.{List, [], _∷_, _++_, map, map-append}
 use Prim.Native.Nat.{ℕ, _+_, _<_}
 use native.Mathlib.Omega.{arith}
 use lib.IntN.{ℤ, pos}
@@ -10,11 +10,6 @@ use Rattle.integers.specs.Lists.{range}
 use Rattle.integers.specs.ListLaws.{range-append, range-more, tab-same}
 use Rattle.network.specs.Threshold.{Feed}
 use Rattle.network.specs.Record.{feedAt, feedsFrom}
-
--- the values of joined lists
-pub map-append : {A B : Type 0} (f : A → B) (xs ys : List A) → map f (xs ++ ys) ≡ map f xs ++ map f ys
-map-append f [] ys = refl
-map-append f (x ∷ xs) ys = rw (map-append f xs ys)
 
 module _ (ss : List ℕ) (ws : List ℤ) where
   -- no place

@@ -32,8 +32,8 @@ pub record Stands (r : LineRecord) (line : Line) : Type 0 where
 unfoldable pub noTerms : ℤ → Line
 noTerms right = record { terms = []; right = right }
 
-unfoldable pub withTerm : Line → Feed → Line
-withTerm line f = record { terms = line .terms ++ (f ∷ []); right = line .right }
+unfoldable pub extended : Line → Feed → Line
+extended line f = record { terms = line .terms ++ (f ∷ []); right = line .right }
 
 -- ---- the lines of a gate
 
@@ -53,7 +53,7 @@ gateLine N shift i =
     (lower (N .inputs + shift + i / 2) (overGate (secondVariable (N .inputs) shift) (nthGate (N .gates) (i / 2))))
 
 -- a gate's feeds have room in its record, and its weights and T are at most 1,000,000 in size
-pub record Scaled (gate : GateRecord) : Type 0 where
+pub record InLimits (gate : GateRecord) : Type 0 where
   pub few : gate .fanin ≤ 16
   pub level : natAbs (gate .threshold) ≤ 1000000
   pub sizes : Each (λ f. natAbs (f .weight) ≤ 1000000) (gateIn gate .feeds)

@@ -2,7 +2,7 @@
 -- Assumes nothing.
 use mathlib.Core.Path.{_≡_, refl, sym, ap, _∙_}
 use mathlib.Core.Bool.{Bool, true, false, cond}
-use mathlib.Core.List.{List, [], _∷_, _++_, map, map-map}
+use mathlib.Core.List.{List, [], _∷_, _++_, map, map-map, map-append}
 use Prim.Native.Nat.{ℕ, _+_, _≤_, _<_}
 use native.Mathlib.Omega.{arith}
 use lib.IntN.{ℤ, pos, negsuc, natAbs, negℤ, _+ℤ_, _-ℤ_, +ℤ-assoc, +ℤ-comm}
@@ -16,8 +16,8 @@ use Rattle.network.specs.PlaceLaws.{length-feeds, feeds-at}
 use Rattle.network.specs.declared.GateRecord.{GateRecord}
 use Rattle.constraints.specs.Question.{Line, term, most, least, negated, upper, lower, overGate, someLine, notBothLine, lastLine}
 use Rattle.question.specs.declared.unchecked.lines.LineRecord.{LineRecord}
-use Rattle.question.specs.Lines.{lineIn, Stands, noTerms, withTerm, feedTerm, feedTerms, Scaled, threeTerms}
-use Rattle.question.specs.FeedLaws.{map-append, feeds-none, feeds-more, feeds-set}
+use Rattle.question.specs.Lines.{lineIn, Stands, noTerms, extended, feedTerm, feedTerms, InLimits, threeTerms}
+use Rattle.question.specs.FeedLaws.{feeds-none, feeds-more, feeds-set}
 
 -- ---- a line's record
 
@@ -32,15 +32,15 @@ stands-empty vs cs z = record { few = omega arith; is = ap (λ (fs : List Feed).
 
 pub stands-more : (n : ℕ) (vs : List ℕ) (cs : List ℤ) (z : ℤ) (v : ℕ) (c : ℤ) → n < 17 → length vs ≡ 17 → length cs ≡ 17
     → Stands (record { count = n + 1; variables = set vs n v; coefficients = set cs n c; right = z })
-    (withTerm (lineIn (record { count = n; variables = vs; coefficients = cs; right = z })) (term v c))
-unfolding lineIn withTerm
+    (extended (lineIn (record { count = n; variables = vs; coefficients = cs; right = z })) (term v c))
+unfolding lineIn extended
 stands-more n vs cs z v c h lv lc = record { few = omega arith; is = ap (λ (fs : List Feed). record { terms = fs; right = z }) (feeds-set vs cs n v c (omega arith) (omega arith)) }
 
 pub stands-is : {r : LineRecord} {a b : Line} → a ≡ b → Stands r a → Stands r b
 stands-is e s = record { few = s .few; is = s .is ∙ e }
 
 -- a term more on a line that a record stands for
-pub stands-next : {r m : LineRecord} {l : Line} (v : ℕ) {c d : ℤ} → Stands r l → c ≡ d → Stands m (withTerm (lineIn r) (term v c)) → Stands m (withTerm l (term v d))
+pub stands-next : {r m : LineRecord} {l : Line} (v : ℕ) {c d : ℤ} → Stands r l → c ≡ d → Stands m (extended (lineIn r) (term v c)) → Stands m (extended l (term v d))
 stands-next v s e t = record { few = t .few; is = t .is ∙ rw (s .is, e) }
 
 -- ---- the feeds of a gate
@@ -54,15 +54,15 @@ module _ (negative : Bool) (φ : ℕ → ℕ) (gate : GateRecord) (right : ℤ) 
   unfolding noTerms firstTerms
   first-none = ap (λ (fs : List Feed). record { terms = map (feedTerm negative φ) fs; right = right }) (sym (feeds-none (gate .signals) (gate .weights) 0))
 
-  pub first-more : (i : ℕ) → withTerm (firstTerms negative φ gate right i)
+  pub first-more : (i : ℕ) → extended (firstTerms negative φ gate right i)
       (term (φ (getD (gate .signals) i 0)) (cond negative (negℤ (getD (gate .weights) i (pos 0))) (getD (gate .weights) i (pos 0)))) ≡ firstTerms negative φ gate right (i + 1)
-  unfolding withTerm firstTerms feedTerm feedAt
+  unfolding extended firstTerms feedTerm feedAt
   first-more i = ap (λ (fs : List Feed). record { terms = fs; right = right })
       (sym (ap (map (feedTerm negative φ)) (feeds-more (gate .signals) (gate .weights) i) ∙ map-append (feedTerm negative φ) (feedsFrom (gate .signals) (gate .weights) 0 i) _))
 
   -- as the terms are made
   pub first-step : {l : Line} {v : ℕ} {c : ℤ} (i : ℕ) → l ≡ firstTerms negative φ gate right i → v ≡ φ (getD (gate .signals) i 0)
-      → c ≡ cond negative (negℤ (getD (gate .weights) i (pos 0))) (getD (gate .weights) i (pos 0)) → withTerm l (term v c) ≡ firstTerms negative φ gate right (i + 1)
+      → c ≡ cond negative (negℤ (getD (gate .weights) i (pos 0))) (getD (gate .weights) i (pos 0)) → extended l (term v c) ≡ firstTerms negative φ gate right (i + 1)
   first-step i e d k = rw (e, d, k) (first-more i)
 
   pub first-all : firstTerms negative φ gate right (gate .fanin) ≡ feedTerms negative φ (gateIn gate) right
@@ -74,7 +74,7 @@ module _ (negative : Bool) (φ : ℕ → ℕ) (gate : GateRecord) (right : ℤ) 
   first-count i = length-map (feedsFrom (gate .signals) (gate .weights) 0 i) (feedTerm negative φ) ∙ length-feeds (gate .signals) (gate .weights) 0 i
 
 -- the size of a feed's weight
-pub scaled-at : (gate : GateRecord) → Scaled gate → (i : ℕ) → i < gate .fanin → natAbs (getD (gate .weights) i (pos 0)) ≤ 1000000
+pub scaled-at : (gate : GateRecord) → InLimits gate → (i : ℕ) → i < gate .fanin → natAbs (getD (gate .weights) i (pos 0)) ≤ 1000000
 unfolding gateIn feedAt
 scaled-at gate s i h = rw (feeds-at (gate .signals) (gate .weights) 0 (gate .fanin) i h, let e : 0 + i ≡ i = omega arith in e)
     at (each-getD (λ f. natAbs (f .weight) ≤ 1000000) (gateIn gate .feeds) noFeed (s .sizes) i (omega (arith, length-feeds (gate .signals) (gate .weights) 0 (gate .fanin))))
@@ -147,17 +147,17 @@ module _ (φ : ℕ → ℕ) where
   least-over [] = refl
   least-over (f ∷ fs) = rw (least-over fs)
 
-  pub upper-is : (y : ℕ) (g : Gate) → withTerm (feedTerms true φ g (pos 1 -ℤ g .threshold)) (term y (most (g .feeds) -ℤ g .threshold +ℤ pos 1)) ≡ upper y (overGate φ g)
-  unfolding withTerm feedTerms feedTerm upper overGate negated
+  pub upper-is : (y : ℕ) (g : Gate) → extended (feedTerms true φ g (pos 1 -ℤ g .threshold)) (term y (most (g .feeds) -ℤ g .threshold +ℤ pos 1)) ≡ upper y (overGate φ g)
+  unfolding extended feedTerms feedTerm upper overGate negated
   upper-is y g = sym (rw (most-over (g .feeds), map-map negated over (g .feeds)))
 
-  pub lower-is : (y : ℕ) (g : Gate) → withTerm (feedTerms false φ g (least (g .feeds))) (term y (least (g .feeds) -ℤ g .threshold)) ≡ lower y (overGate φ g)
-  unfolding withTerm feedTerms feedTerm lower overGate
+  pub lower-is : (y : ℕ) (g : Gate) → extended (feedTerms false φ g (least (g .feeds))) (term y (least (g .feeds) -ℤ g .threshold)) ≡ lower y (overGate φ g)
+  unfolding extended feedTerms feedTerm lower overGate
   lower-is y g = sym (rw (least-over (g .feeds)))
 
 -- ---- the lines of the outputs and the last line
-pub three-is : (p q d : ℕ) (c z : ℤ) → withTerm (withTerm (withTerm (noTerms z) (term p c)) (term q c)) (term d (negsuc 0)) ≡ threeTerms p q d c z
-unfolding withTerm noTerms threeTerms
+pub three-is : (p q d : ℕ) (c z : ℤ) → extended (extended (extended (noTerms z) (term p c)) (term q c)) (term d (negsuc 0)) ≡ threeTerms p q d c z
+unfolding extended noTerms threeTerms
 three-is p q d c z = refl
 
 pub some-is : (p q d : ℕ) → threeTerms p q d (pos 1) (pos 0) ≡ someLine p q d
@@ -172,8 +172,8 @@ pub last-none : (d : ℕ) → noTerms (pos 1) ≡ lastLine d 0
 unfolding noTerms lastLine range
 last-none d = refl
 
-pub last-more : (d n : ℕ) → withTerm (lastLine d n) (term (d + n) (pos 1)) ≡ lastLine d (n + 1)
-unfolding withTerm lastLine
+pub last-more : (d n : ℕ) → extended (lastLine d n) (term (d + n) (pos 1)) ≡ lastLine d (n + 1)
+unfolding extended lastLine
 last-more d n = ap (λ (fs : List Feed). record { terms = fs; right = pos 1 })
     (sym (ap (map (λ v. term v (pos 1))) (range-more d n) ∙ map-append (λ v. term v (pos 1)) (range d n) ((d + n) ∷ [])))
 

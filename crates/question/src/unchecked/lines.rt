@@ -10,7 +10,7 @@ ghost use lib.ListN.{getD};
 ghost use Rattle.network.specs.Record.{gateIn, netOf, soundRecord};
 ghost use Rattle.constraints.specs.Question.{term, most, least, upper, lower, secondVariable, overGate, lastLine, question};
 ghost use Rattle.constraints.specs.Text.{noLine};
-ghost use Rattle.question.specs.Lines.{lineIn, Stands, noTerms, withTerm, feedTerms, gateLine, Scaled, threeTerms, outputLine, Comparable, linesOf};
+ghost use Rattle.question.specs.Lines.{lineIn, Stands, noTerms, extended, feedTerms, gateLine, InLimits, threeTerms, outputLine, Comparable, linesOf};
 
 // A line: so many terms, each a coefficient on a variable (counted from 0), and the right side.
 pub struct LineRecord {
@@ -37,7 +37,7 @@ fn no_terms(right: i32) -> LineRecord
 // A line with one term more.
 fn with_term(line: LineRecord, variable: usize, coefficient: i32) -> LineRecord
     requires { ⌜ line .count < 17 ⌝ }
-    ensures { λ r. ⌜ Stands r (withTerm (lineIn line) (term variable coefficient)) ⌝ }
+    ensures { λ r. ⌜ Stands r (extended (lineIn line) (term variable coefficient)) ⌝ }
 {
     let at = line.count;
     let mut result = line;
@@ -75,7 +75,7 @@ fn feed_terms(
     negative: bool,
     right: i32,
 ) -> LineRecord
-    requires { ⌜ Scaled gate × (shift ≤ 128) ⌝ }
+    requires { ⌜ InLimits gate × (shift ≤ 128) ⌝ }
     ensures { λ r. ⌜ Stands r (feedTerms negative (secondVariable inputs shift) (gateIn gate) right) ⌝ }
 {
     let mut line = no_terms(right);
@@ -89,7 +89,7 @@ fn feed_terms(
 
 // The sum of a gate's positive weights.
 fn most_of(gate: GateRecord) -> i32
-    requires { ⌜ Scaled gate ⌝ }
+    requires { ⌜ InLimits gate ⌝ }
     ensures { λ r. ⌜ r ≡ most (gateIn gate .feeds) ⌝ }
 {
     let mut sum: i32 = 0;
@@ -104,7 +104,7 @@ fn most_of(gate: GateRecord) -> i32
 
 // The sum of a gate's negative weights.
 fn least_of(gate: GateRecord) -> i32
-    requires { ⌜ Scaled gate ⌝ }
+    requires { ⌜ InLimits gate ⌝ }
     ensures { λ r. ⌜ r ≡ least (gateIn gate .feeds) ⌝ }
 {
     let mut sum: i32 = 0;
@@ -119,7 +119,7 @@ fn least_of(gate: GateRecord) -> i32
 
 // The upper line of a gate with output y.
 fn upper_line(gate: GateRecord, inputs: usize, shift: usize, y: usize) -> LineRecord
-    requires { ⌜ Scaled gate × (shift ≤ 128) ⌝ }
+    requires { ⌜ InLimits gate × (shift ≤ 128) ⌝ }
     ensures { λ r. ⌜ Stands r (upper y (overGate (secondVariable inputs shift) (gateIn gate))) ⌝ }
 {
     let threshold = gate.threshold;
@@ -129,7 +129,7 @@ fn upper_line(gate: GateRecord, inputs: usize, shift: usize, y: usize) -> LineRe
 
 // The lower line of a gate with output y.
 fn lower_line(gate: GateRecord, inputs: usize, shift: usize, y: usize) -> LineRecord
-    requires { ⌜ Scaled gate × (shift ≤ 128) ⌝ }
+    requires { ⌜ InLimits gate × (shift ≤ 128) ⌝ }
     ensures { λ r. ⌜ Stands r (lower y (overGate (secondVariable inputs shift) (gateIn gate))) ⌝ }
 {
     let threshold = gate.threshold;

@@ -4,7 +4,7 @@ use Prim.Native.Nat.{_/_, _≤_, _<_}
 use native.Mathlib.Omega.{arith}
 use Rattle.network.specs.SoundLaws.{sized-of}
 use Rattle.network.specs.declared.GateRecord.{GateRecord}
-use Rattle.question.specs.Lines.{Scaled}
+use Rattle.question.specs.Lines.{InLimits}
 use Rattle.question.specs.TermLaws.{stands-is}
 use Rattle.question.specs.ComparableLaws.{row-scaled}
 use Rattle.question.specs.NumberLaws.{even-line, odd-line}
@@ -19,10 +19,10 @@ small c =
     (z .few-inputs, c .pre .1, omega arith, omega (arith, z .few-gates))
 
 -- the gate's numbers are within the limits
-scaled : (c : tie.After-gate-at) → Scaled (c .gate-at .result)
+scaled : (c : tie.After-gate-at) → InLimits (c .gate-at .result)
 scaled c =
     let start = c .before .before .before .before .before .before in
-    subst (λ (x : GateRecord). Scaled x) (sym (c .gate-at .ensures)) (row-scaled (start .args .t1) (start .args .i / 2) (start .pre .0) (small start .2))
+    subst (λ (x : GateRecord). InLimits x) (sym (c .gate-at .ensures)) (row-scaled (start .args .t1) (start .args .i / 2) (start .pre .0) (small start .2))
 
 add-y : tie.Need-add-y
 add-y c = let s = small c in record { fits = omega arith }
