@@ -28,14 +28,14 @@ fn bench() {
     pair(b"P8", networks::p8(), 1, 2);
     merge(b"P9", networks::p9(-1), 2, 3, 1, 1);
     pair(b"P9", networks::p9(-1), 2, 3);
-    merge(b"P10", networks::p10(500000, 500000), 1, 2, 2, 1);
-    merge(b"P10", networks::p10(500001, 500001), 1, 2, 2, 1);
+    merge(b"P10 500000", networks::p10(500000, 500000), 1, 2, 2, 1);
+    merge(b"P10 500001", networks::p10(500001, 500001), 1, 2, 2, 1);
     merge(b"P11", networks::p11(), 2, 3, 1, 1);
     pair(b"P11", networks::p11(), 2, 3);
 }
 
-// Sixteen and seventeen distinct signals.
-fn widths() {
+// Sixteen distinct signals.
+fn sixteen_signals() {
     let sixteen = wide::sixteen();
     pair(b"sixteen", sixteen, 16, 17);
     merge(b"sixteen", sixteen, 16, 17, 1, 8);
@@ -47,14 +47,18 @@ fn widths() {
     pair(b"sixteen_without_pair", none, 16, 17);
     merge(b"sixteen_without_pair", none, 16, 17, 1, 1);
     collapse(b"sixteen_without_pair", none, 16);
-    let seventeen = wide::seventeen(1, 1);
-    pair(b"seventeen", seventeen, 17, 18);
-    merge(b"seventeen", seventeen, 17, 18, 1, 1);
-    collapse(b"seventeen", seventeen, 17);
-    sweep(b"seventeen", seventeen, 128);
 }
 
-// Refusals of a merge: 20, 11, 12 and 13, also where later ones apply.
+// Seventeen distinct signals, of which one would drop from the merged gate.
+fn seventeen_signals() {
+    let seventeen = wide::seventeen(1, 1);
+    pair(b"seventeen 1 1", seventeen, 17, 18);
+    merge(b"seventeen 1 1", seventeen, 17, 18, 1, 1);
+    collapse(b"seventeen 1 1", seventeen, 17);
+    sweep(b"seventeen 1 1", seventeen, 128);
+}
+
+// Refusals of a merge: 20, 11 and 12, also where later ones apply.
 fn merge_refusals() {
     let broken = networks::broken();
     merge(b"broken", broken, 3, 4, 1, 3);
@@ -71,41 +75,56 @@ fn merge_refusals() {
     merge(b"F", f, 4, 3, 1, 3);
     merge(b"F", f, 3, 3, 1, 3);
     merge(b"F", f, 4, 4, 0, 33);
-    let against = networks::joined(-1);
-    merge(b"against", against, 2, 3, 1, 1);
-    merge(b"against", against, 2, 3, 0, 1);
-    merge(b"seventeen_against", wide::seventeen(1, -1), 17, 18, 1, 1);
 }
 
-// Refusals of a merge: 14, 7, 6 and 15, also where later ones apply.
-fn merge_limits() {
+// Refusals of a merge: 13, also where later ones apply.
+fn merge_grain() {
+    let against = networks::joined(-1);
+    merge(b"joined -1", against, 2, 3, 1, 1);
+    merge(b"joined -1", against, 2, 3, 0, 1);
+    merge(
+        b"seventeen 1000000 -1",
+        wide::seventeen(1000000, -1),
+        17,
+        18,
+        33,
+        1,
+    );
+}
+
+// Refusals of a merge: 14 and 7, also where later ones apply.
+fn merge_dial() {
     let f = networks::f();
     merge(b"F", f, 3, 4, 0, 3);
     merge(b"F", f, 3, 4, 33, 3);
     merge(b"F", f, 3, 4, 1, 0);
     merge(b"F", f, 3, 4, LAST, LAST);
     merge(b"F", f, 3, 4, 32, 32);
-    merge(b"seventeen", wide::seventeen(1, 1), 17, 18, 0, 1);
+    merge(b"seventeen 1 1", wide::seventeen(1, 1), 17, 18, 0, 1);
     merge(
-        b"seventeen_heavy",
+        b"seventeen 1000000 1",
         wide::seventeen(1000000, 1),
         17,
         18,
         2,
         1,
     );
-    merge(b"weight", networks::p10(500001, 1), 1, 2, 2, 1);
-    merge(b"weight", networks::p10(500001, 1), 1, 2, 33, 1);
-    merge(b"weight", networks::p10(-500001, 0), 1, 2, 2, 1);
-    merge(b"weight", networks::p10(-500000, 0), 1, 2, 2, 1);
-    merge(b"threshold", networks::p10(1, 500001), 1, 2, 2, 1);
-    merge(b"threshold", networks::p10(1, -500001), 1, 2, 2, 1);
-    merge(b"threshold", networks::p10(1, -500000), 1, 2, 2, 1);
-    merge(b"P9_heavy", networks::p9(-500001), 2, 3, 2, 1);
-    merge(b"P9_heavy", networks::p9(-500000), 2, 3, 2, 1);
-    merge(b"heavy", networks::heavy(500000), 3, 4, 1, 1);
-    merge(b"heavy", networks::heavy(500000), 3, 4, 1, 2);
-    merge(b"heavier", networks::heavy(500001), 3, 4, 1, 2);
+}
+
+// Refusals of a merge: 6 and 15, also where both apply.
+fn merge_scale() {
+    merge(b"weight 500001", networks::p10(500001, 1), 1, 2, 2, 1);
+    merge(b"weight 500001", networks::p10(500001, 1), 1, 2, 33, 1);
+    merge(b"weight -500001", networks::p10(-500001, 0), 1, 2, 2, 1);
+    merge(b"weight -500000", networks::p10(-500000, 0), 1, 2, 2, 1);
+    merge(b"threshold 500001", networks::p10(1, 500001), 1, 2, 2, 1);
+    merge(b"threshold -500001", networks::p10(1, -500001), 1, 2, 2, 1);
+    merge(b"threshold -500000", networks::p10(1, -500000), 1, 2, 2, 1);
+    merge(b"P9 -500001", networks::p9(-500001), 2, 3, 2, 1);
+    merge(b"P9 -500000", networks::p9(-500000), 2, 3, 2, 1);
+    merge(b"heavy 500000", networks::heavy(500000), 3, 4, 1, 1);
+    merge(b"heavy 500000", networks::heavy(500000), 3, 4, 1, 2);
+    merge(b"heavy 500001", networks::heavy(500001), 3, 4, 1, 2);
 }
 
 // Refusals of a pair, also where later ones apply.
@@ -120,12 +139,12 @@ fn pair_refusals() {
     pair(b"F", f, 5, 5);
     pair(b"F", f, 4, 3);
     pair(b"F", f, 3, 3);
-    pair(b"against", networks::joined(-1), 2, 3);
-    pair(b"joined", networks::joined(1), 2, 3);
-    pair(b"seventeen_against", wide::seventeen(1, -1), 17, 18);
-    pair(b"seventeen_without_pair", wide::seventeen(-1, 2), 17, 18);
-    pair(b"heavy", networks::heavy(500000), 3, 4);
-    pair(b"heavier", networks::heavy(500001), 3, 4);
+    pair(b"joined -1", networks::joined(-1), 2, 3);
+    pair(b"joined 1", networks::joined(1), 2, 3);
+    pair(b"seventeen 1 -1", wide::seventeen(1, -1), 17, 18);
+    pair(b"seventeen -1 2", wide::seventeen(-1, 2), 17, 18);
+    pair(b"heavy 500000", networks::heavy(500000), 3, 4);
+    pair(b"heavy 500001", networks::heavy(500001), 3, 4);
 }
 
 // Drops: refusals, and a gate that nobody reads.
@@ -141,7 +160,7 @@ fn drops() {
     drop_gate(b"several", several, 4);
 }
 
-// Collapses: refusals, a gate without readers, one with two, and three readers of which one or two are refused.
+// Collapses: refusals, a gate without readers, one with two readers, and an output whose reader would be refused.
 fn collapses() {
     collapse(b"broken", networks::broken(), 3);
     collapse(b"broken", networks::broken(), 9);
@@ -152,15 +171,24 @@ fn collapses() {
     collapse(b"several", several, 6);
     collapse(b"several", several, 4);
     collapse(b"several", several, 3);
-    collapse(b"readers", networks::readers(1, 1), 2);
-    collapse(b"readers", networks::readers(1, -1), 2);
-    collapse(b"readers", networks::readers(1, 2), 2);
-    collapse(b"readers", networks::readers(-1, 2), 2);
-    collapse(b"readers", networks::readers(2, -1), 2);
+    collapse(
+        b"joined -1, output 2",
+        building::output(networks::joined(-1), 2),
+        2,
+    );
+}
+
+// Collapses of a gate with readers of which the last, or more than one, is refused.
+fn refused_readers() {
+    collapse(b"readers 1 1", networks::readers(1, 1), 2);
+    collapse(b"readers 1 -1", networks::readers(1, -1), 2);
+    collapse(b"readers 1 2", networks::readers(1, 2), 2);
+    collapse(b"readers -1 2", networks::readers(-1, 2), 2);
+    collapse(b"readers 2 -1", networks::readers(2, -1), 2);
     collapse(b"wide_reader", wide::wide_reader(), 17);
 }
 
-// Sweeps: refusals, the reader limit, a gate that loses a reader, and one that is passed over.
+// Sweeps: refusals, and the reader limit.
 fn sweeps() {
     sweep(b"broken", networks::broken(), 128);
     sweep(b"broken", networks::broken(), 129);
@@ -171,8 +199,13 @@ fn sweeps() {
     sweep(b"several", several, 128);
     sweep(b"several", several, 129);
     sweep(b"several", several, LAST);
+}
+
+// Sweeps of a network with one foldable gate, of one without, of one in which a gate loses a reader, and of one in which a gate is passed over.
+fn further_sweeps() {
     sweep(b"F", networks::f(), 0);
     sweep(b"F", networks::f(), 128);
+    sweep(b"P8", networks::p8(), 128);
     sweep(b"P9", networks::p9(-1), 128);
     sweep(b"fewer_readers", networks::fewer_readers(), 0);
     sweep(b"fewer_readers", networks::fewer_readers(), 1);
@@ -220,13 +253,18 @@ fn refused_calls() {
 
 fn main() {
     bench();
-    widths();
+    sixteen_signals();
+    seventeen_signals();
     merge_refusals();
-    merge_limits();
+    merge_grain();
+    merge_dial();
+    merge_scale();
     pair_refusals();
     drops();
     collapses();
+    refused_readers();
     sweeps();
+    further_sweeps();
     list();
     refused_calls();
 }
