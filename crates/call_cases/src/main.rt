@@ -201,7 +201,7 @@ fn sweeps() {
     sweep(b"several", several, LAST);
 }
 
-// Sweeps of a network with one foldable gate, of one without, of one in which a gate loses a reader, and of one in which a gate is passed over.
+// Sweeps in which one gate folds, none does, a gate loses a reader, and a gate is passed over.
 fn further_sweeps() {
     sweep(b"F", networks::f(), 0);
     sweep(b"F", networks::f(), 128);
