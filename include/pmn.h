@@ -24,6 +24,11 @@ uint8_t pmn_check(const uint8_t *file, size_t file_length);
 uint8_t pmn_frame(const uint8_t *file, size_t file_length, uint64_t frame,
                   uint64_t *answer, size_t answer_length);
 
+/* The pair for gates u and v. answer[0]: k; answer[1]: l.
+ * Codes in order: as read, 18 where answer has under 2 places, 11, 12, 13, 7, 16. */
+uint8_t pmn_pair(const uint8_t *file, size_t file_length, uint64_t u, uint64_t v,
+                 uint64_t *answer, size_t answer_length);
+
 /* The size of the network. answer[0]: gates; answer[1]: cost; answer[2]: levels.
  * Codes in order: as read, 18 where answer has under 3 places. */
 uint8_t pmn_report(const uint8_t *file, size_t file_length,
@@ -40,6 +45,16 @@ uint8_t pmn_write(const uint8_t *file, size_t file_length,
 uint8_t pmn_part(const uint8_t *file, size_t file_length, uint64_t signal,
                  uint8_t *out, size_t out_length,
                  uint64_t *answer, size_t answer_length);
+
+/* Runs a list of calls, five numbers to a call: kind and four numbers, of which a kind passes over those it does not use
+ * (0: merge u v k l, 1: drop s, 2: collapse s, 3: sweep B). The file of the network after the list goes to the front of out.
+ * answers[0]: its length; then, for each call, its code and its collapses (0 for all but a sweep).
+ * Codes in order: as read, 14 where the number of numbers is no multiple of 5 or a kind is above 3, 18 where answers has under
+ * 1 + 2 x (number of calls) places or the file is longer than out. A refused call in the list is no refusal of the run. */
+uint8_t pmn_run(const uint8_t *file, size_t file_length,
+                const uint64_t *calls, size_t calls_length,
+                uint64_t *answers, size_t answers_length,
+                uint8_t *out, size_t out_length);
 
 #ifdef __cplusplus
 }
