@@ -167,6 +167,15 @@ write-layout N n s =
     sound-first N s _ _
     ∙ ap (λ (M : Net). checks ((leb (length (fileBytes M)) n else 18) ∷ []) (accepted (length (fileBytes M)))) (netOf-layout N s)
 
+-- where the file has room
+pub write-fits : (N : Net) → Sound N → (out : List ℕ) → leb (length (fileBytes N)) (length out) ≡ true
+    → (written (layout N) (length out) ≡ record { code = 0; length = length (fileBytes N) }) × (bytesAfter (layout N) out ≡ fileBytes N ++ drop (length (fileBytes N)) out)
+unfolding written asWritten bytesAfter bytesOf
+write-fits N s out t =
+    let n = length (fileBytes N) in
+    let e = write-layout N (length out) s ∙ checks-next (leb n (length out)) 18 [] (accepted n) t ∙ checks-none (accepted n) in
+    (ap asWritten e, (λ x. bytesOf (e x) (fileBytes (netOf-layout N s x)) out))
+
 pub write-answer : {file : List ℕ} {r : Network} (a : FileRead file r) (out lent : List ℕ) → 1 ≤ length lent → {w : Written} → w ≡ written r (length out)
     → {after : List ℕ} → after ≡ bytesAfter r out → Wrote (fileOut file out lent) (w .code) (w .length) out after lent
 unfolding fileOut room written bytesAfter

@@ -5,3 +5,4 @@ pub mod AnswerLaws
 pub mod ExportLaws
 pub mod Running
 pub mod RunLaws
+pub mod RunAnswerLaws
