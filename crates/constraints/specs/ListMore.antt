@@ -8,21 +8,9 @@ use lib.ListN.{length, getD}
 use lib.Seq.{getD-append-add}
 use Rattle.integers.specs.Lists.{range}
 use Rattle.integers.specs.ListLaws.{Each}
+pub use Rattle.integers.specs.ListLaws.{each-append, append-left, append-right}
 
 module _ {A : Type 0} where
-  -- ---- joined lists
-  pub each-append : (P : A → Type 0) (xs ys : List A) → Each P xs → Each P ys → Each P (xs ++ ys)
-  each-append P [] ys h k = k
-  each-append P (x ∷ xs) ys h k = (h .0, each-append P xs ys (h .1) k)
-
-  pub append-left : (P : A → Type 0) (xs ys : List A) → Each P (xs ++ ys) → Each P xs
-  append-left P [] ys h = tt
-  append-left P (x ∷ xs) ys h = (h .0, append-left P xs ys (h .1))
-
-  pub append-right : (P : A → Type 0) (xs ys : List A) → Each P (xs ++ ys) → Each P ys
-  append-right P [] ys h = h
-  append-right P (x ∷ xs) ys h = append-right P xs ys (h .1)
-
   -- member i of the second list stands behind the first list's members
   pub getD-behind : (xs ys : List A) (d : A) (n i : ℕ) → n ≡ length xs → getD (xs ++ ys) (n + i) d ≡ getD ys i d
   getD-behind xs ys d n i e = rw e (getD-append-add xs ys i d)

@@ -8,6 +8,7 @@ use native.Mathlib.Omega.{arith}
 use lib.ListN.{length, getD}
 use Rattle.integers.specs.Lists.{range}
 use Rattle.integers.specs.ListLaws.{Each}
+pub use Rattle.integers.specs.ListLaws.{each-append, append-left, append-right}
 
 module _ {A : Type 0} where
   -- each member with its number, the first with number n
@@ -21,19 +22,6 @@ module _ {A : Type 0} where
     subst (λ m. P m x) (let e : n + 0 ≡ n = omega arith in e) (h 0 (omega arith)),
     each-from P (suc n) xs d λ i k. subst (λ m. P m (getD xs i d)) (let e : n + suc i ≡ suc n + i = omega arith in e) (h (suc i) (omega arith)),
   )
-
-  -- ---- joined lists
-  pub each-append : (P : A → Type 0) (xs ys : List A) → Each P xs → Each P ys → Each P (xs ++ ys)
-  each-append P [] ys h k = k
-  each-append P (x ∷ xs) ys h k = (h .0, each-append P xs ys (h .1) k)
-
-  pub append-left : (P : A → Type 0) (xs ys : List A) → Each P (xs ++ ys) → Each P xs
-  append-left P [] ys h = tt
-  append-left P (x ∷ xs) ys h = (h .0, append-left P xs ys (h .1))
-
-  pub append-right : (P : A → Type 0) (xs ys : List A) → Each P (xs ++ ys) → Each P ys
-  append-right P [] ys h = h
-  append-right P (x ∷ xs) ys h = append-right P xs ys (h .1)
 
   -- ---- rising order
 

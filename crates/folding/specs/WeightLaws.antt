@@ -11,6 +11,7 @@ use lib.IntN.{ℤ, pos, negsuc, natAbs, _+ℤ_, _*ℤ_, +ℤ-idl}
 use Rattle.integers.specs.Lists.{all, keep, range, other}
 use Rattle.integers.specs.Tests.{is-true, is-false, T-and, eqb-no, cond-case}
 use Rattle.integers.specs.Integer.{#, nat, _⊕_, _⊙_, eq-of}
+use Rattle.equivalence.specs.ConsistentLaws.{assign-same, assign-other}
 use Rattle.network.specs.Threshold.{Feed, Assignment, sum, assign}
 use Rattle.network.specs.Limits.{signalsOf, inScale, isZero, weightOk}
 use Rattle.network.specs.LimitLaws.{Rise}
@@ -106,14 +107,6 @@ sum-kept σ ρ w p a (suc n) h k = rw (
   sum-kept σ ρ w p (suc a) n (λ x l. h x (omega arith)) (λ x l. k x (omega arith)),
 )
 
-assign-same : (ρ : Assignment) (u : ℕ) (b : Bool) → assign ρ u b u ≡ b
-unfolding assign
-assign-same ρ u b = rw (is-true (eqb u u) (eqb-refl u))
-
-assign-other : (ρ : Assignment) (u x : ℕ) (b : Bool) → x ≢ u → assign ρ u b x ≡ ρ x
-unfolding assign
-assign-other ρ u x b h = rw (eqb-no x u h)
-
 -- u, which is not kept, has the bit b; other signals that are not kept have no weight
 pub sum-split : (ρ : Assignment) (w : ℕ → ℤ) (p : ℕ → Bool) (u : ℕ) (b : Bool) (a n : ℕ) → T (not (p u)) → ((x : ℕ) → x ≢ u → T (not (p x)) → w x ≡ pos 0) → a ≤ u → u < a + n
     → sum (assign ρ u b) (weighted w (range a n)) ≡ cond b (w u) (pos 0) +ℤ sum ρ (weighted w (keep p (range a n)))
@@ -126,7 +119,7 @@ sum-split ρ w p u b a (suc n) t k l m = elim (decLt a u) as (λ d. sum (assign 
       let z = sum ρ (weighted w (keep p (range (suc a) n))) in
       rw (
         sum-first ρ w p a (range (suc a) n),
-        same-term (p a) (assign ρ u b a) (ρ a) (w a) (λ i. assign-other ρ u a b (λ q. omega arith)) (k a (λ q. omega arith)),
+        same-term (p a) (assign ρ u b a) (ρ a) (w a) (λ i. assign-other ρ u b a (λ q. omega arith)) (k a (λ q. omega arith)),
         sum-split ρ w p u b (suc a) n t k j (omega arith),
       ) (eq-of (# x ⊕ (# y ⊕ # z)) (# y ⊕ (# x ⊕ # z)) (omega arith))
   | no j ↦
@@ -137,7 +130,7 @@ sum-split ρ w p u b a (suc n) t k l m = elim (decLt a u) as (λ d. sum (assign 
         is-false (p u) t,
         assign-same ρ u b,
         +ℤ-idl (sum ρ (weighted w (keep p (range (suc u) n)))),
-        sum-kept (assign ρ u b) ρ w p (suc u) n (λ x i q. assign-other ρ u x b (λ r. omega arith)) (λ x i q. k x (λ r. omega arith) q),
+        sum-kept (assign ρ u b) ρ w p (suc u) n (λ x i q. assign-other ρ u b x (λ r. omega arith)) (λ x i q. k x (λ r. omega arith) q),
       )
 ]
 

@@ -77,6 +77,19 @@ module _ {A : Type 0} where
   length-keep p (x ∷ xs) = elim (p x) as (λ b. length (cond b (x ∷ keep p xs) (keep p xs)) ≤ suc (length xs))
       [ true ↦ omega (arith, length-keep p xs) | false ↦ omega (arith, length-keep p xs) ]
 
+  -- ---- joined lists
+  pub each-append : (P : A → Type 0) (xs ys : List A) → Each P xs → Each P ys → Each P (xs ++ ys)
+  each-append P [] ys h k = k
+  each-append P (x ∷ xs) ys h k = (h .0, each-append P xs ys (h .1) k)
+
+  pub append-left : (P : A → Type 0) (xs ys : List A) → Each P (xs ++ ys) → Each P xs
+  append-left P [] ys h = tt
+  append-left P (x ∷ xs) ys h = (h .0, append-left P xs ys (h .1))
+
+  pub append-right : (P : A → Type 0) (xs ys : List A) → Each P (xs ++ ys) → Each P ys
+  append-right P [] ys h = h
+  append-right P (x ∷ xs) ys h = append-right P xs ys (h .1)
+
 pub all-other : (u : ℕ) (ss : List ℕ) → T (all (other u) ss) → Each (λ s. s ≢ u) ss
 all-other u = each-of (other u) (λ s. s ≢ u) (other-ne u)
 

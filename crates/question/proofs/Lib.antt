@@ -1,0 +1,5 @@
+pub mod PartWrites
+pub mod PutLaws
+pub mod SignLaws
+pub mod SumLaws
+pub mod GateNumbers

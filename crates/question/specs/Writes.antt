@@ -1,0 +1,32 @@
+-- What the writers of text promise and ask for. Nothing is proved here.
+use mathlib.Core.Path.{_≡_}
+use mathlib.Core.List.{List, [], _∷_, _++_}
+use Prim.Native.Nat.{ℕ, _≤_}
+use lib.IntN.{ℤ}
+use lib.ListN.{length, drop}
+use Rattle.integers.specs.ListLaws.{Each}
+use Rattle.network.specs.Threshold.{Feed}
+use Rattle.constraints.specs.Text.{rightSide, termsText}
+use Rattle.constraints.specs.TextLaws.{Within}
+use Rattle.constraints.specs.SizeLaws.{Narrow}
+use Rattle.question.specs.declared.unchecked.lines.LineRecord.{LineRecord}
+use Rattle.question.specs.Lines.{lineIn}
+
+-- a text of r bytes stands at the front, and after it what stood there before
+pub record Put (text : List ℕ) (r : ℕ) (old new : List ℕ) : Type 0 where
+  pub long : length text ≡ r
+  pub bytes : new ≡ text ++ drop r old
+
+-- `>= `, the right side, ` ;` and a line feed
+unfoldable pub relationText : ℤ → List ℕ
+relationText z = (62 ∷ 61 ∷ 32 ∷ rightSide z) ++ (32 ∷ 59 ∷ 10 ∷ [])
+
+-- terms with numbers small enough, whose text has room
+pub record Printable (terms : List Feed) (room : ℕ) : Type 0 where
+  pub numbers : Each (Within 8 3) terms
+  pub short : length (termsText terms) ≤ room
+
+-- a line's record whose line has small numbers and a short text
+pub record PrintableLine (line : LineRecord) : Type 0 where
+  pub few : line .count ≤ 17
+  pub narrow : Narrow (lineIn line)
