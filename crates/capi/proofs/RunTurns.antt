@@ -1,7 +1,7 @@
 -- The turns of the loops that run a list of calls. Assumes nothing.
 use mathlib.Core.Path.{_≡_, refl, sym, ap, _∙_}
 use mathlib.Core.Bool.{true}
-use mathlib.Core.List.{List, [], _∷_}
+use mathlib.Core.List.{List, []}
 use Prim.Native.Nat.{ℕ, _+_, _*_, _/_, _<_, _≤_}
 use native.Mathlib.Omega.{arith}
 use lib.ListN.{length, drop, set, length-set, drop-of-length-le}
@@ -12,7 +12,7 @@ use Rattle.folding.specs.Calls.{answer, calls}
 use Rattle.collapse.specs.declared.Outcome.{Outcome}
 use Rattle.capi.specs.Runs.{wellFormed, callsIn, answersOf}
 use Rattle.capi.specs.Running.{Holds, callAt, Stepped}
-use Rattle.capi.specs.RunLaws.{count-calls, next-holds, next-calls, next-answers, answers-length, after-two, store-two}
+use Rattle.capi.specs.RunLaws.{count-calls, next-holds, next-calls, next-answers, after-two, store-two}
 
 -- r is the record before call i of a list that began with r₀
 pub record Reached (r₀ : Network) (ns : List ℕ) (i : ℕ) (r : Network) : Type 0 where

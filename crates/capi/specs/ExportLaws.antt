@@ -20,7 +20,7 @@ use Rattle.network.specs.Reading.{frameAnswer, asReading, reading}
 use Rattle.network.specs.Changes.{gateAt}
 use Rattle.network.specs.declared.Network.{Network}
 use Rattle.network.specs.declared.Reading.{Reading}
-use Rattle.format.specs.Format.{Read, Bytes, gateBytes, fileBytes}
+use Rattle.format.specs.Format.{Read, Bytes, fileBytes}
 use Rattle.format.specs.Part.{partIn, partOfRead, partAnswer, asPart}
 use Rattle.format.specs.PartLaws.{part-stray, part-found}
 use Rattle.format.specs.LengthLaws.{gateBytes-length}
@@ -34,7 +34,7 @@ use Rattle.collapse.specs.FuseLaws.{Numbered, readerPair-numbered, pair-reader}
 use Rattle.collapse.specs.declared.PairFound.{PairFound}
 use Rattle.report.specs.Size.{cost, levels, reportOf, reported}
 use Rattle.report.specs.declared.SizeReport.{SizeReport}
-use Rattle.capi.specs.Exports.{readNet, codeOf, stored, room, framePlaces, pairPlaces, reportPlaces, lengthOf, fileOut, partOut}
+use Rattle.capi.specs.Exports.{codeOf, stored, room, framePlaces, pairPlaces, reportPlaces, lengthOf, fileOut, partOut}
 use Rattle.capi.specs.Places.{answerOf}
 use Rattle.capi.specs.AnswerLaws.{left-two, FileRead, read-room}
 
@@ -143,7 +143,7 @@ pub record Wrote (a : Answer (List ℕ)) (code n : ℕ) (out after lent : List �
   pub places : stored (answerOf code (n ∷ [])) lent ≡ stored (lengthOf a) lent
 
 module _ {a b : Answer (List ℕ)} {c d : ℕ} {m n : ℕ} {out x y lent : List ℕ} where
-  wrote-same : a ≡ b → c ≡ d → m ≡ n → x ≡ y → Wrote b d n out y lent → Wrote a c m out x lent
+  pub wrote-same : a ≡ b → c ≡ d → m ≡ n → x ≡ y → Wrote b d n out y lent → Wrote a c m out x lent
   wrote-same ea ec em ex w = record {
     number = ec ∙ w .number ∙ sym (ap codeOf ea);
     bytes = ex ∙ w .bytes ∙ sym (ap (λ (z : Answer (List ℕ)). stored z out) ea);

@@ -3,6 +3,7 @@ pub mod Runs
 pub mod Places
 pub mod AnswerLaws
 pub mod ExportLaws
+pub mod LineLaws
 pub mod Running
 pub mod RunLaws
 pub mod RunAnswerLaws

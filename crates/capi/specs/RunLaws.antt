@@ -2,12 +2,12 @@
 -- file. Assumes nothing.
 use mathlib.Core.Path.{_≡_, refl, sym, ap, _∙_, subst}
 use mathlib.Core.Bool.{true, false, _&&_, false≢true}
-use mathlib.Core.List.{List, [], _∷_, _++_}
+use mathlib.Core.List.{List, [], _∷_}
 use Prim.Native.Nat.{ℕ, zero, suc, _+_, _*_, _<_, _≤_}
 use native.Mathlib.Nat.{add-zero}
 use native.Mathlib.Omega.{arith}
 use lib.Dec.{T, leb}
-use lib.ListN.{length, getD, take, drop, set, length-append, length-drop}
+use lib.ListN.{length, getD, drop, set, length-append, length-drop}
 use lib.Seq.{drop-drop, getD-drop, paste, paste-suc}
 use Rattle.integers.specs.Refusals.{Answer, accepted, refused}
 use Rattle.integers.specs.Tests.{is-true, and-right}
@@ -25,7 +25,7 @@ use Rattle.folding.specs.Sweep.{Swept}
 use Rattle.folding.specs.Calls.{answer, leaves, calls}
 use Rattle.folding.specs.GuaranteeLaws.{calls-kept}
 use Rattle.folding.specs.declared.Call.{Call}
-use Rattle.folding.specs.declared.Call.the-variants.{Merge, Drop, Collapse, Sweep}
+use Rattle.folding.specs.declared.Call.the-variants.{Sweep}
 use Rattle.collapse.specs.Answers.{onRecord, asOutcome, applied}
 use Rattle.collapse.specs.declared.Outcome.{Outcome}
 use Rattle.capi.specs.Exports.{codeOf}

@@ -1,7 +1,7 @@
 // The folder for C and Rust: each function takes a PMN file and numbers, and answers 0 or the refusal. include/pmn.h has the
 // declarations; a slice is a pointer and then a length.
 ghost use mathlib.Core.Path.{_≡_};
-ghost use Rattle.capi.specs.Exports.{readNet, codeOf, stored, lengthOf, framePlaces, pairPlaces, reportPlaces, fileOut, partOut};
+ghost use Rattle.capi.specs.Exports.{readNet, codeOf, stored, lengthOf, framePlaces, pairPlaces, reportPlaces, fileOut, partOut, lineOut};
 ghost use Rattle.capi.specs.Runs.{runAnswer, fileOf, numbersOf};
 
 // The network of a file is read, and nothing more.
@@ -116,6 +116,36 @@ pub extern "C" fn pmn_part(file: &[u8], signal: u64, out: &mut [u8], answer: &mu
     }
     unchecked::places::copy(part, out);
     unchecked::places::put_one(answer, 0, length as u64)
+}
+
+// Line n of the question for two files is put into `out`, and its length goes into place 0 of the answer.
+#[no_mangle]
+pub extern "C" fn pmn_line(
+    first: &[u8],
+    second: &[u8],
+    n: u64,
+    out: &mut [u8],
+    answer: &mut [u64],
+) -> u8
+    ensures { λ r. ⌜ r ≡ codeOf (lineOut (now (first .entry)) (now (second .entry)) n (now (out .entry)) (now (answer .entry))) ⌝ }
+    ensures { λ _. ⌜ now (out .exit) ≡ stored (lineOut (now (first .entry)) (now (second .entry)) n (now (out .entry)) (now (answer .entry))) (now (out .entry)) ⌝ }
+    ensures { λ _. ⌜ now (answer .exit) ≡ stored (lengthOf (lineOut (now (first .entry)) (now (second .entry)) n (now (out .entry)) (now (answer .entry)))) (now (answer .entry)) ⌝ }
+{
+    let one = pmn::read(first);
+    let code = one.code;
+    if code != 0 {
+        return code;
+    }
+    let other = pmn::read(second);
+    let refusal = other.code;
+    if refusal != 0 {
+        return refusal;
+    }
+    if answer.len() < 1 {
+        return 18;
+    }
+    let written = question::line(one.network, other.network, n as usize, out);
+    unchecked::places::put_one(answer, written.code, written.length as u64)
 }
 
 // The list of calls is run: each call's code and collapses go into the answers from place 1 on, the file of the network after the list
