@@ -1,10 +1,10 @@
-/* The folder's functions for C: threshold networks in PMN files.
+/* The folder's functions for C: threshold networks in PMN files (libcapi.a).
  *
  * Every function takes whole files and numbers, and answers 0 or the number of a refusal (the table of codes in document 01).
  * A slice is a pointer and then a length, in bytes for uint8_t and in numbers for uint64_t. A slice that is written overlaps
  * no other slice of the same call. A pointer is not null, even where the length is 0.
  *
- * Every function reads its file first: the refusal is the read's, 1 to 9, before any other. On a refusal everything that was
+ * Every function reads its file first: the refusal is the read's ("as read", 1 to 9), before any other. On a refusal everything that was
  * lent is left as it was; where the answer is 0, places and bytes after those named are left as they were. */
 #ifndef PMN_H
 #define PMN_H
@@ -24,7 +24,7 @@ uint8_t pmn_check(const uint8_t *file, size_t file_length);
 uint8_t pmn_frame(const uint8_t *file, size_t file_length, uint64_t frame,
                   uint64_t *answer, size_t answer_length);
 
-/* The pair for gates u and v. answer[0]: k; answer[1]: l.
+/* The pair for the gates with signals u and v. answer[0]: k; answer[1]: l.
  * Codes in order: as read, 18 where answer has under 2 places, 11, 12, 13, 7, 16. */
 uint8_t pmn_pair(const uint8_t *file, size_t file_length, uint64_t u, uint64_t v,
                  uint64_t *answer, size_t answer_length);
@@ -46,11 +46,26 @@ uint8_t pmn_part(const uint8_t *file, size_t file_length, uint64_t signal,
                  uint8_t *out, size_t out_length,
                  uint64_t *answer, size_t answer_length);
 
-/* Runs a list of calls, five numbers to a call: kind and four numbers, of which a kind passes over those it does not use
- * (0: merge u v k l, 1: drop s, 2: collapse s, 3: sweep B). The file of the network after the list goes to the front of out.
- * answers[0]: its length; then, for each call, its code and its collapses (0 for all but a sweep).
- * Codes in order: as read, 14 where the number of numbers is no multiple of 5 or a kind is above 3, 18 where answers has under
- * 1 + 2 x (number of calls) places or the file is longer than out. A refused call in the list is no refusal of the run. */
+/* Puts line n of the question for two files, line feed included, at the front of out. answer[0]: its length.
+ * Codes in order: as the first file is read, as the second is read, 18 where answer has no place, 19, 21, 18 where the line is
+ * longer than out. No line is longer than 254 bytes. */
+uint8_t pmn_line(const uint8_t *first, size_t first_length,
+                 const uint8_t *second, size_t second_length, uint64_t n,
+                 uint8_t *out, size_t out_length,
+                 uint64_t *answer, size_t answer_length);
+
+/* Runs a list of calls on the network of a file, and puts the file of the network after the list at the front of out.
+ * calls has five numbers for each call: a kind and four numbers, of which a kind passes over those that it does not use.
+ *     0, u, v, k, l   merge of u into v with k and l
+ *     1, s            drop of s
+ *     2, s            collapse of s
+ *     3, B            sweep with reader limit B
+ * Each call gets the network that the call before it left; a refused call leaves it as it was, and the list goes on.
+ * answers[0]: the length of the file in out. Then two numbers for each call: its code, 0 where it is accepted, and the number of
+ * collapses of a sweep, 0 for every other call.
+ * Codes in order: as read, 14 where calls_length is no multiple of 5 or a kind is above 3, 18 where answers has fewer places than
+ * 1 and 2 for each call, or out is shorter than the file. With 10,904 bytes or more in out, which hold any file, the list is run
+ * once; with fewer it is run twice. */
 uint8_t pmn_run(const uint8_t *file, size_t file_length,
                 const uint64_t *calls, size_t calls_length,
                 uint64_t *answers, size_t answers_length,

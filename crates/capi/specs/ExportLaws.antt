@@ -1,20 +1,18 @@
--- What the functions answer, by the calls that they make: on the record of an accepted file, whose network is sound, each call's code
--- and numbers are those of the definition. Assumes nothing.
-use mathlib.Core.Path.{_≡_, refl, sym, ap, _∙_}
-use mathlib.Core.Bool.{Bool, true, false}
+-- What each function answers, by the call that it makes: on the record of an accepted file, whose network is sound, the call's code and
+-- numbers are those of the definition. Assumes nothing.
+use mathlib.Core.Path.{_≡_, refl, sym, ap, _∙_, subst}
+use mathlib.Core.Bool.{Bool, true, false, cond, _&&_}
 use mathlib.Core.List.{List, [], _∷_, _++_}
 use Prim.Native.Nat.{ℕ, zero, suc, _<_, _≤_}
-use native.Mathlib.Nat.{zero-add}
 use native.Mathlib.Omega.{arith}
 use borrow.Author.Tests.{le-leb, lt-leb}
 use lib.Dec.{leb}
 use lib.ListN.{length, drop}
-use lib.Seq.{sets, sets-eq}
 use Rattle.integers.specs.Refusals.{Answer, accepted, refused, Test, _else_, checks, bind}
 use Rattle.integers.specs.RefusalLaws.{checks-first, checks-next, checks-none}
-use Rattle.integers.specs.Tests.{is-true}
+use Rattle.integers.specs.Tests.{is-true, is-false, cond-case}
 use Rattle.network.specs.Threshold.{Net, frame, fitsFrame, outputBits, wordOf, onesOf}
-use Rattle.network.specs.Limits.{isGate}
+use Rattle.network.specs.Limits.{isGate, sound}
 use Rattle.network.specs.LimitLaws.{Sound}
 use Rattle.network.specs.Record.{netOf, layout, soundRecord}
 use Rattle.network.specs.RecordLaws.{netOf-layout, sound-layout}
@@ -22,112 +20,32 @@ use Rattle.network.specs.Reading.{frameAnswer, asReading, reading}
 use Rattle.network.specs.Changes.{gateAt}
 use Rattle.network.specs.declared.Network.{Network}
 use Rattle.network.specs.declared.Reading.{Reading}
-use Rattle.format.specs.Format.{Read, done, Bytes, gateBytes, fileBytes, parseFile}
+use Rattle.format.specs.Format.{Read, Bytes, fileBytes}
 use Rattle.format.specs.Part.{partIn, partOfRead, partAnswer, asPart}
 use Rattle.format.specs.PartLaws.{part-stray, part-found}
 use Rattle.format.specs.LengthLaws.{gateBytes-length}
-use Rattle.pmn.specs.Answers.{asLoaded, loaded, writeAnswer, asWritten, written, bytesOf, bytesAfter}
-use Rattle.pmn.specs.OpenLaws.{Opened, opened, loaded-net, opened-sound}
-use Rattle.pmn.specs.declared.Loaded.{Loaded}
+use Rattle.pmn.specs.Answers.{writeAnswer, asWritten, written, bytesOf, bytesAfter}
+use Rattle.pmn.specs.OpenLaws.{Opened}
 use Rattle.pmn.specs.declared.Written.{Written}
+use Rattle.folding.specs.Merge.{edge, reads, silent}
+use Rattle.folding.specs.Pair.{Pair, pairOf, pair}
+use Rattle.collapse.specs.Answers.{onRecord, asPair, pairFound}
+use Rattle.collapse.specs.FuseLaws.{Numbered, readerPair-numbered, pair-reader}
+use Rattle.collapse.specs.declared.PairFound.{PairFound}
 use Rattle.report.specs.Size.{cost, levels, reportOf, reported}
 use Rattle.report.specs.declared.SizeReport.{SizeReport}
-use Rattle.capi.specs.Exports.{asAnswer, readNet, codeOf, stored, room, framePlaces, reportPlaces, lengthOf, fileOut, partOut}
+use Rattle.capi.specs.Exports.{codeOf, stored, room, framePlaces, pairPlaces, reportPlaces, lengthOf, fileOut, partOut}
 use Rattle.capi.specs.Places.{answerOf}
-
--- ---- answers
-module _ {a b : Answer (List ℕ)} (e : a ≡ b) (lent out : List ℕ) where
-  -- equal answers leave the same in one lent slice
-  pub left-one : (codeOf b ≡ codeOf a) × (stored b lent ≡ stored a lent)
-  left-one = (sym (ap codeOf e), sym (ap (λ (x : Answer (List ℕ)). stored x lent) e))
-
-  -- and in bytes and the place of their length
-  pub left-two : (codeOf b ≡ codeOf a) × ((stored b out ≡ stored a out) × (stored (lengthOf b) lent ≡ stored (lengthOf a) lent))
-  left-two = (
-    sym (ap codeOf e),
-    (sym (ap (λ (x : Answer (List ℕ)). stored x out) e), sym (ap (λ (x : Answer (List ℕ)). stored (lengthOf x) lent) e)),
-  )
-
--- a refusal: its number, and everything as it was
-pub refused-one : {a : Answer (List ℕ)} {k : ℕ} (lent : List ℕ) → a ≡ refused k → (k ≡ codeOf a) × (lent ≡ stored a lent)
-unfolding codeOf stored
-refused-one lent e = left-one e lent []
-
-pub refused-two : {a : Answer (List ℕ)} {k : ℕ} (out lent : List ℕ) → a ≡ refused k → (k ≡ codeOf a) × ((out ≡ stored a out) × (lent ≡ stored (lengthOf a) lent))
-unfolding codeOf stored lengthOf
-refused-two out lent e = left-two e lent out
-
--- a call's code and numbers: that code, and the numbers stored where it is 0
-module _ (k : ℕ) (xs lent : List ℕ) where
-  code-of : k ≡ codeOf (answerOf k xs)
-  unfolding codeOf answerOf
-  code-of = elim k as (λ n. n ≡ codeOf (answerOf n xs)) [ zero ↦ refl | suc n ↦ refl ]
-
-  pub put-places : k ≡ 0 → length xs ≤ length lent → sets lent 0 xs ≡ stored (answerOf k xs) lent
-  unfolding stored answerOf
-  put-places e h = sets-eq xs lent 0 (omega arith) ∙ ap (λ (n : ℕ). xs ++ drop n lent) (zero-add (length xs)) ∙ sym (ap (λ (n : ℕ). stored (answerOf n xs) lent) e)
-
-  pub keep-places : (k ≡ 0 → ⊥) → lent ≡ stored (answerOf k xs) lent
-  unfolding stored answerOf
-  keep-places h = elim k as (λ n. (n ≡ 0 → ⊥) → lent ≡ stored (answerOf n xs) lent) [ zero ↦ λ z. absurd (z refl) | suc n ↦ λ z. refl ] h
-
-  -- the function's answer, where it is that of the call
-  pub placed : {a : Answer (List ℕ)} {r : ℕ} {after : List ℕ} → a ≡ answerOf k xs → (r ≡ k) × (after ≡ stored (answerOf k xs) lent) → (r ≡ codeOf a) × (after ≡ stored a lent)
-  placed e h = let l = left-one e lent [] in (h .0 ∙ code-of ∙ l .0, h .1 ∙ l .1)
-
--- ---- the read
-
--- its code is that of the definition
-pub read-code : (file : List ℕ) {l : Loaded} → l ≡ loaded file → l .code ≡ codeOf (readNet file)
-unfolding loaded asLoaded readNet asAnswer codeOf
-read-code file e = ap (λ (x : Loaded). x .code) e ∙ go (parseFile file)
-  where
-    go : (r : Read Net) → asLoaded r .code ≡ codeOf (asAnswer r)
-    go (Read.refused k) = refl
-    go (done N l) = refl
-
--- an accepted file: its network, which is sound, and the record that was read
-pub record Accepted (file : List ℕ) (r : Network) : Type 0 where
-  pub read : Opened file
-  pub sound : Sound (read .net)
-  pub laid : r ≡ layout (read .net)
-
-pub read-accepted : (file : List ℕ) → Bytes file → {l : Loaded} → l ≡ loaded file → l .code ≡ 0 → Accepted file (l .network)
-read-accepted file bytes {l} e h =
-    let o = opened file (sym (ap (λ (x : Loaded). x .code) e) ∙ h) in
-    record { read = o; sound = opened-sound file bytes o; laid = ap (λ (x : Loaded). x .network) (e ∙ loaded-net file o) }
-
-module _ {A : Type 0} (file : List ℕ) where
-  -- a code that is not 0 is the answer, whatever follows the read
-  pub read-refused : (f : Net → Answer A) {k : ℕ} → k ≡ codeOf (readNet file) → (k ≡ 0 → ⊥) → bind (readNet file) f ≡ refused k
-  unfolding bind codeOf
-  read-refused f {k} e h = go (readNet file) e
-    where
-      go : (r : Answer Net) → k ≡ codeOf r → bind r f ≡ refused k
-      go (accepted N) e = absurd (h e)
-      go (refused j) e = ap refused (sym e)
-
-  -- what follows is given the network
-  read-on : (o : Opened file) (f : Net → Answer A) → bind (readNet file) f ≡ f (o .net)
-  unfolding bind readNet asAnswer
-  read-on o f = ap (λ (r : Read Net). bind (asAnswer r) f) (o .reads)
-
-  module _ (o : Opened file) (n : ℕ) (lent : List ℕ) (ts : Net → List Test) (f : Net → Answer A) where
-    -- too few places for the answer, the first test after the read
-    pub read-short : length lent < n → bind (readNet file) (λ N. checks ((room n lent else 18) ∷ ts N) (f N)) ≡ refused 18
-    unfolding room
-    read-short h =
-        read-on o (λ N. checks ((room n lent else 18) ∷ ts N) (f N)) ∙ checks-first (leb n (length lent)) 18 (ts (o .net)) (f (o .net)) (lt-leb n (length lent) h)
-
-    -- enough of them: the tests after that
-    pub read-room : n ≤ length lent → bind (readNet file) (λ N. checks ((room n lent else 18) ∷ ts N) (f N)) ≡ checks (ts (o .net)) (f (o .net))
-    unfolding room
-    read-room h =
-        read-on o (λ N. checks ((room n lent else 18) ∷ ts N) (f N)) ∙ checks-next (leb n (length lent)) 18 (ts (o .net)) (f (o .net)) (le-leb n (length lent) h)
+use Rattle.capi.specs.AnswerLaws.{left-two, FileRead, read-room}
 
 -- the record of a sound network passes the first test of every call
 sound-first : {A : Type 0} (N : Net) → Sound N → (ts : List Test) (r : Answer A) → checks ((soundRecord (layout N) else 20) ∷ ts) r ≡ checks ts r
 sound-first N s ts r = checks-next (soundRecord (layout N)) 20 ts r (is-true (soundRecord (layout N)) (sound-layout N s))
+
+-- a call on the record of a sound network is the call on the network
+pub on-layout : {A : Type 0} (N : Net) → Sound N → (call : Net → Answer A) → onRecord (layout N) call ≡ call N
+unfolding onRecord
+on-layout N s call = sound-first N s [] (call (netOf (layout N))) ∙ checks-none (call (netOf (layout N))) ∙ ap call (netOf-layout N s)
 
 -- ---- a frame
 layout-inputs : (N : Net) → layout N .inputs ≡ N .inputs
@@ -150,7 +68,7 @@ unfolding asReading checks answerOf
 reading-test true bs = refl
 reading-test false bs = refl
 
-pub frame-answer : {file : List ℕ} {r : Network} (a : Accepted file r) (x : ℕ) (lent : List ℕ) → 2 ≤ length lent → {g : Reading} → g ≡ reading r x
+pub frame-answer : {file : List ℕ} {r : Network} (a : FileRead file r) (x : ℕ) (lent : List ℕ) → 2 ≤ length lent → {g : Reading} → g ≡ reading r x
     → framePlaces file x lent ≡ answerOf (g .code) (g .bits ∷ g .ones ∷ [])
 unfolding framePlaces
 frame-answer a x lent h e =
@@ -158,6 +76,41 @@ frame-answer a x lent h e =
     read-room _ (a .read) 2 lent _ _ h
     ∙ reading-test (fitsFrame (N .inputs) x) (outputBits N (frame x))
     ∙ sym (ap readingPlaces (e ∙ ap (λ (r : Network). reading r x) (a .laid) ∙ reading-layout N x (a .sound)))
+
+-- ---- a pair
+
+-- its refusals are numbers, not 0
+pair-numbered : (N : Net) (u v : ℕ) → Numbered (pair N u v)
+unfolding pair checks edge reads
+pair-numbered N u v =
+    let last = cond (reads u (gateAt N v)) (pairOf (edge N u v)) (refused 12) in
+    cond-case Numbered (sound N) {x = cond (isGate N u && isGate N v) last (refused 11)} {y = refused 20}
+    (λ t. cond-case Numbered (isGate N u && isGate N v) {x = last} {y = refused 11}
+    (λ t. cond-case Numbered (reads u (gateAt N v)) {x = pairOf (edge N u v)} {y = refused 12}
+    (λ t. subst Numbered (pair-reader (edge N u v) (is-false (silent u (gateAt N v)) t)) (readerPair-numbered (edge N u v)))
+    (λ t. omega arith))
+    (λ t. omega arith))
+    (λ t. omega arith)
+
+-- the places of a pair
+abbrev pairNumbers : PairFound → Answer (List ℕ)
+pairNumbers p = answerOf (p .code) (p .k ∷ p .l ∷ [])
+
+pair-places : (a : Answer Pair) → Numbered a → bind a (λ p. accepted (p .k ∷ p .l ∷ [])) ≡ pairNumbers (asPair a)
+unfolding bind asPair answerOf
+pair-places (accepted p) n = refl
+pair-places (refused zero) n = absurd (n refl)
+pair-places (refused (suc c)) n = refl
+
+pub pair-answer : {file : List ℕ} {r : Network} (a : FileRead file r) (u v : ℕ) (lent : List ℕ) → 2 ≤ length lent → {p : PairFound} → p ≡ pairFound r u v
+    → pairPlaces file u v lent ≡ answerOf (p .code) (p .k ∷ p .l ∷ [])
+unfolding pairPlaces pairFound
+pair-answer a u v lent h e =
+    let N = a .read .net in
+    read-room _ (a .read) 2 lent _ _ h
+    ∙ checks-none (bind (pair N u v) (λ p. accepted (p .k ∷ p .l ∷ [])))
+    ∙ pair-places (pair N u v) (pair-numbered N u v)
+    ∙ sym (ap pairNumbers (e ∙ ap (λ (r : Network). pairFound r u v) (a .laid) ∙ ap asPair (on-layout N (a .sound) (λ M. pair M u v))))
 
 -- ---- the size
 abbrev sizePlaces : SizeReport → Answer (List ℕ)
@@ -171,7 +124,7 @@ size-whole : (N : Net) → accepted (length (N .gates) ∷ cost (N .gates) ∷ l
 unfolding reportOf answerOf
 size-whole N = refl
 
-pub report-answer : {file : List ℕ} {r : Network} (a : Accepted file r) (lent : List ℕ) → 3 ≤ length lent → {s : SizeReport} → s ≡ reported r
+pub report-answer : {file : List ℕ} {r : Network} (a : FileRead file r) (lent : List ℕ) → 3 ≤ length lent → {s : SizeReport} → s ≡ reported r
     → reportPlaces file lent ≡ answerOf (s .code) (s .gates ∷ s .cost ∷ s .levels ∷ [])
 unfolding reportPlaces
 report-answer a lent h e =
@@ -190,7 +143,7 @@ pub record Wrote (a : Answer (List ℕ)) (code n : ℕ) (out after lent : List �
   pub places : stored (answerOf code (n ∷ [])) lent ≡ stored (lengthOf a) lent
 
 module _ {a b : Answer (List ℕ)} {c d : ℕ} {m n : ℕ} {out x y lent : List ℕ} where
-  wrote-same : a ≡ b → c ≡ d → m ≡ n → x ≡ y → Wrote b d n out y lent → Wrote a c m out x lent
+  pub wrote-same : a ≡ b → c ≡ d → m ≡ n → x ≡ y → Wrote b d n out y lent → Wrote a c m out x lent
   wrote-same ea ec em ex w = record {
     number = ec ∙ w .number ∙ sym (ap codeOf ea);
     bytes = ex ∙ w .bytes ∙ sym (ap (λ (z : Answer (List ℕ)). stored z out) ea);
@@ -214,7 +167,16 @@ write-layout N n s =
     sound-first N s _ _
     ∙ ap (λ (M : Net). checks ((leb (length (fileBytes M)) n else 18) ∷ []) (accepted (length (fileBytes M)))) (netOf-layout N s)
 
-pub write-answer : {file : List ℕ} {r : Network} (a : Accepted file r) (out lent : List ℕ) → 1 ≤ length lent → {w : Written} → w ≡ written r (length out)
+-- where the file has room
+pub write-fits : (N : Net) → Sound N → (out : List ℕ) → leb (length (fileBytes N)) (length out) ≡ true
+    → (written (layout N) (length out) ≡ record { code = 0; length = length (fileBytes N) }) × (bytesAfter (layout N) out ≡ fileBytes N ++ drop (length (fileBytes N)) out)
+unfolding written asWritten bytesAfter bytesOf
+write-fits N s out t =
+    let n = length (fileBytes N) in
+    let e = write-layout N (length out) s ∙ checks-next (leb n (length out)) 18 [] (accepted n) t ∙ checks-none (accepted n) in
+    (ap asWritten e, (λ x. bytesOf (e x) (fileBytes (netOf-layout N s x)) out))
+
+pub write-answer : {file : List ℕ} {r : Network} (a : FileRead file r) (out lent : List ℕ) → 1 ≤ length lent → {w : Written} → w ≡ written r (length out)
     → {after : List ℕ} → after ≡ bytesAfter r out → Wrote (fileOut file out lent) (w .code) (w .length) out after lent
 unfolding fileOut room written bytesAfter
 write-answer a out lent h {w} e {after} d =

@@ -1,7 +1,8 @@
 // The folder for C and Rust: each function takes a PMN file and numbers, and answers 0 or the refusal. include/pmn.h has the
 // declarations; a slice is a pointer and then a length.
 ghost use mathlib.Core.Path.{_≡_};
-ghost use Rattle.capi.specs.Exports.{readNet, codeOf, stored, lengthOf, framePlaces, reportPlaces, fileOut, partOut};
+ghost use Rattle.capi.specs.Exports.{readNet, codeOf, stored, lengthOf, framePlaces, pairPlaces, reportPlaces, fileOut, partOut, lineOut};
+ghost use Rattle.capi.specs.Runs.{runAnswer, fileOf, numbersOf};
 
 // The network of a file is read, and nothing more.
 #[no_mangle]
@@ -27,7 +28,25 @@ pub extern "C" fn pmn_frame(file: &[u8], frame: u64, answer: &mut [u64]) -> u8
         return 18;
     }
     let reading = network::read_frame(loaded.network, frame);
-    unchecked::put_two(answer, reading.code, reading.bits, reading.ones as u64)
+    unchecked::places::put_two(answer, reading.code, reading.bits, reading.ones as u64)
+}
+
+// The pair for two gates: k goes into place 0 of the answer, l into place 1.
+#[no_mangle]
+pub extern "C" fn pmn_pair(file: &[u8], u: u64, v: u64, answer: &mut [u64]) -> u8
+    ensures { λ r. ⌜ r ≡ codeOf (pairPlaces (now (file .entry)) u v (now (answer .entry))) ⌝ }
+    ensures { λ _. ⌜ now (answer .exit) ≡ stored (pairPlaces (now (file .entry)) u v (now (answer .entry))) (now (answer .entry)) ⌝ }
+{
+    let loaded = pmn::read(file);
+    let code = loaded.code;
+    if code != 0 {
+        return code;
+    }
+    if answer.len() < 2 {
+        return 18;
+    }
+    let found = collapse::pair(loaded.network, u as usize, v as usize);
+    unchecked::places::put_two(answer, found.code, found.k as u64, found.l as u64)
 }
 
 // The size of the network: gates, cost and levels go into the first three places of the answer.
@@ -45,7 +64,7 @@ pub extern "C" fn pmn_report(file: &[u8], answer: &mut [u64]) -> u8
         return 18;
     }
     let size = report::report(loaded.network);
-    unchecked::put_three(
+    unchecked::places::put_three(
         answer,
         size.code,
         size.gates as u64,
@@ -70,7 +89,7 @@ pub extern "C" fn pmn_write(file: &[u8], out: &mut [u8], answer: &mut [u64]) -> 
         return 18;
     }
     let written = pmn::write(loaded.network, out);
-    unchecked::put_one(answer, written.code, written.length as u64)
+    unchecked::places::put_one(answer, written.code, written.length as u64)
 }
 
 // The bytes of the gate with a signal are copied into `out`, and their number goes into place 0 of the answer.
@@ -95,8 +114,65 @@ pub extern "C" fn pmn_part(file: &[u8], signal: u64, out: &mut [u8], answer: &mu
     if out.len() < length {
         return 18;
     }
-    unchecked::copy(part, out);
-    unchecked::put_one(answer, 0, length as u64)
+    unchecked::places::copy(part, out);
+    unchecked::places::put_one(answer, 0, length as u64)
+}
+
+// Line n of the question for two files is put into `out`, and its length goes into place 0 of the answer.
+#[no_mangle]
+pub extern "C" fn pmn_line(
+    first: &[u8],
+    second: &[u8],
+    n: u64,
+    out: &mut [u8],
+    answer: &mut [u64],
+) -> u8
+    ensures { λ r. ⌜ r ≡ codeOf (lineOut (now (first .entry)) (now (second .entry)) n (now (out .entry)) (now (answer .entry))) ⌝ }
+    ensures { λ _. ⌜ now (out .exit) ≡ stored (lineOut (now (first .entry)) (now (second .entry)) n (now (out .entry)) (now (answer .entry))) (now (out .entry)) ⌝ }
+    ensures { λ _. ⌜ now (answer .exit) ≡ stored (lengthOf (lineOut (now (first .entry)) (now (second .entry)) n (now (out .entry)) (now (answer .entry)))) (now (answer .entry)) ⌝ }
+{
+    let one = pmn::read(first);
+    let code = one.code;
+    if code != 0 {
+        return code;
+    }
+    let other = pmn::read(second);
+    let refusal = other.code;
+    if refusal != 0 {
+        return refusal;
+    }
+    if answer.len() < 1 {
+        return 18;
+    }
+    let written = question::line(one.network, other.network, n as usize, out);
+    unchecked::places::put_one(answer, written.code, written.length as u64)
+}
+
+// The list of calls is run: each call's code and collapses go into the answers from place 1 on, the file of the network after the list
+// into `out`, and its length into place 0 of the answers.
+#[no_mangle]
+pub extern "C" fn pmn_run(file: &[u8], calls: &[u64], answers: &mut [u64], out: &mut [u8]) -> u8
+    ensures { λ r. ⌜ r ≡ codeOf (runAnswer (now (file .entry)) (now (calls .entry)) (now (answers .entry)) (now (out .entry))) ⌝ }
+    ensures { λ _. ⌜ now (answers .exit) ≡ stored (numbersOf (runAnswer (now (file .entry)) (now (calls .entry)) (now (answers .entry)) (now (out .entry)))) (now (answers .entry)) ⌝ }
+    ensures { λ _. ⌜ now (out .exit) ≡ stored (fileOf (runAnswer (now (file .entry)) (now (calls .entry)) (now (answers .entry)) (now (out .entry)))) (now (out .entry)) ⌝ }
+{
+    let loaded = pmn::read(file);
+    let code = loaded.code;
+    if code != 0 {
+        return code;
+    }
+    if !unchecked::runs::is_well_formed(calls) {
+        return 14;
+    }
+    if answers.len() < 2 * (calls.len() / 5) + 1 {
+        return 18;
+    }
+    if !unchecked::runs::has_room(loaded.network, calls, out.len()) {
+        return 18;
+    }
+    let after = unchecked::runs::run_storing(loaded.network, calls, answers);
+    let written = pmn::write(after, out);
+    unchecked::places::put_one(answers, written.code, written.length as u64)
 }
 
 mod unchecked;

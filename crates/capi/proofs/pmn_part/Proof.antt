@@ -5,7 +5,8 @@ use Rattle.format.specs.Format.{Bytes}
 use Rattle.format.specs.LengthLaws.{bytes-of}
 use Rattle.pmn.specs.OpenLaws.{Opened, opened}
 use Rattle.capi.specs.Exports.{partOut}
-use Rattle.capi.specs.ExportLaws.{read-code, read-refused, read-short, refused-two, part-none, part-long, part-fits, wrote-whole}
+use Rattle.capi.specs.AnswerLaws.{read-code, read-refused, read-short, refused-two}
+use Rattle.capi.specs.ExportLaws.{part-none, part-long, part-fits, wrote-whole}
 use Rattle.capi.proofs.pmn_part.Statement.{statement}
 use Rattle.capi.proofs.pmn_part.Tie as tie
 

@@ -1,6 +1,6 @@
 -- The loop's invariant: the first i bytes are copied, and after them stands what stood there at first.
 use borrow.Author.Needs.{needs}
-use mathlib.Core.Path.{_≡_, refl, sym, ap, _∙_}
+use mathlib.Core.Path.{_≡_, refl, ap, _∙_}
 use mathlib.Core.List.{List, _++_}
 use Prim.Native.Nat.{ℕ, _+_, _-_, _<_, _≤_, zero-le}
 use native.Mathlib.Nat.{zero-add}
@@ -8,8 +8,8 @@ use native.Mathlib.Numerals.{add-one}
 use native.Mathlib.Omega.{arith}
 use lib.ListN.{length, take, drop, getD, set, length-set}
 use lib.Seq.{take-length, paste-suc}
-use Rattle.capi.proofs.unchecked.copy.Statement.{statement}
-use Rattle.capi.proofs.unchecked.copy.Tie as tie
+use Rattle.capi.proofs.unchecked.places.copy.Statement.{statement}
+use Rattle.capi.proofs.unchecked.places.copy.Tie as tie
 
 abbrev Inv-loop : tie.InvT-loop
 Inv-loop from out₀ i₀ i-end out i = (i ≤ length from) × (out ≡ take i from ++ drop i out₀) × (length out ≡ length out₀)

@@ -1,0 +1,61 @@
+-- The turns of the loops that run a list of calls. Assumes nothing.
+use mathlib.Core.Path.{_≡_, refl, sym, ap, _∙_}
+use mathlib.Core.Bool.{true}
+use mathlib.Core.List.{List, []}
+use Prim.Native.Nat.{ℕ, _+_, _*_, _/_, _<_, _≤_}
+use native.Mathlib.Omega.{arith}
+use lib.ListN.{length, drop, set, length-set, drop-of-length-le}
+use lib.Seq.{paste, paste-zero}
+use Rattle.network.specs.Record.{netOf, layout}
+use Rattle.network.specs.declared.Network.{Network}
+use Rattle.folding.specs.Calls.{answer, calls}
+use Rattle.collapse.specs.declared.Outcome.{Outcome}
+use Rattle.capi.specs.Runs.{wellFormed, callsIn, answersOf}
+use Rattle.capi.specs.Running.{Holds, callAt, Stepped}
+use Rattle.capi.specs.RunLaws.{count-calls, next-holds, next-calls, next-answers, after-two, store-two}
+
+-- r is the record before call i of a list that began with r₀
+pub record Reached (r₀ : Network) (ns : List ℕ) (i : ℕ) (r : Network) : Type 0 where
+  pub holds : Holds r
+  pub rest : calls (netOf r) (callsIn (drop (5 * i) ns)) ≡ calls (netOf r₀) (callsIn ns)
+
+-- the codes and collapses of the calls before it stand in the places from 1 on
+pub record Answered (r₀ : Network) (ns : List ℕ) (i : ℕ) (r : Network) (lent answers : List ℕ) : Type 0 where
+  pub places : answers ≡ paste lent 1 (answersOf (netOf r₀) (callsIn ns)) (2 * i)
+  pub rest : drop (2 * i) (answersOf (netOf r₀) (callsIn ns)) ≡ answersOf (netOf r) (callsIn (drop (5 * i) ns))
+  pub long : length answers ≡ length lent
+
+module _ (r₀ : Network) (ns : List ℕ) where
+  pub reached-none : Holds r₀ → Reached r₀ ns 0 r₀
+  reached-none h = record { holds = h; rest = refl }
+
+  module _ (i : ℕ) {r : Network} (h : Reached r₀ ns i r) where
+    pub reached-next : 5 * i + 5 ≤ length ns → {o : Outcome} → Stepped (netOf r) (answer (netOf r) (callAt ns i)) o → Reached r₀ ns (i + 1) (o .network)
+    reached-next l {o} s = record { holds = next-holds r (h .holds) ns i l o s; rest = next-calls r (h .holds) ns i l o s ∙ h .rest }
+
+    -- after the last call
+    pub reached-end : wellFormed ns ≡ true → length ns / 5 ≤ i → r ≡ layout (calls (netOf r₀) (callsIn ns))
+    unfolding calls callsIn
+    reached-end w l =
+        let e : drop (5 * i) ns ≡ [] = drop-of-length-le ns {i = 5 * i} (omega (arith, count-calls ns w)) in
+        sym (h .holds .laid) ∙ ap layout (sym (ap (λ (m : List ℕ). calls (netOf r) (callsIn m)) e) ∙ h .rest)
+
+    module _ {lent answers : List ℕ} (a : Answered r₀ ns i r lent answers) where
+      pub answered-next : 5 * i + 5 ≤ length ns → 2 * i + 2 < length lent → {o : Outcome} → Stepped (netOf r) (answer (netOf r) (callAt ns i)) o
+          → Answered r₀ ns (i + 1) (o .network) lent (set (set answers (1 + 2 * i) (o .code)) (2 + 2 * i) (o .collapses))
+      answered-next l k {o} s =
+          let xs = answersOf (netOf r₀) (callsIn ns) in
+          let e = a .rest ∙ next-answers r (h .holds) ns i l o s in
+          let two : 2 * i + 2 ≡ 2 * (i + 1) = omega arith in
+          record {
+            places = ap (λ (m : List ℕ). set (set m (1 + 2 * i) (o .code)) (2 + 2 * i) (o .collapses)) (a .places) ∙ store-two lent xs (2 * i) e k ∙ ap (paste lent 1 xs) two;
+            rest = ap (λ (n : ℕ). drop n xs) (sym two) ∙ after-two lent xs (2 * i) e;
+            long = length-set (set answers (1 + 2 * i) (o .code)) (2 + 2 * i) (o .collapses) ∙ length-set answers (1 + 2 * i) (o .code) ∙ a .long;
+          }
+
+      pub answered-end : i ≡ length (callsIn ns) → answers ≡ paste lent 1 (answersOf (netOf r₀) (callsIn ns)) (2 * length (callsIn ns))
+      answered-end e = a .places ∙ ap (λ (n : ℕ). paste lent 1 (answersOf (netOf r₀) (callsIn ns)) (2 * n)) e
+
+  -- before the first call nothing is stored
+  pub answered-none : (lent : List ℕ) → Answered r₀ ns 0 r₀ lent lent
+  answered-none lent = record { places = paste-zero lent 1 (answersOf (netOf r₀) (callsIn ns)); rest = refl; long = refl }

@@ -1,0 +1,21 @@
+-- A call on the record of a sound network is the call on the network.
+use borrow.Author.Needs.{needs}
+use mathlib.Core.Path.{ap, _∙_}
+use Rattle.collapse.specs.Answers.{applied}
+use Rattle.capi.specs.RunLaws.{step-done}
+use Rattle.capi.proofs.unchecked.runs.step.Statement.{statement}
+use Rattle.capi.proofs.unchecked.runs.step.Tie as tie
+
+call-at-requires : tie.Need-call-at-requires
+call-at-requires c κs = search needs
+
+apply-requires : tie.Need-apply-requires
+apply-requires c κs = search needs
+
+returns : tie.Need-returns
+returns c =
+    let s = c .before .before .before in
+    step-done (s .args .network) (s .pre .0) _ (c .apply .ensures ∙ ap (applied (s .args .network)) (c .before .call-at .ensures))
+
+pub step-spec : {M : Type 1} → statement M
+step-spec = tie.close (tie.spec call-at-requires apply-requires returns)

@@ -1,0 +1,184 @@
+-- Laws of a list of calls given as numbers: the numbers of one call, one call on a record, the places of the answers, and the longest
+-- file. Assumes nothing.
+use mathlib.Core.Path.{_≡_, refl, sym, ap, _∙_, subst}
+use mathlib.Core.Bool.{true, false, _&&_, false≢true}
+use mathlib.Core.List.{List, [], _∷_}
+use Prim.Native.Nat.{ℕ, zero, suc, _+_, _*_, _<_, _≤_}
+use native.Mathlib.Nat.{add-zero}
+use native.Mathlib.Omega.{arith}
+use lib.Dec.{T, leb}
+use lib.ListN.{length, getD, drop, set, length-append, length-drop}
+use lib.Seq.{drop-drop, getD-drop, paste, paste-suc}
+use Rattle.integers.specs.Refusals.{Answer, accepted, refused}
+use Rattle.integers.specs.Tests.{is-true, and-right}
+use Rattle.network.specs.Threshold.{Net, Gate}
+use Rattle.network.specs.LimitLaws.{Gates, Sound}
+use Rattle.network.specs.Record.{netOf, layout, soundRecord}
+use Rattle.network.specs.RecordLaws.{netOf-layout, sound-layout}
+use Rattle.network.specs.declared.Network.{Network}
+use Rattle.format.specs.Format.{gateBytes, gatesBytes, fileBytes}
+use Rattle.format.specs.LengthLaws.{gateBytes-length, fileBytes-length}
+use Rattle.pmn.specs.Answers.{asWritten, written}
+use Rattle.pmn.specs.WriteAnswerLaws.{write-whole}
+use Rattle.pmn.specs.declared.Written.{Written}
+use Rattle.folding.specs.Sweep.{Swept}
+use Rattle.folding.specs.Calls.{answer, leaves, calls}
+use Rattle.folding.specs.GuaranteeLaws.{calls-kept}
+use Rattle.folding.specs.declared.Call.{Call}
+use Rattle.folding.specs.declared.Call.the-variants.{Sweep}
+use Rattle.collapse.specs.Answers.{onRecord, asOutcome, applied}
+use Rattle.collapse.specs.declared.Outcome.{Outcome}
+use Rattle.capi.specs.Exports.{codeOf}
+use Rattle.capi.specs.ExportLaws.{on-layout}
+use Rattle.capi.specs.Runs.{callOf, wellFormed, callsIn, collapsesOf, answersOf}
+use Rattle.capi.specs.Running.{Holds, callAt, Stepped}
+
+-- ---- five numbers to a call
+
+-- fewer are no call
+pub formed-short : (ns : List ℕ) → 0 < length ns → length ns < 5 → wellFormed ns ≡ false
+unfolding wellFormed
+formed-short [] h k = absurd (omega arith)
+formed-short (a ∷ []) h k = refl
+formed-short (a ∷ b ∷ []) h k = refl
+formed-short (a ∷ b ∷ c ∷ []) h k = refl
+formed-short (a ∷ b ∷ c ∷ d ∷ []) h k = refl
+formed-short (a ∷ b ∷ c ∷ d ∷ e ∷ ns) h k = absurd (omega arith)
+
+-- a list that has five
+five : (P : List ℕ → Type 0) → ((a b c d e : ℕ) (ns : List ℕ) → P (a ∷ b ∷ c ∷ d ∷ e ∷ ns)) → (ns : List ℕ) → 5 ≤ length ns → P ns
+five P f [] h = absurd (omega arith)
+five P f (a ∷ []) h = absurd (omega arith)
+five P f (a ∷ b ∷ []) h = absurd (omega arith)
+five P f (a ∷ b ∷ c ∷ []) h = absurd (omega arith)
+five P f (a ∷ b ∷ c ∷ d ∷ []) h = absurd (omega arith)
+five P f (a ∷ b ∷ c ∷ d ∷ e ∷ ns) h = f a b c d e ns
+
+module _ (ns : List ℕ) (at : ℕ) (h : at + 5 ≤ length ns) where
+  five-left : 5 ≤ length (drop at ns)
+  five-left = simp length-drop (omega arith)
+
+  first-left : getD (drop at ns) 0 0 ≡ getD ns at 0
+  first-left = getD-drop at ns 0 0 ∙ ap (λ (k : ℕ). getD ns k 0) (add-zero at)
+
+  -- the test of the next five
+  pub formed-next : wellFormed (drop at ns) ≡ leb (getD ns at 0) 3 && wellFormed (drop (at + 5) ns)
+  unfolding wellFormed
+  formed-next =
+      five (λ l. wellFormed l ≡ leb (getD l 0 0) 3 && wellFormed (drop 5 l)) (λ a b c d e l. refl) (drop at ns) five-left
+      ∙ (λ x. leb (first-left x) 3 && wellFormed (drop-drop 5 at ns x))
+
+-- the next call
+pub calls-next : (ns : List ℕ) (i : ℕ) → 5 * i + 5 ≤ length ns → callsIn (drop (5 * i) ns) ≡ callAt ns i ∷ callsIn (drop (5 * (i + 1)) ns)
+unfolding callsIn
+calls-next ns i h =
+    let at = 5 * i in
+    five (λ l. callsIn l ≡ callAt l 0 ∷ callsIn (drop 5 l)) (λ a b c d e l. refl) (drop at ns) (five-left ns at h)
+    ∙ (λ x. callOf (first-left ns at h x) (getD-drop at ns 1 0 x) (getD-drop at ns 2 0 x) (getD-drop at ns 3 0 x) (getD-drop at ns 4 0 x) ∷ callsIn (drop-drop 5 at ns x))
+    ∙ ap (λ (k : ℕ). callAt ns i ∷ callsIn (drop k ns)) {x = 5 * i + 5} {y = 5 * (i + 1)} (omega arith)
+
+-- how many calls there are
+pub count-calls : (ns : List ℕ) → wellFormed ns ≡ true → length ns ≡ 5 * length (callsIn ns)
+unfolding wellFormed callsIn
+count-calls [] h = refl
+count-calls (a ∷ []) h = absurd (false≢true h)
+count-calls (a ∷ b ∷ []) h = absurd (false≢true h)
+count-calls (a ∷ b ∷ c ∷ []) h = absurd (false≢true h)
+count-calls (a ∷ b ∷ c ∷ d ∷ []) h = absurd (false≢true h)
+count-calls (a ∷ b ∷ c ∷ d ∷ e ∷ ns) h = let k = count-calls ns (and-right (leb a 3) (wellFormed ns) h) in omega arith
+
+-- every kind that is not 0, 1 or 2 is a sweep
+pub sweep-call : (n b v k l : ℕ) → (n ≡ 0 → ⊥) → (n ≡ 1 → ⊥) → (n ≡ 2 → ⊥) → callOf n b v k l ≡ Sweep b
+unfolding callOf
+sweep-call zero b v k l x y z = absurd (x refl)
+sweep-call (suc zero) b v k l x y z = absurd (y refl)
+sweep-call (suc (suc zero)) b v k l x y z = absurd (z refl)
+sweep-call (suc (suc (suc n))) b v k l x y z = refl
+
+-- ---- the record of a sound network
+pub holds-layout : (N : Net) → Sound N → Holds (layout N)
+holds-layout N s = record { sound = subst Sound (sym (netOf-layout N s)) s; laid = ap layout (netOf-layout N s) }
+
+pub holds-sound : (r : Network) → Holds r → soundRecord r ≡ true
+holds-sound r h = is-true (soundRecord r) (subst (λ (x : Network). T (soundRecord x)) (h .laid) (sound-layout (netOf r) (h .sound)))
+
+-- the network after a list is sound
+pub after-sound : (r : Network) → Holds r → (cs : List Call) → Sound (calls (netOf r) cs)
+after-sound r h cs = calls-kept (netOf r) cs (h .sound) .sound
+
+-- one call on it
+step-by : (r : Network) → layout (netOf r) ≡ r → (a : Answer Swept) → Stepped (netOf r) a (asOutcome r a)
+unfolding asOutcome codeOf collapsesOf leaves
+step-by r e (accepted s) = record { code = refl; collapses = refl; network = refl }
+step-by r e (refused k) = record { code = refl; collapses = refl; network = sym e }
+
+pub step-done : (r : Network) → Holds r → (c : Call) {o : Outcome} → o ≡ applied r c → Stepped (netOf r) (answer (netOf r) c) o
+unfolding applied
+step-done r h c e =
+    let N = netOf r in
+    let same = ap (λ (x : Network). asOutcome r (onRecord x (λ M. answer M c))) (sym (h .laid)) ∙ ap (asOutcome r) (on-layout N (h .sound) (λ M. answer M c)) in
+    subst (Stepped N (answer N c)) (sym (e ∙ same)) (step-by r (h .laid) (answer N c))
+
+-- what is left of the list after call i
+module _ (r : Network) (h : Holds r) (ns : List ℕ) (i : ℕ) (l : 5 * i + 5 ≤ length ns) (o : Outcome) (s : Stepped (netOf r) (answer (netOf r) (callAt ns i)) o) where
+  next : Net
+  next = leaves (netOf r) (answer (netOf r) (callAt ns i))
+
+  next-sound : Sound next
+  unfolding next calls
+  next-sound = after-sound r h (callAt ns i ∷ [])
+
+  pub next-holds : Holds (o .network)
+  unfolding next
+  next-holds = subst Holds (sym (s .network)) (holds-layout next next-sound)
+
+  next-net : netOf (o .network) ≡ next
+  unfolding next
+  next-net = ap netOf (s .network) ∙ netOf-layout next next-sound
+
+  pub next-calls : calls (netOf (o .network)) (callsIn (drop (5 * (i + 1)) ns)) ≡ calls (netOf r) (callsIn (drop (5 * i) ns))
+  unfolding next calls
+  next-calls = ap (λ (N : Net). calls N (callsIn (drop (5 * (i + 1)) ns))) next-net ∙ sym (ap (calls (netOf r)) (calls-next ns i l))
+
+  pub next-answers : answersOf (netOf r) (callsIn (drop (5 * i) ns)) ≡ o .code ∷ o .collapses ∷ answersOf (netOf (o .network)) (callsIn (drop (5 * (i + 1)) ns))
+  unfolding next answersOf
+  next-answers =
+      ap (answersOf (netOf r)) (calls-next ns i l)
+      ∙ sym (λ x. s .code x ∷ s .collapses x ∷ answersOf (next-net x) (callsIn (drop (5 * (i + 1)) ns)))
+
+-- ---- the places of the answers, from 1 on
+pub answers-length : (N : Net) (cs : List Call) → length (answersOf N cs) ≡ 2 * length cs
+unfolding answersOf
+answers-length N [] = refl
+answers-length N (c ∷ cs) = let e = answers-length (leaves N (answer N c)) cs in omega arith
+
+-- two more of the numbers xs, stored after the j before them
+module _ (lent xs : List ℕ) (j : ℕ) {a b : ℕ} {rest : List ℕ} (e : drop j xs ≡ a ∷ b ∷ rest) where
+  pub after-two : drop (j + 2) xs ≡ rest
+  after-two = sym (drop-drop 2 j xs) ∙ ap (drop 2) e
+
+  pub store-two : j + 2 < length lent → set (set (paste lent 1 xs j) (1 + j) a) (2 + j) b ≡ paste lent 1 xs (j + 2)
+  store-two h =
+      let long : j + 2 ≤ length xs = omega (arith, length-drop j xs, ap length e) in
+      let p : getD xs j 0 ≡ a = sym (getD-drop j xs 0 0 ∙ ap (λ (k : ℕ). getD xs k 0) (add-zero j)) ∙ ap (λ (l : List ℕ). getD l 0 0) e in
+      let q : getD xs (suc j) 0 ≡ b = sym (getD-drop j xs 1 0 ∙ ap (λ (k : ℕ). getD xs k 0) {x = j + 1} {y = suc j} (omega arith)) ∙ ap (λ (l : List ℕ). getD l 1 0) e in
+      ap (λ (l : List ℕ). set l (2 + j) b) (ap (set (paste lent 1 xs j) (1 + j)) (sym p) ∙ paste-suc lent 1 xs j 0 (omega arith) (omega arith))
+      ∙ ap (λ (k : ℕ). set (paste lent 1 xs (suc j)) k b) {x = 2 + j} {y = 1 + suc j} (omega arith)
+      ∙ ap (set (paste lent 1 xs (suc j)) (1 + suc j)) (sym q)
+      ∙ paste-suc lent 1 xs (suc j) 0 (omega arith) (omega arith)
+      ∙ ap (paste lent 1 xs) {x = suc (suc j)} {y = j + 2} (omega arith)
+
+-- ---- no file is longer than 10,904 bytes
+gates-long : (n : ℕ) (gs : List Gate) → Gates n gs → length (gatesBytes gs) ≤ 85 * length gs
+gates-long n [] h = omega arith
+gates-long n (g ∷ gs) h = omega (arith, length-append (gateBytes g) (gatesBytes gs), gateBytes-length g, h .0 .few, gates-long (suc n) gs (h .1))
+
+pub longest : (N : Net) → Sound N → length (fileBytes N) ≤ 10904
+longest N s = omega (arith, fileBytes-length N, gates-long (N .inputs) (N .gates) (s .all-gates), s .few-gates, s .few-outputs)
+
+-- so that a writing there gives the file's length
+pub length-written : (r : Network) → Holds r → (room : ℕ) → 10904 ≤ room → {w : Written} → w ≡ written r room → w .length ≡ length (fileBytes (netOf r))
+unfolding written asWritten
+length-written r h room l e =
+    let fits : length (fileBytes (netOf r)) ≤ room = omega (arith, longest (netOf r) (h .sound)) in
+    ap (λ (x : Written). x .length) e ∙ ap (λ (a : Answer ℕ). asWritten a .length) (write-whole r room (holds-sound r h) fits)

@@ -1,0 +1,31 @@
+-- What the functions that run a list of calls ask for and promise. Nothing is proved here.
+use mathlib.Core.Path.{_≡_}
+use mathlib.Core.List.{List}
+use Prim.Native.Nat.{ℕ, _+_, _*_}
+use lib.ListN.{getD}
+use Rattle.integers.specs.Refusals.{Answer}
+use Rattle.network.specs.Threshold.{Net}
+use Rattle.network.specs.LimitLaws.{Sound}
+use Rattle.network.specs.Record.{netOf, layout}
+use Rattle.network.specs.declared.Network.{Network}
+use Rattle.folding.specs.Sweep.{Swept}
+use Rattle.folding.specs.Calls.{leaves}
+use Rattle.folding.specs.declared.Call.{Call}
+use Rattle.collapse.specs.declared.Outcome.{Outcome}
+use Rattle.capi.specs.Exports.{codeOf}
+use Rattle.capi.specs.Runs.{callOf, collapsesOf}
+
+-- a record is that of its network, which is sound
+pub record Holds (r : Network) : Type 0 where
+  pub sound : Sound (netOf r)
+  pub laid : layout (netOf r) ≡ r
+
+-- call i of a list of numbers
+abbrev pub callAt : List ℕ → ℕ → Call
+callAt ns i = callOf (getD ns (5 * i) 0) (getD ns (5 * i + 1) 0) (getD ns (5 * i + 2) 0) (getD ns (5 * i + 3) 0) (getD ns (5 * i + 4) 0)
+
+-- one call of a list, by its answer: the code, the collapses, and the record of the network that it leaves
+pub record Stepped (N : Net) (a : Answer Swept) (o : Outcome) : Type 0 where
+  pub code : o .code ≡ codeOf a
+  pub collapses : o .collapses ≡ collapsesOf a
+  pub network : o .network ≡ layout (leaves N a)

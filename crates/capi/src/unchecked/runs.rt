@@ -1,0 +1,120 @@
+// A list of calls, given as numbers, five to a call, run on the record of a sound network.
+use collapse::Outcome;
+use folding::Call;
+use network::Network;
+ghost use mathlib.Core.Path.{_≡_};
+ghost use mathlib.Core.Bool.{true};
+ghost use Prim.Native.Nat.{_+_, _*_, _≤_};
+ghost use lib.Dec.{leb};
+ghost use lib.ListN.{length};
+ghost use lib.Seq.{paste};
+ghost use Rattle.network.specs.Record.{netOf, layout};
+ghost use Rattle.format.specs.Format.{fileBytes};
+ghost use Rattle.folding.specs.Calls.{answer, calls};
+ghost use Rattle.capi.specs.Runs.{wellFormed, callsIn, answersOf};
+ghost use Rattle.capi.specs.Running.{Holds, Stepped, callAt};
+
+// Whether every call has five numbers and a kind from 0 to 3.
+pub fn is_well_formed(numbers: &[u64]) -> bool
+    ensures { λ r. ⌜ r ≡ wellFormed (now (numbers .entry)) ⌝ }
+{
+    let mut at: usize = 0;
+    while at < numbers.len() {
+        if numbers.len() - at < 5 {
+            return false;
+        }
+        if numbers[at] > 3 {
+            return false;
+        }
+        at += 5;
+    }
+    true
+}
+
+// Call i of the list.
+fn call_at(numbers: &[u64], i: usize) -> Call
+    requires { ⌜ 5 * i + 5 ≤ length (now numbers) ⌝ }
+    ensures { λ r. ⌜ r ≡ callAt (now (numbers .entry)) i ⌝ }
+{
+    let at = 5 * i;
+    let kind = numbers[at];
+    let a = numbers[at + 1];
+    let b = numbers[at + 2];
+    let c = numbers[at + 3];
+    let d = numbers[at + 4];
+    match kind {
+        0 => Call::Merge {
+            u: a as usize,
+            v: b as usize,
+            k: c as usize,
+            l: d as usize,
+        },
+        1 => Call::Drop { s: a as usize },
+        2 => Call::Collapse { s: a as usize },
+        _ => Call::Sweep { b: a as usize },
+    }
+}
+
+// Call i on a record.
+fn step(network: Network, numbers: &[u64], i: usize) -> Outcome
+    requires { ⌜ Holds network ⌝ }
+    requires { ⌜ 5 * i + 5 ≤ length (now numbers) ⌝ }
+    ensures { λ r. ⌜ Stepped (netOf network) (answer (netOf network) (callAt (now (numbers .entry)) i)) r ⌝ }
+{
+    collapse::apply(network, call_at(numbers, i))
+}
+
+// The record after the whole list.
+fn run(network: Network, numbers: &[u64]) -> Network
+    requires { ⌜ Holds network ⌝ }
+    requires { ⌜ wellFormed (now numbers) ≡ true ⌝ }
+    ensures { λ r. ⌜ r ≡ layout (calls (netOf network) (callsIn (now (numbers .entry)))) ⌝ }
+{
+    let mut after = network;
+    for i in 0..numbers.len() / 5 {
+        let outcome = step(after, numbers, i);
+        after = outcome.network;
+    }
+    after
+}
+
+// The length of a record's file.
+fn file_length(network: Network) -> usize
+    requires { ⌜ Holds network ⌝ }
+    ensures { λ r. ⌜ r ≡ length (fileBytes (netOf network)) ⌝ }
+{
+    let mut room = [0u8; 10904];
+    let written = pmn::write(network, &mut room);
+    written.length
+}
+
+// Whether the file after the whole list is no longer than `room`. No file is longer than 10,904 bytes, so that often the list need not run.
+pub fn has_room(network: Network, numbers: &[u64], room: usize) -> bool
+    requires { ⌜ Holds network ⌝ }
+    requires { ⌜ wellFormed (now numbers) ≡ true ⌝ }
+    ensures { λ r. ⌜ r ≡ leb (length (fileBytes (calls (netOf network) (callsIn (now (numbers .entry)))))) room ⌝ }
+{
+    if room >= 10904 {
+        return true;
+    }
+    let after = run(network, numbers);
+    file_length(after) <= room
+}
+
+// The record after the whole list, with each call's code and collapses in the places from 1 on.
+pub fn run_storing(network: Network, numbers: &[u64], answers: &mut [u64]) -> Network
+    requires { ⌜ Holds network ⌝ }
+    requires { ⌜ wellFormed (now numbers) ≡ true ⌝ }
+    requires { ⌜ 1 + 2 * length (callsIn (now numbers)) ≤ length (now answers) ⌝ }
+    ensures { λ r. ⌜ r ≡ layout (calls (netOf network) (callsIn (now (numbers .entry)))) ⌝ }
+    ensures { λ _. ⌜ now (answers .exit) ≡ paste (now (answers .entry)) 1 (answersOf (netOf network) (callsIn (now (numbers .entry)))) (2 * length (callsIn (now (numbers .entry)))) ⌝ }
+{
+    let mut after = network;
+    for i in 0..numbers.len() / 5 {
+        let outcome = step(after, numbers, i);
+        answers[1 + 2 * i] = outcome.code as u64;
+        answers[2 + 2 * i] = outcome.collapses as u64;
+        after = outcome.network;
+    }
+    after
+}
