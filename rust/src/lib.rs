@@ -1,2 +1,98 @@
-//! Tests of the library against an independent implementation of document 01.
+//! The proved library as Rust calls it, and an independent implementation of document 01 to compare it with.
+pub mod generate;
 pub mod reference;
+
+mod raw {
+    extern "C" {
+        pub fn pmn_check(file: *const u8, file_length: usize) -> u8;
+        pub fn pmn_frame(file: *const u8, file_length: usize, frame: u64, answer: *mut u64, answer_length: usize) -> u8;
+        pub fn pmn_pair(file: *const u8, file_length: usize, u: u64, v: u64, answer: *mut u64, answer_length: usize) -> u8;
+        pub fn pmn_report(file: *const u8, file_length: usize, answer: *mut u64, answer_length: usize) -> u8;
+        pub fn pmn_run(
+            file: *const u8,
+            file_length: usize,
+            calls: *const u64,
+            calls_length: usize,
+            answers: *mut u64,
+            answers_length: usize,
+            out: *mut u8,
+            out_length: usize,
+        ) -> u8;
+        pub fn pmn_line(
+            first: *const u8,
+            first_length: usize,
+            second: *const u8,
+            second_length: usize,
+            n: u64,
+            out: *mut u8,
+            out_length: usize,
+            answer: *mut u64,
+            answer_length: usize,
+        ) -> u8;
+        pub fn pmn_write(file: *const u8, file_length: usize, out: *mut u8, out_length: usize, answer: *mut u64, answer_length: usize) -> u8;
+        pub fn pmn_part(
+            file: *const u8,
+            file_length: usize,
+            signal: u64,
+            out: *mut u8,
+            out_length: usize,
+            answer: *mut u64,
+            answer_length: usize,
+        ) -> u8;
+    }
+}
+
+pub fn check(file: &[u8]) -> u8 {
+    unsafe { raw::pmn_check(file.as_ptr(), file.len()) }
+}
+
+pub fn frame(file: &[u8], frame: u64, answer: &mut [u64]) -> u8 {
+    unsafe { raw::pmn_frame(file.as_ptr(), file.len(), frame, answer.as_mut_ptr(), answer.len()) }
+}
+
+pub fn pair(file: &[u8], u: u64, v: u64, answer: &mut [u64]) -> u8 {
+    unsafe { raw::pmn_pair(file.as_ptr(), file.len(), u, v, answer.as_mut_ptr(), answer.len()) }
+}
+
+pub fn report(file: &[u8], answer: &mut [u64]) -> u8 {
+    unsafe { raw::pmn_report(file.as_ptr(), file.len(), answer.as_mut_ptr(), answer.len()) }
+}
+
+pub fn run(file: &[u8], calls: &[u64], answers: &mut [u64], out: &mut [u8]) -> u8 {
+    unsafe {
+        raw::pmn_run(
+            file.as_ptr(),
+            file.len(),
+            calls.as_ptr(),
+            calls.len(),
+            answers.as_mut_ptr(),
+            answers.len(),
+            out.as_mut_ptr(),
+            out.len(),
+        )
+    }
+}
+
+pub fn line(first: &[u8], second: &[u8], n: u64, out: &mut [u8], answer: &mut [u64]) -> u8 {
+    unsafe {
+        raw::pmn_line(
+            first.as_ptr(),
+            first.len(),
+            second.as_ptr(),
+            second.len(),
+            n,
+            out.as_mut_ptr(),
+            out.len(),
+            answer.as_mut_ptr(),
+            answer.len(),
+        )
+    }
+}
+
+pub fn write(file: &[u8], out: &mut [u8], answer: &mut [u64]) -> u8 {
+    unsafe { raw::pmn_write(file.as_ptr(), file.len(), out.as_mut_ptr(), out.len(), answer.as_mut_ptr(), answer.len()) }
+}
+
+pub fn part(file: &[u8], signal: u64, out: &mut [u8], answer: &mut [u64]) -> u8 {
+    unsafe { raw::pmn_part(file.as_ptr(), file.len(), signal, out.as_mut_ptr(), out.len(), answer.as_mut_ptr(), answer.len()) }
+}

@@ -1,0 +1,110 @@
+//! Networks and files for tests and benchmarks, from a fixed seed.
+use crate::reference::{Gate, Net};
+
+/// A small generator of numbers: the same sequence in every run.
+pub struct Random(u64);
+
+impl Random {
+    pub fn new(seed: u64) -> Self {
+        Random(seed.wrapping_mul(0x9E37_79B9_7F4A_7C15) | 1)
+    }
+
+    pub fn next(&mut self) -> u64 {
+        self.0 ^= self.0 << 13;
+        self.0 ^= self.0 >> 7;
+        self.0 ^= self.0 << 17;
+        self.0.wrapping_mul(0x2545_F491_4F6C_DD1D)
+    }
+
+    /// A number below n.
+    pub fn below(&mut self, n: u64) -> u64 {
+        (self.next() >> 11) % n
+    }
+
+    pub fn between(&mut self, low: i64, high: i64) -> i64 {
+        low + self.below((high - low + 1) as u64) as i64
+    }
+}
+
+fn feeds(r: &mut Random, own: usize, most: u64, weight: impl Fn(&mut Random) -> i64) -> Vec<(usize, i64)> {
+    let count = r.below(most.min(own as u64) + 1);
+    let mut signals: Vec<usize> = vec![];
+    for _ in 0..count {
+        // near signals more often, so that gates read gates
+        let s = if r.below(2) == 0 { r.below(own as u64) as usize } else { own - 1 - r.below(own.min(6) as u64) as usize };
+        signals.push(s);
+    }
+    signals.sort();
+    signals.dedup();
+    signals
+        .into_iter()
+        .map(|s| loop {
+            let w = weight(r);
+            if w != 0 {
+                break (s, w);
+            }
+        })
+        .collect()
+}
+
+/// A network of small gates, many of which fold: votes whose thresholds lie near the ends of their sums.
+pub fn network(r: &mut Random, most_gates: u64, most_feeds: u64) -> Net {
+    let most_inputs = if r.below(4) == 0 { 40 } else { 6 };
+    let inputs = 1 + r.below(most_inputs) as usize;
+    let gates = 1 + r.below(most_gates) as usize;
+    let mut net = Net { inputs, gates: vec![], outputs: vec![] };
+    let style = r.below(4);
+    for g in 0..gates {
+        let feeds = feeds(r, inputs + g, most_feeds, |r| match style {
+            0 => 1,
+            1 => r.between(1, 4),
+            2 => r.between(-2, 3),
+            _ => {
+                if r.below(20) == 0 {
+                    r.between(-1_000_000, 1_000_000)
+                } else {
+                    r.between(-3, 9)
+                }
+            }
+        });
+        let high: i64 = feeds.iter().map(|f| f.1.max(0)).sum();
+        let low: i64 = feeds.iter().map(|f| f.1.min(0)).sum();
+        let threshold = match r.below(4) {
+            0 => high.max(-1_000_000).min(1_000_000),
+            1 => (low + 1).max(-1_000_000).min(1_000_000),
+            _ => r.between((low - 1).max(-1_000_000), (high + 1).min(1_000_000)),
+        };
+        net.gates.push(Gate { feeds, threshold });
+    }
+    let most_outputs = if r.below(3) == 0 { 16 } else { 2 };
+    let outputs = 1 + r.below(most_outputs);
+    for _ in 0..outputs {
+        let top = r.below(gates as u64);
+        net.outputs.push(inputs + if r.below(3) == 0 { top as usize } else { gates - 1 });
+    }
+    net
+}
+
+/// A file with some bytes changed, taken away or added.
+pub fn damaged(r: &mut Random, file: &[u8]) -> Vec<u8> {
+    let mut out = file.to_vec();
+    for _ in 0..1 + r.below(3) {
+        if out.is_empty() {
+            break;
+        }
+        let at = r.below(out.len() as u64) as usize;
+        match r.below(8) {
+            0 => out.truncate(at),
+            1 => out.push(r.next() as u8),
+            2 => {
+                out.remove(at);
+            }
+            3 => out.insert(at, r.next() as u8),
+            4 => out[at] = out[at].wrapping_add(1),
+            5 => out[at] = out[at].wrapping_sub(1),
+            6 => out[at] ^= 0x80,
+            _ => out[at] = r.next() as u8,
+        }
+    }
+    out
+}
