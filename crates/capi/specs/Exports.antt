@@ -1,6 +1,6 @@
 -- What the functions for C answer: a number, 0 or a refusal, and what they leave in the lent numbers and bytes. Each begins with the
 -- read of its file. A refusal leaves everything as it was; places and bytes beyond those named are untouched. Nothing is proved here.
-use mathlib.Core.Bool.{Bool, _&&_}
+use mathlib.Core.Bool.{Bool}
 use mathlib.Core.List.{List, [], _∷_, _++_}
 use Prim.Native.Nat.{ℕ}
 use lib.Dec.{leb}
@@ -10,7 +10,7 @@ use Rattle.network.specs.Threshold.{Net, frame, fitsFrame, outputBits, wordOf, 
 use Rattle.network.specs.Limits.{isGate}
 use Rattle.format.specs.Format.{Read, done, fileBytes, parseFile}
 use Rattle.format.specs.Part.{partIn}
-use Rattle.folding.specs.Pair.{Pair, pair}
+use Rattle.folding.specs.Pair.{pair}
 use Rattle.constraints.specs.Question.{question}
 use Rattle.constraints.specs.Text.{questionText}
 use Rattle.report.specs.Size.{cost, levels}

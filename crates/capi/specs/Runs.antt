@@ -1,7 +1,7 @@
 -- A list of calls given as numbers, five to a call: kind (0 merge u v k l, 1 drop s, 2 collapse s, 3 sweep B) and four numbers, of which a
 -- kind passes over those that it does not use. The list is run as document 01, "A list of calls", has it. Nothing is proved here.
 use mathlib.Core.Bool.{Bool, true, false, _&&_}
-use mathlib.Core.List.{List, [], _∷_, _++_}
+use mathlib.Core.List.{List, [], _∷_}
 use Prim.Native.Nat.{ℕ, zero, suc, _+_, _*_}
 use lib.Dec.{leb}
 use lib.ListN.{length}
