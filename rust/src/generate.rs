@@ -108,3 +108,76 @@ pub fn damaged(r: &mut Random, file: &[u8]) -> Vec<u8> {
     }
     out
 }
+
+// ---- networks for benchmarks
+
+/// The largest network: 40 inputs, 128 gates of 16 feeds, 16 outputs.
+pub fn largest(r: &mut Random) -> Net {
+    let inputs = 40;
+    let mut net = Net { inputs, gates: vec![], outputs: vec![] };
+    for g in 0..128 {
+        let mut signals: Vec<usize> = vec![];
+        while signals.len() < 16 {
+            let s = r.below((inputs + g) as u64) as usize;
+            if !signals.contains(&s) {
+                signals.push(s);
+            }
+        }
+        signals.sort();
+        let feeds = signals.into_iter().map(|s| (s, 1 + r.below(1_000_000) as i64)).collect();
+        net.gates.push(Gate { feeds, threshold: 500_000 });
+    }
+    net.outputs = (0..16).map(|j| inputs + 112 + j).collect();
+    net
+}
+
+/// Two gates with n distinct feeds and no pair: every pair disagrees on the last setting, on which all feeds are 1, and on no other.
+pub fn last_setting_only(n: usize) -> Net {
+    let u = Gate { feeds: (0..n).map(|s| (s, 33)).collect(), threshold: 33 * n as i64 - 32 };
+    let v = Gate { feeds: vec![(n, 1)], threshold: 2 };
+    Net { inputs: n, gates: vec![u, v], outputs: vec![n + 1] }
+}
+
+/// A chain in which no gate folds: each reads 15 inputs and the gate before it, and each pair of neighbours has 16 distinct feeds. Every
+/// pair of multipliers disagrees on the setting with all inputs 1 and the gate 0, and on none before it.
+pub fn standing_chain(gates: usize) -> Net {
+    let inputs = 15;
+    let gate = |g: usize| {
+        let mut feeds: Vec<(usize, i64)> = (0..inputs).map(|s| (s, 33)).collect();
+        if g > 0 {
+            feeds.push((inputs + g - 1, 33));
+        }
+        let threshold = 33 * feeds.len() as i64 - 32;
+        Gate { feeds, threshold }
+    };
+    Net { inputs, gates: (0..gates).map(gate).collect(), outputs: vec![inputs + gates - 1] }
+}
+
+/// A chain that folds into one gate: each is 1 if an input or the gate before it is, with 16 inputs in turn.
+pub fn folding_chain(gates: usize) -> Net {
+    let inputs = 16;
+    let gate = |g: usize| {
+        let mut feeds = vec![(g % inputs, 1)];
+        if g > 0 {
+            feeds.push((inputs + g - 1, 1));
+        }
+        Gate { feeds, threshold: 1 }
+    };
+    Net { inputs, gates: (0..gates).map(gate).collect(), outputs: vec![inputs + gates - 1] }
+}
+
+/// Gates of which the lower half stands as in `standing_chain` and the upper half folds gate by gate, so that a sweep begins again at the
+/// lower half each time.
+pub fn mixed_chain(gates: usize) -> Net {
+    let mut net = standing_chain(gates / 2);
+    let stood = net.inputs + gates / 2;
+    for g in gates / 2..gates {
+        let mut feeds = vec![(g % net.inputs, 1)];
+        if net.inputs + g > stood {
+            feeds.push((net.inputs + g - 1, 1));
+        }
+        net.gates.push(Gate { feeds, threshold: 1 });
+    }
+    net.outputs.push(net.inputs + gates - 1);
+    net
+}

@@ -16,10 +16,10 @@ use Rattle.network.specs.Limits.{isGate, sound}
 use Rattle.network.specs.LimitLaws.{Sound}
 use Rattle.network.specs.Record.{netOf, layout, soundRecord}
 use Rattle.network.specs.RecordLaws.{netOf-layout, sound-layout}
-use Rattle.network.specs.Reading.{frameAnswer, asReading, reading}
+use Rattle.evaluation.specs.Reading.{frameAnswer, asReading, reading}
 use Rattle.network.specs.Changes.{gateAt}
 use Rattle.network.specs.declared.Network.{Network}
-use Rattle.network.specs.declared.Reading.{Reading}
+use Rattle.evaluation.specs.declared.Reading.{Reading}
 use Rattle.format.specs.Format.{Read, Bytes, fileBytes}
 use Rattle.format.specs.Part.{partIn, partOfRead, partAnswer, asPart}
 use Rattle.format.specs.PartLaws.{part-stray, part-found}

@@ -27,7 +27,7 @@ pub extern "C" fn pmn_frame(file: &[u8], frame: u64, answer: &mut [u64]) -> u8
     if answer.len() < 2 {
         return 18;
     }
-    let reading = network::read_frame(loaded.network, frame);
+    let reading = evaluation::read_frame(loaded.network, frame);
     unchecked::places::put_two(answer, reading.code, reading.bits, reading.ones as u64)
 }
 

@@ -19,10 +19,10 @@ use Rattle.network.specs.Limits.{isGate}
 use Rattle.network.specs.Record.{gateOf, netOf, layout, noGate, nthGate, soundRecord, gateIn, gateRecord}
 use Rattle.network.specs.Changes.{withGate, without}
 use Rattle.network.specs.Places.{Pasted, SoundGate}
-use Rattle.network.specs.TableLaws.{tab-set}
+use Rattle.integers.specs.TableLaws.{tab-set}
 use Rattle.network.specs.PlaceLaws.{gateIn-gateRecord}
 use Rattle.network.specs.RecordLaws.{Shaped, shaped-layout, netOf-layout, layout-netOf, count-gates, gate-within, gate-number, sound-net, sound-layout}
-use Rattle.network.specs.ReplaceLaws.{replaced}
+use Rattle.places.specs.ReplaceLaws.{replaced}
 use Rattle.network.specs.declared.Network.{Network}
 use Rattle.network.specs.declared.GateRecord.{GateRecord}
 use Rattle.folding.specs.Merge.{Edge, reads, merged, narrow}

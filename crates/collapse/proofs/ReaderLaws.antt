@@ -12,7 +12,7 @@ use Rattle.integers.specs.Lists.{all, keep, range, other}
 use Rattle.network.specs.Threshold.{Feed}
 use Rattle.network.specs.Limits.{signalsOf}
 use Rattle.network.specs.Record.{feedAt, feedsFrom, gateFrom}
-use Rattle.network.proofs.RangeLaws.{range-step, range-end}
+use Rattle.integers.specs.RangeLaws.{range-step, range-end}
 use Rattle.folding.specs.Merge.{silent, reads}
 use Rattle.collapse.specs.Readers.{occurs}
 

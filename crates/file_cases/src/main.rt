@@ -135,7 +135,7 @@ fn tail() {
 
 // The answer of reading a frame.
 fn frame(network: Network, x: u64) {
-    let r = network::read_frame(network, x);
+    let r = evaluation::read_frame(network, x);
     text(b"frame");
     number(x);
     number(r.code as u64);

@@ -9,7 +9,7 @@ use Rattle.integers.specs.Refusals.{Answer, accepted, refused, checks}
 use Rattle.integers.specs.Tests.{T-is, is-true}
 use Rattle.network.specs.Threshold.{Net, Assignment, frame, fitsFrame, outputBits}
 use Rattle.network.specs.Record.{netOf, layout, soundRecord}
-use Rattle.network.specs.Reading.{frameAnswer, asReading, reading}
+use Rattle.evaluation.specs.Reading.{frameAnswer, asReading, reading}
 use Rattle.network.specs.LimitLaws.{Sound, of-sound}
 use Rattle.network.specs.RecordLaws.{netOf-layout, sound-net, sound-layout}
 use Rattle.network.specs.declared.Network.{Network}

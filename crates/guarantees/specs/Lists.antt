@@ -7,7 +7,7 @@ use mathlib.Core.Logic.{_≢_}
 use Prim.Native.Nat.{ℕ}
 use Rattle.network.specs.Threshold.{Assignment, frame, fitsFrame, outputBits}
 use Rattle.network.specs.Record.{netOf, soundRecord}
-use Rattle.network.specs.Reading.{reading}
+use Rattle.evaluation.specs.Reading.{reading}
 use Rattle.network.specs.declared.Network.{Network}
 use Rattle.folding.specs.Calls.{answer, calls}
 use Rattle.folding.specs.Guarantee.{Claim}

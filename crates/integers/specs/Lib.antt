@@ -1,6 +1,8 @@
 pub mod Lists
 pub mod Tests
 pub mod ListLaws
+pub mod RangeLaws
+pub mod TableLaws
 pub mod Refusals
 pub mod RefusalLaws
 pub mod Integer

@@ -3,8 +3,10 @@ use mathlib.Core.Path.{_≡_, refl, sym, ap, _∙_, subst}
 use mathlib.Core.Bool.{Bool, true, false, not, cond, _&&_, _||_, Bool·beq, true≢false, false≢true}
 use mathlib.Core.Logic.{_≢_}
 use mathlib.Core.List.{List, [], _∷_}
-use Prim.Native.Nat.{ℕ, _≤_}
-use lib.Dec.{T, T-not, leb, eqb, eqb→eq, eqb-refl, leb→le, le→leb}
+use Prim.Native.Nat.{ℕ, _≤_, _<_}
+use native.Mathlib.Omega.{arith}
+use mir.Val.{boolByte}
+use lib.Dec.{T, T-not, not-T, leb, ltb, eqb, eqb→eq, eqb-refl, leb→le, le→leb, ltb→lt}
 use Rattle.integers.specs.Lists.{every, between, other}
 
 -- ---- a test as a fact
@@ -25,6 +27,15 @@ T-isnt b e = subst (λ x. T (not x)) (sym e) tt
 pub not-not : (b : Bool) → T (not (not b)) → T b
 not-not true t = tt
 not-not false t = t
+
+pub test-case : {X : Type 0} (b : Bool) → (T b → X) → (T (not b) → X) → X
+test-case true f g = f tt
+test-case false f g = g tt
+
+-- a Bool as the language stores it
+pub byte-below : (b : Bool) → boolByte b < 2
+byte-below true = omega arith
+byte-below false = omega arith
 
 -- two tests that say the same are one
 pub test-same : (a b : Bool) → (T a → T b) → (T b → T a) → a ≡ b
@@ -83,6 +94,11 @@ pub or-case : {X : Type 0} (a b : Bool) → T (a || b) → (T a → X) → (T b 
 or-case true b h f g = f tt
 or-case false b h f g = g h
 
+-- a disjunction whose first test fails
+pub or-second : (a b : Bool) → T (not a) → T (a || b) → T b
+or-second true b n t = absurd n
+or-second false b n t = t
+
 -- ---- equal Bools
 pub beq-eq : (a b : Bool) → T (Bool·beq a b) → a ≡ b
 beq-eq true true h = refl
@@ -109,6 +125,9 @@ other-ne u s t e = T-not (eqb s u) t (rw e (eqb-refl u))
 pub ne-other : (u s : ℕ) → s ≢ u → T (other u s)
 unfolding other
 ne-other u s h = elim (eqb s u) as (λ b. (T b → s ≡ u) → T (not b)) [ true ↦ λ k. h (k tt) | false ↦ λ k. tt ] (eqb→eq s u)
+
+pub not-below : (a b : ℕ) → b ≤ a → T (not (ltb a b))
+not-below a b h = not-T (ltb a b) λ t. let l = ltb→lt a b t in omega arith
 
 pub eqb-no : (a b : ℕ) → a ≢ b → eqb a b ≡ false
 eqb-no a b h = elim (eqb a b) as (λ x. (T x → a ≡ b) → x ≡ false) [ true ↦ λ k. absurd (h (k tt)) | false ↦ λ k. refl ] (eqb→eq a b)

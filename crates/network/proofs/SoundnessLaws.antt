@@ -17,7 +17,7 @@ use Rattle.network.specs.Limits.{signalsOf, rising, inScale, isZero, wei
 use Rattle.network.specs.Record.{feedAt, feedsFrom, gateFrom, gateOf, netOf, spareClear, soundRecord}
 use Rattle.network.specs.RecordTests.{countsOk, feedsOk, gateSignal}
 use Rattle.network.specs.declared.Network.{Network}
-use Rattle.network.proofs.RangeLaws.{range-step}
+use Rattle.integers.specs.RangeLaws.{range-step}
 
 -- ---- the counts
 pub counts-fit : (i g o : ℕ) → countsOk i g o ≡ true → (i ≤ 40) × (g ≤ 128) × (o ≤ 16)

@@ -18,7 +18,7 @@ use Rattle.network.specs.LimitLaws.{Has, has-of, Sound, sound-of, of-sou
 use Rattle.network.specs.Record.{feedAt, gateFrom, gateOf, netOf, noFeed, noGate, nthGate, placeOf, faninsOf, thresholdsOf, placeSignals, placeWeights, driversOf, layout, usedPlace, spareClear, soundRecord, gateRecord}
 use Rattle.network.specs.Changes.{gateAt}
 use Rattle.network.specs.Places.{rowAt, SoundGate}
-use Rattle.network.specs.TestLaws.{test-case}
+use Rattle.integers.specs.Tests.{test-case}
 use Rattle.network.specs.SpareLaws.{Spare, spare-of, of-spare}
 use Rattle.network.specs.PlaceLaws.{place-at, length-feeds, feeds-at, gate-beyond, has-gate, place-beyond, place-read, gate-back}
 

@@ -13,7 +13,7 @@ use Rattle.integers.specs.ListLaws.{below-at, at-below}
 use Rattle.network.specs.declared.Network.{Network}
 use Rattle.network.specs.Threshold.{Feed}
 use Rattle.network.specs.Limits.{isZero}
-use Rattle.network.specs.TestLaws.{or-second, not-below}
+use Rattle.integers.specs.Tests.{or-second, not-below}
 use Rattle.network.specs.Record.{feedAt, noFeed, usedPlace, placeClear, gateClear, driverClear, spareClear}
 
 -- spare places hold 0

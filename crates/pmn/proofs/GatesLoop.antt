@@ -10,7 +10,7 @@ use Rattle.network.specs.Threshold.{Gate}
 use Rattle.network.specs.Record.{faninsOf, thresholdsOf, placeSignals, placeWeights, layout, gateRecord}
 use Rattle.network.specs.declared.GateRecord.{GateRecord}
 use Rattle.network.specs.Places.{Pasted}
-use Rattle.network.specs.PasteLaws.{pasted-same}
+use Rattle.places.specs.PasteLaws.{pasted-same}
 use Rattle.network.specs.PlaceLaws.{changed-end, changed-fanins, changed-thresholds, changed-signals, changed-weights, no-fanins, no-thresholds, no-signals, no-weights, no-drivers}
 use Rattle.format.specs.Format.{refused, done, parseGate, parseGates}
 use Rattle.format.specs.TurnLaws.{gates-refused, gates-more, gates-ended}

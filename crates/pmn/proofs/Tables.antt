@@ -5,7 +5,7 @@ use Prim.Native.Nat.{ℕ, _<_}
 use lib.ListN.{length, getD, set}
 use lib.Seq.{getD-at}
 use Rattle.integers.specs.Lists.{tab}
-use Rattle.network.specs.TableLaws.{tab-set, getD-end-other}
+use Rattle.integers.specs.TableLaws.{tab-set, getD-end-other}
 
 pub tab-end : {A B : Type 0} (d : A) (f : A → B) (n : ℕ) (xs : List A) (x : A) → length xs < n
     → tab n (λ i. f (getD (xs ++ (x ∷ [])) i d)) ≡ set (tab n (λ i. f (getD xs i d))) (length xs) (f x)

@@ -15,7 +15,7 @@ use Rattle.network.specs.declared.Network.{Network}
 use Rattle.network.specs.Threshold.{Feed}
 use Rattle.network.specs.Record.{feedAt, feedsFrom, gateFrom, gateOf, netOf, gateIn}
 use Rattle.network.specs.Places.{rowAt}
-use Rattle.network.specs.TableLaws.{range-tab}
+use Rattle.integers.specs.TableLaws.{range-tab}
 use Rattle.network.specs.PlaceLaws.{length-feeds}
 use Rattle.format.specs.Format.{feedBytes, feedsBytes, gateBytes, gatesBytes, fileBytes}
 use Rattle.format.specs.LengthLaws.{feedsBytes-length, feedsBytes-append, gateBytes-length, gatesBytes-append}

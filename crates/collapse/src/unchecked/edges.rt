@@ -4,7 +4,7 @@ use crate::unchecked::readers::reads_gate;
 use alignment::Alignment;
 use alignment::unchecked::align;
 use integers::widened;
-use network::unchecked::places::gate_at;
+use places::unchecked::gate_at;
 use search::Levels;
 ghost use mathlib.Core.Path.{_≡_};
 ghost use Prim.Native.Nat.{_≤_};

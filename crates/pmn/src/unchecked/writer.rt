@@ -61,7 +61,7 @@ pub fn put_gates<'a>(
 {
     let mut at: usize = 0;
     for g in 0..gates {
-        let gate = network::unchecked::places::gate_at(fanins, thresholds, signals, weights, g);
+        let gate = places::unchecked::gate_at(fanins, thresholds, signals, weights, g);
         let step = put_gate(&mut out[at..], gate);
         at += step;
     }

@@ -146,7 +146,7 @@ fn gate_line(network: Network, shift: usize, i: usize) -> LineRecord
     let inputs = network.inputs;
     let g = i / 2;
     let y = inputs + shift + g;
-    let gate = network::unchecked::places::gate_at(
+    let gate = places::unchecked::gate_at(
         &network.fanins,
         &network.thresholds,
         &network.signals,

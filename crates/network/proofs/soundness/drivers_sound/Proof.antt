@@ -9,7 +9,7 @@ use lib.ListN.{getD}
 use Rattle.integers.specs.Lists.{all, range, tab}
 use Rattle.integers.specs.Tests.{and-true, and-assoc}
 use Rattle.network.specs.RecordTests.{gateSignal}
-use Rattle.network.proofs.RangeLaws.{range-end, all-step}
+use Rattle.integers.specs.RangeLaws.{range-end, all-step}
 use Rattle.network.proofs.soundness.drivers_sound.Statement.{statement}
 use Rattle.network.proofs.soundness.drivers_sound.Tie as tie
 

@@ -10,7 +10,7 @@ use Rattle.integers.specs.Tests.{and-true}
 use Rattle.network.specs.Limits.{signalsOf, rising}
 use Rattle.network.specs.Record.{feedsFrom}
 use Rattle.network.specs.RecordTests.{feedsOk}
-use Rattle.network.proofs.RangeLaws.{range-end}
+use Rattle.integers.specs.RangeLaws.{range-end}
 use Rattle.network.proofs.SoundnessLaws.{feeds-step}
 use Rattle.network.proofs.soundness.feeds_sound.Statement.{statement}
 use Rattle.network.proofs.soundness.feeds_sound.Tie as tie

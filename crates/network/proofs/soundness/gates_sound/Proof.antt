@@ -9,7 +9,7 @@ use Rattle.integers.specs.Lists.{allFrom, range, tab}
 use Rattle.integers.specs.Tests.{and-true, and-assoc}
 use Rattle.network.specs.Limits.{gateOk}
 use Rattle.network.specs.Record.{gateFrom}
-use Rattle.network.proofs.RangeLaws.{range-end, allFrom-step}
+use Rattle.integers.specs.RangeLaws.{range-end, allFrom-step}
 use Rattle.network.proofs.soundness.gates_sound.Statement.{statement}
 use Rattle.network.proofs.soundness.gates_sound.Tie as tie
 

@@ -10,7 +10,7 @@ use lib.IntN.{ℤ}
 use lib.ListN.{length}
 use Rattle.integers.specs.Lists.{keep, range}
 use Rattle.network.specs.Record.{gateFrom}
-use Rattle.network.proofs.OutputLaws.{byte-below}
+use Rattle.integers.specs.Tests.{byte-below}
 use Rattle.folding.specs.Merge.{reads}
 use Rattle.collapse.specs.Lent.{gatesIn}
 use Rattle.collapse.proofs.ReaderLaws.{kept-step, kept-end}

@@ -1,0 +1,123 @@
+//! Times of the proved library and of the independent implementation on the same inputs, in one process, and their ratio.
+use std::hint::black_box;
+use std::time::{Duration, Instant};
+use yovrenik_tests as library;
+use yovrenik_tests::generate::{folding_chain, largest, last_setting_only, mixed_chain, standing_chain, Random};
+use yovrenik_tests::reference::{self, Net};
+
+/// The least mean time of one call over several runs; a call that takes long is made once.
+fn time(mut call: impl FnMut()) -> Duration {
+    let began = Instant::now();
+    call();
+    let once = began.elapsed();
+    if once > Duration::from_millis(200) {
+        return once;
+    }
+    let calls = (Duration::from_millis(40).as_nanos() / once.as_nanos().max(20)).max(1) as u32;
+    let run = |call: &mut dyn FnMut()| {
+        let began = Instant::now();
+        (0..calls).for_each(|_| call());
+        began.elapsed() / calls
+    };
+    (0..5).map(|_| run(&mut call)).min().unwrap()
+}
+
+fn text(t: Duration) -> String {
+    let us = t.as_nanos() as f64 / 1000.0;
+    match us {
+        us if us < 1000.0 => format!("{us:.2} µs"),
+        us if us < 1_000_000.0 => format!("{:.2} ms", us / 1000.0),
+        us => format!("{:.2} s", us / 1_000_000.0),
+    }
+}
+
+/// One row: the library's time, the independent implementation's, and how many times the library's the latter is.
+fn row(name: &str, ours: Duration, theirs: Duration) {
+    let ratio = theirs.as_nanos() as f64 / ours.as_nanos().max(1) as f64;
+    let ratio = if ratio < 10.0 { format!("{ratio:.2}") } else { format!("{ratio:.0}") };
+    println!("| {name} | {} | {} | {ratio} |", text(ours), text(theirs));
+}
+
+fn file_rows() {
+    let net = largest(&mut Random::new(7));
+    let file = reference::write(&net);
+    let mut out = vec![0u8; file.len()];
+    let mut answer = [0u64; 3];
+    let read = time(|| {
+        black_box(library::check(black_box(&file)));
+    });
+    let write = time(|| {
+        black_box(library::write(black_box(&file), &mut out, &mut answer));
+    });
+    let frame = time(|| {
+        black_box(library::frame(black_box(&file), 0x5A_5A5A_5A5A, &mut answer));
+    });
+    let read_too = time(|| {
+        black_box(reference::read(black_box(&file)).unwrap());
+    });
+    let write_too = time(|| {
+        black_box(reference::write(black_box(&net)));
+    });
+    let frame_too = time(|| {
+        black_box(reference::frame(black_box(&net), 0x5A_5A5A_5A5A).unwrap());
+    });
+    row("read of the largest file", read, read_too);
+    row("write of it, soundness tested (the call less the read)", write.saturating_sub(read), write_too);
+    row("frame on a full network, soundness tested (the call less the read)", frame.saturating_sub(read), frame_too);
+    row("read and frame", frame, read_too + frame_too);
+}
+
+fn pair_row(n: usize) {
+    let net = last_setting_only(n);
+    let file = reference::write(&net);
+    let mut answer = [0u64; 2];
+    let ours = time(|| assert_eq!(library::pair(black_box(&file), n as u64, n as u64 + 1, &mut answer), 16));
+    let theirs = time(|| assert_eq!(reference::pair(black_box(&net), n as u64, n as u64 + 1), Err(16)));
+    row(&format!("pair, {n} distinct feeds, no pair, each disagrees on the last setting only"), ours, theirs);
+}
+
+/// The library's sweep: how many gates it collapses, and its time with the read and the write.
+fn swept(net: &Net) -> (u64, Duration) {
+    let file = reference::write(net);
+    let mut answers = [0u64; 3];
+    let mut out = vec![0u8; 10_904];
+    let t = time(|| assert_eq!(library::run(black_box(&file), &[3, 128, 0, 0, 0], &mut answers, &mut out), 0));
+    (answers[2], t)
+}
+
+fn sweep_row(name: &str, net: &Net, folds: u64) {
+    let (count, ours) = swept(net);
+    let mut same = 0;
+    let theirs = time(|| same = reference::sweep(black_box(net), 128).unwrap().1);
+    assert_eq!((count, same), (folds, folds));
+    row(name, ours, theirs);
+}
+
+/// A row for which the independent implementation would take hours: the library's time alone.
+fn library_row(name: &str, net: &Net, folds: u64) {
+    let (count, ours) = swept(net);
+    assert_eq!(count, folds);
+    println!("| {name} | {} | – | – |", text(ours));
+}
+
+fn main() {
+    println!("| on | library | independent | ratio |\n|---|---|---|---|");
+    file_rows();
+    for n in [8, 10, 12, 14, 16] {
+        pair_row(n);
+    }
+    for gates in [16, 32, 64, 128] {
+        sweep_row(&format!("sweep, {gates} gates that fold into one"), &folding_chain(gates), gates as u64 - 1);
+    }
+    sweep_row("sweep, 16 gates, 16 distinct feeds, nothing folds", &standing_chain(16), 0);
+    for gates in [32, 64, 128] {
+        library_row(&format!("sweep, {gates} gates, 16 distinct feeds, nothing folds"), &standing_chain(gates), 0);
+    }
+    for gates in [16, 32, 64, 128] {
+        library_row(
+            &format!("sweep, {gates} gates, the upper half folds, the lower half does not"),
+            &mixed_chain(gates),
+            gates as u64 / 2 - 1,
+        );
+    }
+}
