@@ -109,9 +109,11 @@ fn main() {
     for gates in [16, 32, 64, 128] {
         sweep_row(&format!("sweep, {gates} gates that fold into one"), &folding_chain(gates), gates as u64 - 1);
     }
-    sweep_row("sweep, 16 gates, 16 distinct feeds, nothing folds", &standing_chain(16), 0);
-    for gates in [32, 64, 128] {
-        library_row(&format!("sweep, {gates} gates, 16 distinct feeds, nothing folds"), &standing_chain(gates), 0);
+    for gates in [16, 32, 64, 128] {
+        sweep_row(&format!("sweep, {gates} gates, 8 distinct feeds, nothing folds"), &standing_chain(gates, 8), 0);
+    }
+    for gates in [16, 32, 64, 128] {
+        library_row(&format!("sweep, {gates} gates, 16 distinct feeds, nothing folds"), &standing_chain(gates, 16), 0);
     }
     for gates in [16, 32, 64, 128] {
         library_row(

@@ -138,12 +138,13 @@ pub fn last_setting_only(n: usize) -> Net {
     Net { inputs: n, gates: vec![u, v], outputs: vec![n + 1] }
 }
 
-/// A chain in which no gate folds: each reads 15 inputs and the gate before it, and each pair of neighbours has 16 distinct feeds. Every
-/// pair of multipliers disagrees on the setting with all inputs 1 and the gate 0, and on none before it.
-pub fn standing_chain(gates: usize) -> Net {
-    let inputs = 15;
+/// A chain in which no gate folds, with n distinct feeds for each pair of neighbours (n even): every gate is 1 if all of its feeds are, and
+/// neighbours have no input in common, so that u can be 1 and one input of v's 0; no multipliers up to 32 tell that from all inputs 1.
+pub fn standing_chain(gates: usize, n: usize) -> Net {
+    let inputs = n - 1;
     let gate = |g: usize| {
-        let mut feeds: Vec<(usize, i64)> = (0..inputs).map(|s| (s, 33)).collect();
+        let own = if g % 2 == 0 { 0..n / 2 } else { n / 2..inputs };
+        let mut feeds: Vec<(usize, i64)> = own.map(|s| (s, 33)).collect();
         if g > 0 {
             feeds.push((inputs + g - 1, 33));
         }
@@ -166,15 +167,15 @@ pub fn folding_chain(gates: usize) -> Net {
     Net { inputs, gates: (0..gates).map(gate).collect(), outputs: vec![inputs + gates - 1] }
 }
 
-/// Gates of which the lower half stands as in `standing_chain` and the upper half folds gate by gate, so that a sweep begins again at the
+/// Gates of which the lower half stands, with 16 distinct feeds, and the upper half folds gate by gate, so that a sweep begins again at the
 /// lower half each time.
 pub fn mixed_chain(gates: usize) -> Net {
-    let mut net = standing_chain(gates / 2);
+    let mut net = standing_chain(gates / 2, 16);
     let stood = net.inputs + gates / 2;
-    for g in gates / 2..gates {
-        let mut feeds = vec![(g % net.inputs, 1)];
-        if net.inputs + g > stood {
-            feeds.push((net.inputs + g - 1, 1));
+    for own in stood..net.inputs + gates {
+        let mut feeds = vec![(own % net.inputs, 1)];
+        if own > stood {
+            feeds.push((own - 1, 1));
         }
         net.gates.push(Gate { feeds, threshold: 1 });
     }

@@ -1,0 +1,71 @@
+//! Writes questions of the library into a folder, for a solver: each file's name says whether the question has a solution, as found by
+//! trying every frame with the independent implementation.
+//!
+//!     questions FOLDER COUNT
+use std::{env, fs, path::Path};
+use yovrenik_tests::generate::{network, Random};
+use yovrenik_tests::reference::{self, Net};
+use yovrenik_tests::{line, run};
+
+/// The text of the library's question for two files.
+fn question(first: &[u8], second: &[u8]) -> Vec<u8> {
+    let mut text = vec![];
+    let mut out = [0u8; 254];
+    let mut answer = [0u64; 1];
+    for n in 0.. {
+        match line(first, second, n, &mut out, &mut answer) {
+            0 => text.extend(&out[..answer[0] as usize]),
+            21 => break,
+            code => panic!("line {n} is refused with {code}"),
+        }
+    }
+    text
+}
+
+/// Whether two networks differ on some frame.
+fn differ(first: &Net, second: &Net) -> bool {
+    (0..1u64 << first.inputs).any(|x| reference::frame(first, x) != reference::frame(second, x))
+}
+
+/// The network after a sweep by the library.
+fn swept(file: &[u8]) -> Vec<u8> {
+    let mut answers = [0u64; 3];
+    let mut out = vec![0u8; 10_904];
+    assert_eq!(run(file, &[3, 128, 0, 0, 0], &mut answers, &mut out), 0);
+    out.truncate(answers[0] as usize);
+    out
+}
+
+/// The network with one threshold moved by one.
+fn moved(r: &mut Random, net: &Net) -> Net {
+    let mut other = net.clone();
+    let g = r.below(net.gates.len() as u64) as usize;
+    let step = if r.below(2) == 0 { 1 } else { -1 };
+    let t = other.gates[g].threshold + step;
+    other.gates[g].threshold = t.clamp(-1_000_000, 1_000_000);
+    other
+}
+
+fn store(folder: &Path, number: usize, first: &Net, second: &Net) {
+    let word = if differ(first, second) { "satisfiable" } else { "unsatisfiable" };
+    let text = question(&reference::write(first), &reference::write(second));
+    fs::write(folder.join(format!("{number:04}.{word}.opb")), text).unwrap();
+}
+
+fn main() {
+    let words: Vec<String> = env::args().collect();
+    let [_, folder, count] = words.as_slice() else { panic!("questions FOLDER COUNT") };
+    let folder = Path::new(folder);
+    let mut r = Random::new(11);
+    let mut number = 0;
+    while number < 2 * count.parse::<usize>().unwrap() {
+        let net = network(&mut r, 12, 5);
+        if net.inputs > 12 {
+            continue;
+        }
+        let after = reference::read(&swept(&reference::write(&net))).unwrap();
+        store(folder, number, &net, &after);
+        store(folder, number + 1, &net, &moved(&mut r, &after));
+        number += 2;
+    }
+}
