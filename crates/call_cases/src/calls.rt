@@ -5,9 +5,9 @@ use crate::show::left;
 use crate::show::number;
 use crate::show::size;
 use crate::show::text;
-use collapse::Outcome;
 use folding::Call;
 use network::Network;
+use sweeping::Outcome;
 
 // The end of a line's call, and the code.
 fn answered(code: u8) {
@@ -16,7 +16,7 @@ fn answered(code: u8) {
 }
 
 pub fn merge(name: &[u8], network: Network, u: usize, v: usize, k: usize, l: usize) {
-    let r = collapse::merge(network, u, v, k, l);
+    let r = merging::merge(network, u, v, k, l);
     text(name);
     text(b" merge");
     size(u);
@@ -29,7 +29,7 @@ pub fn merge(name: &[u8], network: Network, u: usize, v: usize, k: usize, l: usi
 
 // The numbers are k and l.
 pub fn pair(name: &[u8], network: Network, u: usize, v: usize) {
-    let r = collapse::pair(network, u, v);
+    let r = merging::pair(network, u, v);
     text(name);
     text(b" pair");
     size(u);
@@ -66,7 +66,7 @@ fn outcome(network: Network, r: Outcome) {
 }
 
 pub fn sweep(name: &[u8], network: Network, b: usize) {
-    let r = collapse::sweep(network, b);
+    let r = sweeping::sweep(network, b);
     text(name);
     text(b" sweep");
     size(b);
@@ -75,7 +75,7 @@ pub fn sweep(name: &[u8], network: Network, b: usize) {
 
 // A call of a list; the answer is the network that it leaves. The number is that of the collapses.
 pub fn apply(name: &[u8], network: Network, call: Call) -> Network {
-    let r = collapse::apply(network, call);
+    let r = sweeping::apply(network, call);
     text(name);
     text(b" apply");
     outcome(network, r);

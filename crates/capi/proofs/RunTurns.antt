@@ -9,7 +9,7 @@ use lib.Seq.{paste, paste-zero}
 use Rattle.network.specs.Record.{netOf, layout}
 use Rattle.network.specs.declared.Network.{Network}
 use Rattle.folding.specs.Calls.{answer, calls}
-use Rattle.collapse.specs.declared.Outcome.{Outcome}
+use Rattle.sweeping.specs.declared.Outcome.{Outcome}
 use Rattle.capi.specs.Runs.{wellFormed, callsIn, answersOf}
 use Rattle.capi.specs.Running.{Holds, callAt, Stepped}
 use Rattle.capi.specs.RunLaws.{count-calls, next-holds, next-calls, next-answers, after-two, store-two}

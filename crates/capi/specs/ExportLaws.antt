@@ -29,9 +29,9 @@ use Rattle.pmn.specs.OpenLaws.{Opened}
 use Rattle.pmn.specs.declared.Written.{Written}
 use Rattle.folding.specs.Merge.{edge, reads, silent}
 use Rattle.folding.specs.Pair.{Pair, pairOf, pair}
-use Rattle.collapse.specs.Answers.{onRecord, asPair, pairFound}
+use Rattle.merging.specs.Answers.{onRecord, asPair, pairFound}
 use Rattle.collapse.specs.FuseLaws.{Numbered, readerPair-numbered, pair-reader}
-use Rattle.collapse.specs.declared.PairFound.{PairFound}
+use Rattle.merging.specs.declared.PairFound.{PairFound}
 use Rattle.report.specs.Size.{cost, levels, reportOf, reported}
 use Rattle.report.specs.declared.SizeReport.{SizeReport}
 use Rattle.capi.specs.Exports.{codeOf, stored, room, framePlaces, pairPlaces, reportPlaces, lengthOf, fileOut, partOut}

@@ -26,8 +26,9 @@ use Rattle.folding.specs.Calls.{answer, leaves, calls}
 use Rattle.folding.specs.GuaranteeLaws.{calls-kept}
 use Rattle.folding.specs.declared.Call.{Call}
 use Rattle.folding.specs.declared.Call.the-variants.{Sweep}
-use Rattle.collapse.specs.Answers.{onRecord, asOutcome, applied}
-use Rattle.collapse.specs.declared.Outcome.{Outcome}
+use Rattle.merging.specs.Answers.{onRecord}
+use Rattle.sweeping.specs.Answers.{asOutcome, applied}
+use Rattle.sweeping.specs.declared.Outcome.{Outcome}
 use Rattle.capi.specs.Exports.{codeOf}
 use Rattle.capi.specs.ExportLaws.{on-layout}
 use Rattle.capi.specs.Runs.{callOf, wellFormed, callsIn, collapsesOf, answersOf}

@@ -11,7 +11,7 @@ use Rattle.network.specs.declared.Network.{Network}
 use Rattle.folding.specs.Sweep.{Swept}
 use Rattle.folding.specs.Calls.{leaves}
 use Rattle.folding.specs.declared.Call.{Call}
-use Rattle.collapse.specs.declared.Outcome.{Outcome}
+use Rattle.sweeping.specs.declared.Outcome.{Outcome}
 use Rattle.capi.specs.Exports.{codeOf}
 use Rattle.capi.specs.Runs.{callOf, collapsesOf}
 

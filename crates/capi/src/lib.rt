@@ -45,7 +45,7 @@ pub extern "C" fn pmn_pair(file: &[u8], u: u64, v: u64, answer: &mut [u64]) -> u
     if answer.len() < 2 {
         return 18;
     }
-    let found = collapse::pair(loaded.network, u as usize, v as usize);
+    let found = merging::pair(loaded.network, u as usize, v as usize);
     unchecked::places::put_two(answer, found.code, found.k as u64, found.l as u64)
 }
 

@@ -20,11 +20,11 @@ use Rattle.network.specs.Places.{SoundGate}
 use Rattle.network.specs.declared.Network.{Network}
 use Rattle.folding.specs.Merge.{silent, reads}
 use Rattle.folding.specs.Collapse.{unread, drop, collapse}
-use Rattle.folding.specs.Sweep.{readers, sweeping, sweep}
-use Rattle.collapse.specs.declared.Changed.{Changed}
-use Rattle.collapse.specs.declared.Outcome.{Outcome}
-use Rattle.collapse.specs.Answers.{onRecord, asChanged, asOutcome, droppedRecord, collapsedRecord, sweptRecord}
-use Rattle.collapse.specs.Readers.{occurs}
+use Rattle.folding.specs.Sweep.{readers}
+use Rattle.merging.specs.declared.Changed.{Changed}
+use Rattle.merging.specs.Answers.{onRecord, asChanged}
+use Rattle.collapse.specs.Answers.{droppedRecord, collapsedRecord}
+use Rattle.merging.specs.Readers.{occurs}
 use Rattle.collapse.specs.Fusing.{folded}
 
 -- ---- the tests as the code makes them
@@ -68,7 +68,7 @@ module _ (r : Network) (s : ℕ) where
   collapse-broken e = rw e
 
   module _ (whole : soundRecord r ≡ true) where
-    net-test : sound (netOf r) ≡ true
+    pub net-test : sound (netOf r) ≡ true
     unfolding soundRecord
     net-test = and-left (sound (netOf r)) (spareClear r) whole
 
@@ -114,21 +114,3 @@ module _ (r : Network) (s : ℕ) where
       pub collapsed : occurs (r .drivers) 0 (r .outputs) s ≡ false → collapsedRecord r s ≡ asChanged r (folded (netOf r) s)
       unfolding collapsedRecord onRecord checks
       collapsed e = rw (whole, collapse-folded e)
-
--- ---- sweep: 20, 14, and what follows
-module _ (r : Network) (b : ℕ) where
-  abbrev pub unswept : ℕ → Outcome
-  unswept c = record { code = c; network = r; collapses = 0 }
-
-  pub sweep-broken : soundRecord r ≡ false → sweptRecord r b ≡ unswept 20
-  unfolding sweptRecord onRecord checks asOutcome
-  sweep-broken e = rw e
-
-  module _ (whole : soundRecord r ≡ true) where
-    pub sweep-off : 128 < b → sweptRecord r b ≡ unswept 14
-    unfolding sweptRecord onRecord checks asOutcome sweep
-    sweep-off h = rw (whole, net-test r 0 whole, lt-leb b 128 h)
-
-    pub swept : b ≤ 128 → sweptRecord r b ≡ asOutcome r (accepted (sweeping (r .gates) b (netOf r) 0))
-    unfolding sweptRecord onRecord checks sweep
-    swept h = rw (whole, net-test r 0 whole, le-leb b 128 h, count-gates r)

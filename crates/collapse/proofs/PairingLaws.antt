@@ -14,7 +14,7 @@ use Rattle.integers.specs.Refusals.{accepted}
 use Rattle.network.specs.Threshold.{Gate}
 use Rattle.network.specs.Record.{gateFrom}
 use Rattle.folding.specs.Merge.{reads}
-use Rattle.collapse.specs.Lent.{edgeIn, Within, Joined}
+use Rattle.merging.specs.Lent.{edgeIn, Within, Joined}
 use Rattle.collapse.specs.Fusing.{edgeTo, readerPair}
 
 -- ---- gates u and g of lent arrays

@@ -30,8 +30,8 @@ use Rattle.folding.specs.Pair.{qualifies}
 use Rattle.folding.specs.Collapse.{withGates}
 use Rattle.folding.specs.SoundLaws.{resized-sound}
 use Rattle.collapse.specs.declared.Pairs.{Pairs}
-use Rattle.collapse.specs.Lent.{edgeIn, Lent, Joined}
-use Rattle.collapse.specs.LentLaws.{lent-of, lent-gate}
+use Rattle.merging.specs.Lent.{edgeIn, Lent, Joined}
+use Rattle.merging.specs.LentLaws.{lent-of, lent-gate}
 use Rattle.collapse.specs.Fusing.{edgeTo, fused, pairAt, AllPairs, fusedGates, foldedBy}
 use Rattle.collapse.specs.FuseLaws.{own-silent, Merges, pair-merges, fused-zero, fused-silent, fused-merged, fused-ok}
 

@@ -25,9 +25,9 @@ use Rattle.folding.specs.Collapse.{fuse, fuseAll, withGates}
 use Rattle.folding.specs.RefusalMore.{Refused}
 use Rattle.folding.specs.SoundLaws.{merged-ok, reader-above}
 use Rattle.folding.specs.PairLaws.{qualified-of, dial-of, pairOf-found}
-use Rattle.collapse.specs.Answers.{asPair}
+use Rattle.merging.specs.Answers.{asPair}
 use Rattle.collapse.specs.Fusing.{folded, edgeTo, readerPair, fused, fusion, pairAt, AllPairs, fusedGates, foldedBy}
-use Rattle.collapse.specs.declared.PairFound.{PairFound}
+use Rattle.merging.specs.declared.PairFound.{PairFound}
 use Rattle.collapse.specs.declared.Pairs.{Pairs}
 
 -- ---- refusals that go on

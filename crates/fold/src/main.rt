@@ -81,7 +81,7 @@ fn fold(file: &[u8]) {
         return;
     }
     let before = loaded.network;
-    let swept = collapse::sweep(before, 128);
+    let swept = sweeping::sweep(before, 128);
     let after = swept.network;
     sizes(before, after);
     text(b"folded");

@@ -20,8 +20,9 @@ use Rattle.folding.specs.GuaranteeLaws.{answer-kept, calls-kept, calls-agree, l
 use Rattle.folding.specs.declared.Call.{Call}
 use Rattle.constraints.specs.Question.{Solves, question}
 use Rattle.constraints.specs.SolutionLaws.{agree-unsolvable}
-use Rattle.collapse.specs.Answers.{onRecord, asOutcome, applied}
-use Rattle.collapse.specs.declared.Outcome.{Outcome}
+use Rattle.merging.specs.Answers.{onRecord}
+use Rattle.sweeping.specs.Answers.{asOutcome, applied}
+use Rattle.sweeping.specs.declared.Outcome.{Outcome}
 use Rattle.format.specs.Format.{Bytes}
 use Rattle.pmn.specs.Answers.{loaded}
 use Rattle.pmn.specs.OpenLaws.{opened, loaded-net, opened-sound}

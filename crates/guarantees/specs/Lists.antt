@@ -13,7 +13,7 @@ use Rattle.folding.specs.Calls.{answer, calls}
 use Rattle.folding.specs.Guarantee.{Claim}
 use Rattle.folding.specs.declared.Call.{Call}
 use Rattle.constraints.specs.Question.{Solves, question}
-use Rattle.collapse.specs.Answers.{asOutcome, applied}
+use Rattle.sweeping.specs.Answers.{asOutcome, applied}
 
 -- the record after a list: "each later one the network that the call before it returned"
 unfoldable pub callsOn : Network → List Call → Network

@@ -124,7 +124,7 @@ fn show_room(first: Network, second: Network, n: usize, room: usize) {
 fn main() {
     let file = F;
     let f = pmn::read(&file).network;
-    let swept = collapse::sweep(f, 128);
+    let swept = sweeping::sweep(f, 128);
     let folded = swept.network;
     text(b"F and F folded\n");
     show_lines(f, folded, 11);

@@ -1,7 +1,7 @@
 // A list of calls, given as numbers, five to a call, run on the record of a sound network.
-use collapse::Outcome;
 use folding::Call;
 use network::Network;
+use sweeping::Outcome;
 ghost use mathlib.Core.Path.{_≡_};
 ghost use mathlib.Core.Bool.{true};
 ghost use Prim.Native.Nat.{_+_, _*_, _≤_};
@@ -61,7 +61,7 @@ fn step(network: Network, numbers: &[u64], i: usize) -> Outcome
     requires { ⌜ 5 * i + 5 ≤ length (now numbers) ⌝ }
     ensures { λ r. ⌜ Stepped (netOf network) (answer (netOf network) (callAt (now (numbers .entry)) i)) r ⌝ }
 {
-    collapse::apply(network, call_at(numbers, i))
+    sweeping::apply(network, call_at(numbers, i))
 }
 
 // The record after the whole list.

@@ -24,8 +24,11 @@ abbrev μ-loop : tie.MeasureT-loop
 loop-holds : tie.Need-loop-holds Inv-loop μ-loop
 loop-holds c = (omega arith, rw (let e : c .args .outputs - 0 ≡ c .args .outputs = omega arith in e))
 
-element-copy-out-is-gate : tie.Need-element-copy-out-is-gate Inv-loop μ-loop
-element-copy-out-is-gate c = search needs
+element-copy-out-wide : tie.Need-element-copy-out-wide Inv-loop μ-loop
+element-copy-out-wide c = search needs
+
+wide-requires : tie.Need-wide-requires Inv-loop μ-loop
+wide-requires c κs = search needs
 
 is-gate-requires : tie.Need-is-gate-requires Inv-loop μ-loop
 is-gate-requires c κs = search needs
@@ -38,11 +41,11 @@ loop-less c = search needs
 
 loop-again : tie.Need-loop-again Inv-loop μ-loop
 loop-again c =
-    let l = c .before .before .before .loop in
-    let drivers = c .before .before .before .before .args .drivers .now in (
+    let l = c .before .before .before .before .loop in
+    let drivers = c .before .before .before .before .before .args .drivers .now in (
       omega arith,
-      rw (c .is-gate .ensures) (and-assoc (l .ok) _ _)
-          ∙ ap (λ b. l .ok && b) (sym (all-step _ (λ i. getD drivers i 0) (l .j) _ (c .before .before .loop-test .taken))) ∙ l .inv .1,
+      rw (c .is-gate .ensures, c .before .wide .ensures .0) (and-assoc (l .ok) _ _)
+          ∙ ap (λ b. l .ok && b) (sym (all-step _ (λ i. getD drivers i 0) (l .j) _ (c .before .before .before .loop-test .taken))) ∙ l .inv .1,
     )
 
 returns : tie.Need-returns Inv-loop μ-loop
@@ -56,7 +59,8 @@ drivers-sound-spec =
     Inv-loop
     μ-loop
     loop-holds
-    element-copy-out-is-gate
+    element-copy-out-wide
+    wide-requires
     is-gate-requires
     add-j
     loop-less

@@ -1,7 +1,7 @@
 -- A call on the record of a sound network is the call on the network.
 use borrow.Author.Needs.{needs}
 use mathlib.Core.Path.{ap, _∙_}
-use Rattle.collapse.specs.Answers.{applied}
+use Rattle.sweeping.specs.Answers.{applied}
 use Rattle.capi.specs.RunLaws.{step-done}
 use Rattle.capi.proofs.unchecked.runs.step.Statement.{statement}
 use Rattle.capi.proofs.unchecked.runs.step.Tie as tie

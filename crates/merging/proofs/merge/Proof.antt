@@ -1,0 +1,119 @@
+-- The record's own refusal, then those of u and v, then those of the merge; the merged gate replaces v. Assumes nothing.
+use mathlib.Core.Path.{_≡_, sym, ap, _∙_}
+use mathlib.Core.Bool.{true}
+use borrow.Author.Tests.{not-true, not-false}
+use Rattle.integers.specs.RefusalLaws.{Passed}
+use Rattle.integers.specs.Tests.{T-is}
+use Rattle.network.specs.Threshold.{Gate}
+use Rattle.network.specs.Changes.{withGate}
+use Rattle.network.specs.Record.{netOf, layout, soundRecord, gateIn, gateRecord}
+use Rattle.network.specs.declared.Network.{Network}
+use Rattle.folding.specs.Merge.{Edge, merged}
+use Rattle.merging.specs.Answers.{asChanged}
+use Rattle.merging.specs.Codes.{mergeTests}
+use Rattle.merging.specs.Lent.{edgeIn, Lent, Joined}
+use Rattle.merging.specs.LentLaws.{lent-of}
+use Rattle.merging.specs.CallLaws.{merge-broken, merge-apart, apart-none, apart-gate, merge-refused, merge-accepted, merge-passed, passed-narrow, passed-qualifies, passed-gate}
+use borrow.Author.Needs.{needs}
+use Rattle.merging.proofs.merge.Statement.{statement}
+use Rattle.merging.proofs.merge.Tie as tie
+
+is-sound-requires : tie.Need-is-sound-requires
+is-sound-requires c κs = search needs
+
+returns : tie.Need-returns
+unfolding asChanged
+returns c =
+    let a = c .before .before .args in
+    sym (merge-broken (a .t1) (sym (c .before .is-sound .ensures) ∙ not-true _ (c .if1 .taken)) (a .u) (a .v) (a .k) (a .l))
+
+-- past the first test the record is sound, and lends its arrays
+tested : (c : tie.Else1) → soundRecord (c .before .before .args .t1) ≡ true
+tested c = sym (c .before .is-sound .ensures) ∙ not-false _ (c .if1 .left)
+
+lent : (c : tie.Else1) → let r = c .before .before .args .t1 in Lent (r .fanins) (r .thresholds) (r .signals) (r .weights) (r .inputs) (r .gates)
+lent c = lent-of _ (T-is _ (tested c))
+
+edge-code-requires : tie.Need-edge-code-requires
+edge-code-requires c κs = lent (c .before .before .before .before .before)
+
+returns-2 : tie.Need-returns-2
+unfolding asChanged
+returns-2 c =
+    let s = c .before .before .before .before .before .before .before in
+    let a = s .before .before .args in
+    sym (merge-apart (a .t1) (tested s) (a .u) (a .v) _ (c .before .edge-code .ensures) (c .if2 .taken) (a .k) (a .l))
+
+-- past the second test u feeds v
+abbrev sound : tie.Else2 → tie.Else1
+sound c = c .before .before .before .before .before .before .before
+
+abbrev edge : tie.Start → Edge
+edge s = let r = s .args .t1 in edgeIn (r .fanins) (r .thresholds) (r .signals) (r .weights) (r .inputs) (s .args .u) (s .args .v)
+
+joined : (c : tie.Else2) → let a = sound c .before .before .args in Joined (a .t1 .fanins) (a .t1 .thresholds) (a .t1 .signals) (a .t1 .weights) (a .t1 .inputs) (a .t1 .gates) (a .u) (a .v)
+joined c =
+    let a = sound c .before .before .args in
+    apart-none (a .t1) (tested (sound c)) (a .u) (a .v) _ (c .before .edge-code .ensures) (c .if2 .left)
+
+merge-code-requires : tie.Need-merge-code-requires
+merge-code-requires c κs = let t = c .before .before .before .before .before in (lent (sound t), joined t)
+
+returns-3 : tie.Need-returns-3
+unfolding asChanged
+returns-3 c =
+    let t = c .before .before .before .before .before .before .before in
+    let a = sound t .before .before .args in
+    sym (merge-refused (a .t1) (tested (sound t)) (a .u) (a .v) _ (t .before .edge-code .ensures) (t .if2 .left) (a .k) (a .l) _ (c .before .merge-code .ensures) (c .if3 .taken))
+
+-- past the third test nothing refuses
+abbrev fed : tie.Else3 → tie.Else2
+fed c = c .before .before .before .before .before .before .before
+
+passed : (c : tie.Else3) → let s = sound (fed c) .before .before in Passed (mergeTests (edge s) (s .args .k) (s .args .l))
+passed c =
+    let s = sound (fed c) .before .before in
+    merge-passed (edge s) (s .args .k) (s .args .l) _ (c .before .merge-code .ensures) (c .if3 .left)
+
+merged-of-requires : tie.Need-merged-of-requires
+merged-of-requires c κs =
+    let t = c .before .before .before .before .before in
+    let s = sound (fed t) .before .before in
+    (lent (sound (fed t)), (joined (fed t), (passed-qualifies (edge s) (s .args .k) (s .args .l) (passed t), passed-narrow (edge s) (s .args .k) (s .args .l) (passed t))))
+
+-- the merged gate's places stand for it
+gate-is : (c : tie.After-merged-of) → let s = sound (fed (c .before .before .before .before .before .before)) .before .before in gateIn (c .merged-of .result) ≡ merged (edge s) (s .args .k) (s .args .l)
+gate-is c =
+    let t = c .before .before .before .before .before .before in
+    let s = sound (fed t) .before .before in
+    passed-gate (edge s) (s .args .k) (s .args .l) (passed t) (c .merged-of .result) (c .merged-of .ensures)
+
+replace-gate-requires : tie.Need-replace-gate-requires
+replace-gate-requires c κs =
+    let t = fed (c .before .before .before .before .before .before) in
+    let a = sound t .before .before .args in
+    (apart-gate (a .t1) (tested (sound t)) (a .u) (a .v) _ (t .before .edge-code .ensures) (t .if2 .left), c .merged-of .ensures ∙ ap gateRecord (sym (gate-is c)))
+
+returns-4 : tie.Need-returns-4
+unfolding asChanged
+returns-4 c =
+    let p = c .before .before .before .before .before .before .before in
+    let t = fed p in
+    let a = sound t .before .before .args in
+    let new = c .replace-gate .ensures ∙ ap (λ (g : Gate). layout (withGate (netOf (a .t1)) (a .v) g)) (gate-is (c .before)) in
+    ap (λ (r : Network). record { code = 0; network = r }) new
+    ∙ sym (merge-accepted (a .t1) (tested (sound t)) (a .u) (a .v) _ (t .before .edge-code .ensures) (t .if2 .left) (a .k) (a .l) (passed p))
+
+pub merge-spec : {M : Type 1} → statement M
+merge-spec =
+    tie.close
+    (tie.spec
+    is-sound-requires
+    returns
+    edge-code-requires
+    returns-2
+    merge-code-requires
+    returns-3
+    merged-of-requires
+    replace-gate-requires
+    returns-4)

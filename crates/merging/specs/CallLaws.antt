@@ -1,0 +1,121 @@
+-- Laws of a pair and a merge on a record: the answer by the number of the first test that fails. Assumes nothing.
+use mathlib.Core.Path.{_≡_, sym, ap, _∙_}
+use mathlib.Core.Bool.{true, false}
+use Prim.Native.Nat.{ℕ}
+use native.Mathlib.Omega.{arith}
+use lib.Dec.{T}
+use Rattle.integers.specs.Refusals.{accepted, refused, checks}
+use Rattle.integers.specs.RefusalLaws.{Passed, passed-checks}
+use Rattle.integers.specs.Tests.{is-true, T-and, and-left}
+use Rattle.network.specs.Limits.{sound, isGate}
+use Rattle.network.specs.Changes.{withGate}
+use Rattle.network.specs.Record.{netOf, soundRecord, spareClear, gateIn, gateRecord}
+use Rattle.network.specs.Places.{SoundGate}
+use Rattle.network.specs.PlaceLaws.{gateIn-gateRecord}
+use Rattle.network.specs.declared.Network.{Network}
+use Rattle.network.specs.declared.GateRecord.{GateRecord}
+use Rattle.folding.specs.Merge.{Edge, edge, merged, onDial, narrow, limits, merge}
+use Rattle.folding.specs.Pair.{qualifies, pairOf, pair}
+use Rattle.folding.specs.PairLaws.{of-qualified}
+use Rattle.folding.specs.SoundLaws.{merged-ok}
+use Rattle.merging.specs.Answers.{onRecord, asChanged, asPair, mergedRecord, pairFound}
+use Rattle.merging.specs.Lent.{edgeIn, Joined}
+use Rattle.merging.specs.Codes.{codeOf, edgeTests, edgeTestsIn, mergeTests}
+use Rattle.merging.specs.CodeLaws.{code-passed, code-refused}
+use Rattle.merging.specs.EdgeLaws.{joined-of, edge-is, tests-are}
+use Rattle.merging.specs.FittedLaws.{narrow-few}
+
+-- ---- a record that is not sound
+module _ (r : Network) (s : soundRecord r ≡ false) where
+  pub pair-broken : (u v : ℕ) → pairFound r u v ≡ asPair (refused 20)
+  unfolding pairFound onRecord checks
+  pair-broken u v = rw s
+
+  pub merge-broken : (u v k l : ℕ) → mergedRecord r u v k l ≡ asChanged r (refused 20)
+  unfolding mergedRecord onRecord checks
+  merge-broken u v k l = rw s
+
+-- ---- a sound record
+module _ (r : Network) (s : soundRecord r ≡ true) (u v : ℕ) where
+  sound-is : sound (netOf r) ≡ true
+  unfolding soundRecord
+  sound-is = and-left (sound (netOf r)) (spareClear r) s
+
+  pair-sound : pairFound r u v ≡ asPair (checks (edgeTests (netOf r) u v) (pairOf (edge (netOf r) u v)))
+  unfolding pairFound onRecord pair edgeTests checks
+  pair-sound = rw (s, sound-is)
+
+  merge-sound : (k l : ℕ) → mergedRecord r u v k l
+      ≡ asChanged r (checks (edgeTests (netOf r) u v) (checks (mergeTests (edge (netOf r) u v) k l) (accepted (withGate (netOf r) v (merged (edge (netOf r) u v) k l)))))
+  unfolding mergedRecord onRecord merge limits edgeTests mergeTests checks
+  merge-sound k l = rw (s, sound-is)
+
+  -- the number of the first test of u and v that fails
+  module _ (n : ℕ) (same : n ≡ codeOf (edgeTestsIn (r .fanins) (r .thresholds) (r .signals) (r .weights) (r .inputs) (r .gates) u v)) where
+    number-is : n ≡ codeOf (edgeTests (netOf r) u v)
+    number-is = same ∙ tests-are r u v
+
+    -- 11 or 12
+    module _ (other : n ≡ 0 → ⊥) where
+      pub pair-apart : pairFound r u v ≡ asPair (refused n)
+      pair-apart = pair-sound ∙ ap asPair (code-refused (edgeTests (netOf r) u v) (pairOf (edge (netOf r) u v)) (λ e. other (number-is ∙ e)) ∙ ap refused (sym number-is))
+
+      pub merge-apart : (k l : ℕ) → mergedRecord r u v k l ≡ asChanged r (refused n)
+      merge-apart k l = merge-sound k l ∙ ap (asChanged r) (code-refused (edgeTests (netOf r) u v) _ (λ e. other (number-is ∙ e)) ∙ ap refused (sym number-is))
+
+    -- u feeds v
+    module _ (none : n ≡ 0) where
+      pub apart-none : Joined (r .fanins) (r .thresholds) (r .signals) (r .weights) (r .inputs) (r .gates) u v
+      unfolding edgeTestsIn
+      apart-none = joined-of (r .fanins) (r .thresholds) (r .signals) (r .weights) (r .inputs) (r .gates) u v
+          (code-passed (edgeTestsIn (r .fanins) (r .thresholds) (r .signals) (r .weights) (r .inputs) (r .gates) u v) (omega arith, (omega arith, tt)) (sym same ∙ none))
+
+      feeds : Passed (edgeTests (netOf r) u v)
+      unfolding edgeTests
+      feeds = code-passed (edgeTests (netOf r) u v) (omega arith, (omega arith, tt)) (sym number-is ∙ none)
+
+      pub apart-gate : SoundGate r v
+      unfolding edgeTests
+      apart-gate = record { sound = s; gate = is-true (isGate (netOf r) v) (T-and (isGate (netOf r) u) (isGate (netOf r) v) (feeds .0) .1) }
+
+      abbrev here : Edge
+      here = edgeIn (r .fanins) (r .thresholds) (r .signals) (r .weights) (r .inputs) u v
+
+      here-is : here ≡ edge (netOf r) u v
+      here-is = edge-is r u v (apart-none .u-gate) (apart-none .v-gate)
+
+      pub pair-joined : pairFound r u v ≡ asPair (pairOf here)
+      pair-joined = pair-sound ∙ ap asPair (passed-checks (edgeTests (netOf r) u v) (pairOf (edge (netOf r) u v)) feeds ∙ ap pairOf (sym here-is))
+
+      merge-joined : (k l : ℕ) → mergedRecord r u v k l ≡ asChanged r (checks (mergeTests here k l) (accepted (withGate (netOf r) v (merged here k l))))
+      merge-joined k l = merge-sound k l ∙ ap (asChanged r) (passed-checks (edgeTests (netOf r) u v) _ feeds
+          ∙ ap (λ (e : Edge). checks (mergeTests e k l) (accepted (withGate (netOf r) v (merged e k l)))) (sym here-is))
+
+      -- 13, 14, 7, 6 or 15
+      pub merge-refused : (k l m : ℕ) → m ≡ codeOf (mergeTests here k l) → (m ≡ 0 → ⊥) → mergedRecord r u v k l ≡ asChanged r (refused m)
+      merge-refused k l m e h = merge-joined k l ∙ ap (asChanged r) (code-refused (mergeTests here k l) _ (λ z. h (e ∙ z)) ∙ ap refused (sym e))
+
+      pub merge-accepted : (k l : ℕ) → Passed (mergeTests here k l) → mergedRecord r u v k l ≡ asChanged r (accepted (withGate (netOf r) v (merged here k l)))
+      merge-accepted k l p = merge-joined k l ∙ ap (asChanged r) (passed-checks (mergeTests here k l) _ p)
+
+-- ---- where the tests of a merge hold
+pub merge-passed : (e : Edge) (k l m : ℕ) → m ≡ codeOf (mergeTests e k l) → m ≡ 0 → Passed (mergeTests e k l)
+unfolding mergeTests
+merge-passed e k l m same none = code-passed (mergeTests e k l) (omega arith, (omega arith, (omega arith, (omega arith, (omega arith, tt))))) (sym same ∙ none)
+
+module _ (e : Edge) (k l : ℕ) (p : Passed (mergeTests e k l)) where
+  pub passed-narrow : T (narrow e)
+  unfolding mergeTests
+  passed-narrow = p .1 .1 .0
+
+  -- k and l qualify
+  pub passed-qualifies : qualifies e (record { k = k; l = l }) ≡ true
+  unfolding mergeTests
+  passed-qualifies =
+      let d = T-and (onDial k) (onDial l) (p .1 .0) in
+      is-true _ (of-qualified e (record { k = k; l = l }) (record { k-dial = d .0; l-dial = d .1; scaled = p .1 .1 .1 .0; agreed = p .1 .1 .1 .1 .0 }))
+
+  -- the merged gate's places stand for it
+  pub passed-gate : (g : GateRecord) → g ≡ gateRecord (merged e k l) → gateIn g ≡ merged e k l
+  unfolding mergeTests
+  passed-gate g same = ap gateIn same ∙ gateIn-gateRecord (merged e k l) (merged-ok e k l (narrow-few e passed-narrow) (p .1 .1 .1 .0) .few)

@@ -1,0 +1,104 @@
+-- Laws of two gates in lent arrays: what they have, that they can be aligned, and that those of a sound record are those of its
+-- network. Assumes nothing.
+use mathlib.Core.Path.{_≡_, refl, sym, ap, ap₂, _∙_, subst}
+use mathlib.Core.Bool.{Bool, true, false, _&&_}
+use mathlib.Core.List.{List, [], _∷_}
+use Prim.Native.Nat.{ℕ, _+_, _-_, _<_}
+use native.Mathlib.Omega.{arith}
+use lib.Dec.{T, leb, ltb, leb→le, ltb→lt}
+use lib.IntN.{ℤ}
+use Rattle.integers.specs.Refusals.{_else_}
+use Rattle.integers.specs.RefusalLaws.{Passed}
+use Rattle.integers.specs.Tests.{T-and}
+use Rattle.network.specs.Threshold.{Gate}
+use Rattle.network.specs.Limits.{isGate}
+use Rattle.network.specs.LimitLaws.{GateOk}
+use Rattle.network.specs.Changes.{gateAt}
+use Rattle.network.specs.Record.{gateFrom, gateIn, netOf}
+use Rattle.network.specs.RecordTests.{gateSignal}
+use Rattle.network.specs.Places.{rowAt}
+use Rattle.network.specs.PlaceLaws.{gateIn-gateRecord}
+use Rattle.network.specs.RecordLaws.{count-gates, gate-within}
+use Rattle.network.specs.declared.Network.{Network}
+use Rattle.network.specs.declared.GateRecord.{GateRecord}
+use Rattle.folding.specs.Merge.{edge, reads}
+use Rattle.folding.specs.AlignedLaws.{EdgeOk}
+use Rattle.alignment.specs.Alignments as alignments
+use Rattle.alignment.specs.Alignments.{Alignable}
+use Rattle.merging.specs.Lent.{edgeIn, Lent, Within, Joined}
+use Rattle.merging.specs.LentLaws.{lent-gate}
+use Rattle.merging.specs.Codes.{codeOf, edgeTests, edgeTestsIn}
+
+-- ---- gates in lent arrays
+
+-- s is a gate's signal, as a test and as a fact
+pub within-of : (inputs gates s : ℕ) → T (gateSignal inputs gates s) → Within inputs gates s
+unfolding gateSignal
+within-of inputs gates s t =
+    let h = T-and (leb inputs s) (ltb s (inputs + gates)) t in
+    let low = leb→le inputs s (h .0) in
+    let high = ltb→lt s (inputs + gates) (h .1) in
+    record { low = low; high = omega arith }
+
+module _ {fanins : List ℕ} {thresholds : List ℤ} {signals : List ℕ} {weights : List ℤ} {inputs gates : ℕ} (l : Lent fanins thresholds signals weights inputs gates) where
+  -- a gate by its signal: it has a place, and is within the limits
+  pub signal-place : (s : ℕ) → Within inputs gates s → s - inputs < 128
+  signal-place s w = omega (arith, w .high, l .few-gates)
+
+  signal-gate : (s : ℕ) → Within inputs gates s → GateOk s (gateFrom fanins thresholds signals weights (s - inputs))
+  signal-gate s w = subst (λ n. GateOk n (gateFrom fanins thresholds signals weights (s - inputs))) (let e : inputs + (s - inputs) ≡ s = omega (arith, w .low) in e) (lent-gate l (s - inputs) (w .high))
+
+  -- its places stand for it
+  signal-row : (s : ℕ) → Within inputs gates s → gateIn (rowAt fanins thresholds signals weights (s - inputs)) ≡ gateFrom fanins thresholds signals weights (s - inputs)
+  signal-row s w = ap gateIn (l .rows (s - inputs) (w .high)) ∙ gateIn-gateRecord (gateFrom fanins thresholds signals weights (s - inputs)) (signal-gate s w .few)
+
+  -- two gates of which one feeds the other
+  module _ {u v : ℕ} (j : Joined fanins thresholds signals weights inputs gates u v) where
+    pub joined-ok : EdgeOk (edgeIn fanins thresholds signals weights inputs u v)
+    joined-ok = record { okU = signal-gate u (j .u-gate); okV = signal-gate v (j .v-gate); joined = j .joined }
+
+    -- they can be aligned
+    pub joined-alignable : Alignable (edgeIn fanins thresholds signals weights inputs u v)
+    joined-alignable = record { ok = joined-ok; low = omega (arith, j .v-gate .high, l .few-inputs, l .few-gates) }
+
+    -- their places stand for them
+    pub joined-rows : (gateU gateV : GateRecord) → gateU ≡ rowAt fanins thresholds signals weights (u - inputs) → gateV ≡ rowAt fanins thresholds signals weights (v - inputs)
+        → alignments.edgeIn gateU gateV u v ≡ edgeIn fanins thresholds signals weights inputs u v
+    joined-rows gateU gateV x y =
+        ap₂ (λ (g h : Gate). record { u = u; v = v; gateU = g; gateV = h }) (ap gateIn x ∙ signal-row u (j .u-gate)) (ap gateIn y ∙ signal-row v (j .v-gate))
+
+-- where both tests hold, one feeds the other
+pub joined-of : (fanins : List ℕ) (thresholds : List ℤ) (signals : List ℕ) (weights : List ℤ) (inputs gates u v : ℕ)
+    → Passed (edgeTestsIn fanins thresholds signals weights inputs gates u v) → Joined fanins thresholds signals weights inputs gates u v
+unfolding edgeTestsIn
+joined-of fanins thresholds signals weights inputs gates u v p =
+    let h = T-and (gateSignal inputs gates u) (gateSignal inputs gates v) (p .0) in
+    record { u-gate = within-of inputs gates u (h .0); v-gate = within-of inputs gates v (h .1); joined = p .1 .0 }
+
+-- ---- the arrays of a record
+
+module _ (r : Network) where
+  -- its gates are those of its network
+  signal-is : (s : ℕ) → gateSignal (r .inputs) (r .gates) s ≡ isGate (netOf r) s
+  unfolding gateSignal isGate netOf
+  signal-is s = ap (λ (n : ℕ). leb (r .inputs) s && ltb s (r .inputs + n)) (sym (count-gates r))
+
+  gate-is : (s : ℕ) → Within (r .inputs) (r .gates) s → gateFrom (r .fanins) (r .thresholds) (r .signals) (r .weights) (s - r .inputs) ≡ gateAt (netOf r) s
+  unfolding gateAt netOf
+  gate-is s w = sym (gate-within r (s - r .inputs) (w .high))
+
+  pub edge-is : (u v : ℕ) → Within (r .inputs) (r .gates) u → Within (r .inputs) (r .gates) v
+      → edgeIn (r .fanins) (r .thresholds) (r .signals) (r .weights) (r .inputs) u v ≡ edge (netOf r) u v
+  unfolding edge
+  edge-is u v a b = ap₂ (λ (g h : Gate). record { u = u; v = v; gateU = g; gateV = h }) (gate-is u a) (gate-is v b)
+
+  -- so are the tests: v's feeds are looked at only if v is a gate
+  pub tests-are : (u v : ℕ) → codeOf (edgeTestsIn (r .fanins) (r .thresholds) (r .signals) (r .weights) (r .inputs) (r .gates) u v) ≡ codeOf (edgeTests (netOf r) u v)
+  unfolding codeOf edgeTestsIn edgeTests
+  tests-are u v = rw (← signal-is u, ← signal-is v)
+      (second (gateSignal (r .inputs) (r .gates) u && gateSignal (r .inputs) (r .gates) v)
+      (λ t. ap (reads u) (gate-is v (within-of (r .inputs) (r .gates) v (T-and (gateSignal (r .inputs) (r .gates) u) (gateSignal (r .inputs) (r .gates) v) t .1)))))
+    where
+      second : (b : Bool) {x y : Bool} → (T b → x ≡ y) → codeOf ((b else 11) ∷ (x else 12) ∷ []) ≡ codeOf ((b else 11) ∷ (y else 12) ∷ [])
+      second true h = rw (h tt)
+      second false h = refl

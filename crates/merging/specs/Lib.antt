@@ -1,0 +1,10 @@
+pub mod Answers
+pub mod Lent
+pub mod Readers
+pub mod LentLaws
+pub mod Codes
+pub mod CodeLaws
+pub mod EdgeLaws
+pub mod Fitted
+pub mod FittedLaws
+pub mod CallLaws

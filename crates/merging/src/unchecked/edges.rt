@@ -1,0 +1,85 @@
+// Two gates of a record whose arrays are lent: the tests that both are gates and that one feeds the other, and the two aligned by
+// their distinct feeds.
+use crate::unchecked::readers::reads_gate;
+use alignment::Alignment;
+use alignment::unchecked::align;
+use integers::widened;
+use network::soundness::is_gate;
+use places::unchecked::gate_at;
+use search::Levels;
+ghost use mathlib.Core.Path.{_≡_};
+ghost use Prim.Native.Nat.{_≤_};
+ghost use lib.Signed.{nonNeg};
+ghost use Rattle.folding.specs.Merge.{onDial};
+ghost use Rattle.alignment.specs.Alignments.{alignmentOf};
+ghost use Rattle.merging.specs.Lent.{edgeIn, Lent, Joined};
+ghost use Rattle.merging.specs.Codes.{codeOf, edgeTestsIn};
+ghost use Rattle.merging.specs.Fitted.{levelsIn};
+
+// 11 or 12 if u or v is no gate or u doesn't feed v, else 0.
+pub fn edge_code<'a>(
+    fanins: &'a [u8; 128],
+    thresholds: &'a [i32; 128],
+    signals: &'a [u8; 2048],
+    weights: &'a [i32; 2048],
+    inputs: usize,
+    gates: usize,
+    u: usize,
+    v: usize,
+) -> u8
+    requires { ⌜ Lent (now fanins) (now thresholds) (now signals) (now weights) inputs gates ⌝ }
+    ensures { λ r. ⌜ r ≡ codeOf (edgeTestsIn (now (fanins .entry)) (now (thresholds .entry)) (now (signals .entry)) (now (weights .entry)) inputs gates u v) ⌝ }
+{
+    let both = is_gate(inputs, gates, u) & is_gate(inputs, gates, v);
+    if !both {
+        return 11;
+    }
+    if !reads_gate(fanins, signals, v - inputs, u) {
+        return 12;
+    }
+    0
+}
+
+// Gates u and v by their distinct feeds.
+pub fn aligned_at<'a>(
+    fanins: &'a [u8; 128],
+    thresholds: &'a [i32; 128],
+    signals: &'a [u8; 2048],
+    weights: &'a [i32; 2048],
+    inputs: usize,
+    gates: usize,
+    u: usize,
+    v: usize,
+) -> Alignment
+    requires { ⌜ Lent (now fanins) (now thresholds) (now signals) (now weights) inputs gates ⌝ }
+    requires { ⌜ Joined (now fanins) (now thresholds) (now signals) (now weights) inputs gates u v ⌝ }
+    ensures { λ r. ⌜ r ≡ alignmentOf (edgeIn (now (fanins .entry)) (now (thresholds .entry)) (now (signals .entry)) (now (weights .entry)) inputs u v) ⌝ }
+{
+    let gate_u = gate_at(fanins, thresholds, signals, weights, u - inputs);
+    let gate_v = gate_at(fanins, thresholds, signals, weights, v - inputs);
+    align(gate_u, gate_v, u, v)
+}
+
+// Whether a weight is not negative.
+pub fn with_grain(b: i32) -> bool
+    ensures { λ r. ⌜ r ≡ nonNeg b ⌝ }
+{
+    0 <= b
+}
+
+// Whether a multiplier is on the dial.
+pub fn on_dial(k: usize) -> bool
+    ensures { λ r. ⌜ r ≡ onDial k ⌝ }
+{
+    (1 <= k) & (k <= 32)
+}
+
+// The thresholds and b of two aligned gates, in 64 bits.
+pub fn levels_of(a: Alignment) -> Levels
+    ensures { λ r. ⌜ r ≡ levelsIn a ⌝ }
+{
+    let tu = widened(a.tu);
+    let tv = widened(a.tv);
+    let b = widened(a.b);
+    Levels { tu, tv, b }
+}

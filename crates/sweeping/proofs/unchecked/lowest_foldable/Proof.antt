@@ -1,0 +1,150 @@
+-- What a sweep finds from each gate on is what it finds; the first gate with all its pairs is the answer. Assumes nothing.
+use borrow.Author.Needs.{needs}
+use mathlib.Core.Path.{_≡_, sym, _∙_, subst}
+use mathlib.Core.Bool.{_||_, true≢false, false≢true}
+use Prim.Native.Nat.{_+_, _-_, _≤_, _<_}
+use native.Mathlib.Omega.{arith}
+use lib.Dec.{ltb}
+use Rattle.integers.specs.Tests.{T-is}
+use Rattle.network.specs.Record.{netOf, soundRecord}
+use Rattle.network.specs.SoundLaws.{sized-of}
+use Rattle.folding.specs.Sweep.{readers, sweepFrom, sweepOnce}
+use Rattle.folding.specs.RefusalMore.{Refused}
+use Rattle.merging.specs.Readers.{occurs}
+use Rattle.merging.specs.LentLaws.{lent-of, lent-counted}
+use Rattle.sweeping.proofs.TurnLaws.{turn-end, sweep-start, pass-barred, pass-refused, taken}
+use Rattle.sweeping.proofs.unchecked.lowest_foldable.Statement.{statement}
+use Rattle.sweeping.proofs.unchecked.lowest_foldable.Tie as tie
+
+abbrev Inv-loop : tie.InvT-loop
+Inv-loop b hints₀ network inputs gates outputs g₀ hints g =
+    (g ≤ gates) × (sweepFrom (netOf network) b (inputs + g) (gates - g) ≡ sweepOnce (netOf network) b)
+
+abbrev μ-loop : tie.MeasureT-loop
+μ-loop b hints₀ network inputs gates outputs g₀ hints g = gates - g
+
+loop-holds : tie.Need-loop-holds Inv-loop μ-loop
+loop-holds c = (omega arith, sweep-start (c .args .t1) (c .args .b))
+
+add-u : tie.Need-add-u Inv-loop μ-loop
+add-u c = let z = sized-of _ (c .before .before .pre) in omega (arith, z .few-inputs, z .few-gates)
+
+count-readers-requires : tie.Need-count-readers-requires Inv-loop μ-loop
+count-readers-requires c κs = lent-counted (lent-of _ (T-is (soundRecord _) (c .before .before .before .before .before .pre)))
+
+is-output-requires : tie.Need-is-output-requires Inv-loop μ-loop
+is-output-requires c κs = sized-of _ (c .before .before .before .before .before .before .before .before .pre) .few-outputs
+
+-- every place of the hints fits
+under : (c : tie.In-loop Inv-loop μ-loop) → c .before .loop .g < 128
+under c = omega (arith, c .loop-test .taken, sized-of _ (c .before .before .pre) .few-gates)
+
+-- the first test, of the network
+test : (c : tie.After-is-output Inv-loop μ-loop) → let turn = c .before .before .before .before .before .before .before in
+    let a = turn .before .before .args in
+    let u = a .t1 .inputs + turn .before .loop .g in
+    ltb (a .b) (c .before .before .before .count-readers .result) || c .is-output .result
+    ≡ ltb (a .b) (readers (netOf (a .t1)) u) || occurs (a .t1 .drivers) 0 (a .t1 .outputs) u
+unfolding readers netOf
+test c =
+    let r = c .before .before .before .before .before .before .before .before .before .args .t1 in
+    rw (c .before .before .before .count-readers .ensures (r .thresholds) (r .weights), c .is-output .ensures)
+
+add-g : tie.Need-add-g Inv-loop μ-loop
+add-g c = omega (arith, under (c .before .before .before .before .before .before .before .before))
+
+loop-less : tie.Need-loop-less Inv-loop μ-loop
+loop-less c = omega (arith, c .before .before .before .before .before .before .before .before .loop-test .taken)
+
+loop-again : tie.Need-loop-again Inv-loop μ-loop
+loop-again c =
+    let turn = c .before .before .before .before .before .before .before .before in
+    let start = turn .before .before in
+    let loop = turn .before .loop in (
+      omega (arith, turn .loop-test .taken),
+      sym (pass-barred (start .args .t1) (start .args .b) (loop .g) (start .pre) (turn .loop-test .taken) (sym (test (c .before)) ∙ c .if1 .taken)) ∙ loop .inv .1,
+    )
+
+element-copy-out-wide : tie.Need-element-copy-out-wide Inv-loop μ-loop
+element-copy-out-wide c = under (c .before .before .before .before .before .before .before .before)
+
+wide-requires : tie.Need-wide-requires Inv-loop μ-loop
+wide-requires c κs = search needs
+
+hinted-pairs-requires : tie.Need-hinted-pairs-requires Inv-loop μ-loop
+hinted-pairs-requires c κs =
+    let turn = c .before .before .before .before .before .before .before .before .before .before .before .before .before .before .before in
+    let lent = lent-of _ (T-is (soundRecord _) (turn .before .before .pre)) in
+    (lent, record { low = omega arith; high = omega (arith, turn .loop-test .taken) })
+
+returns : tie.Need-returns Inv-loop μ-loop
+returns c =
+    let else = c .before .before .before .before .before .before .before .before .before in
+    let turn = else .before .before .before .before .before .before .before .before in
+    let start = turn .before .before in
+    let loop = turn .before .loop in
+    record {
+      next = λ t. taken (start .args .t1) (start .args .b) (loop .g) (start .pre) (turn .loop-test .taken) (sym (test (else .before)) ∙ else .if1 .left)
+          (c .before .hinted-pairs .result) (c .before .hinted-pairs .ensures .found (c .if2 .taken)) (loop .inv .1);
+      none = λ t. absurd (true≢false t);
+    }
+
+cast-hints : tie.Need-cast-hints Inv-loop μ-loop
+cast-hints c = omega (arith, c .before .hinted-pairs .ensures .within)
+
+element-write-hints : tie.Need-element-write-hints Inv-loop μ-loop
+element-write-hints c = under (c .before .before .before .before .before .before .before .before .before .before .before .before .before .before .before .before .before)
+
+add-g-2 : tie.Need-add-g-2 Inv-loop μ-loop
+add-g-2 c = omega (arith, under (c .before .before .before .before .before .before .before .before .before .before .before .before .before .before .before .before .before))
+
+loop-less-2 : tie.Need-loop-less-2 Inv-loop μ-loop
+loop-less-2 c = omega (arith, c .before .before .before .before .before .before .before .before .before .before .before .before .before .before .before .before .before .loop-test .taken)
+
+loop-again-2 : tie.Need-loop-again-2 Inv-loop μ-loop
+loop-again-2 c =
+    let else = c .before .before .before .before .before .before .before .before .before in
+    let turn = else .before .before .before .before .before .before .before .before in
+    let start = turn .before .before in
+    let loop = turn .before .loop in (
+      omega (arith, turn .loop-test .taken),
+      sym (pass-refused (start .args .t1) (start .args .b) (loop .g) (start .pre) (turn .loop-test .taken) (sym (test (else .before)) ∙ else .if1 .left)
+          (c .before .hinted-pairs .ensures .none (c .if2 .left))) ∙ loop .inv .1,
+    )
+
+no-pairs-requires : tie.Need-no-pairs-requires Inv-loop μ-loop
+no-pairs-requires c κs = search needs
+
+returns-2 : tie.Need-returns-2 Inv-loop μ-loop
+returns-2 c =
+    let start = c .before .before .before in
+    let loop = c .before .before .loop in
+    record {
+      next = λ t. absurd (false≢true t);
+      none = λ t. subst Refused (loop .inv .1) (turn-end (netOf (start .args .t1)) (start .args .b) _ _ (loop .g) (c .before .loop-test .left));
+    }
+
+pub lowest-foldable-spec : {M : Type 1} → statement M
+lowest-foldable-spec =
+    tie.close
+    (tie.spec
+    Inv-loop
+    μ-loop
+    loop-holds
+    add-u
+    count-readers-requires
+    is-output-requires
+    add-g
+    loop-less
+    loop-again
+    element-copy-out-wide
+    wide-requires
+    hinted-pairs-requires
+    returns
+    cast-hints
+    element-write-hints
+    add-g-2
+    loop-less-2
+    loop-again-2
+    no-pairs-requires
+    returns-2)

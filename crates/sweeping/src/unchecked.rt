@@ -1,0 +1,150 @@
+// Sweep on a sound record: the lowest gate that can be folded into its readers is, again and again.
+use crate::Choice;
+use crate::Outcome;
+use collapse::Pairs;
+use collapse::unchecked::fold_into_readers;
+use collapse::unchecked::reader_pair;
+use collapse::unchecked::reader_pairs;
+use integers::wide;
+use merging::unchecked::readers::count_readers;
+use merging::unchecked::readers::is_output;
+use network::Network;
+ghost use mathlib.Core.Path.{_≡_};
+ghost use mathlib.Core.Bool.{true};
+ghost use lib.ListN.{replicate};
+ghost use Rattle.integers.specs.Refusals.{accepted};
+ghost use Rattle.network.specs.Record.{gateFrom, netOf, soundRecord};
+ghost use Rattle.folding.specs.Sweep.{sweeping};
+ghost use Rattle.sweeping.specs.Answers.{asOutcome};
+ghost use Rattle.merging.specs.Lent.{Lent, Within};
+ghost use Rattle.collapse.specs.Fusing.{TriedPairs};
+ghost use Rattle.sweeping.specs.Sweeping.{Chosen};
+
+// No pairs: a refusal, and the reader that it came from.
+fn no_pairs(code: u8, last: usize) -> Pairs
+    ensures { λ r. ⌜ r ≡ record { code = code; last = last; ks = replicate 128 0; ls = replicate 128 0 } ⌝ }
+{
+    let ks = [0u8; 128];
+    let ls = [0u8; 128];
+    Pairs { code, last, ks, ls }
+}
+
+// The pairs of all readers of u. The gate with number hint is tried first: if it is a reader whose pair is refused, there is no need to
+// try the others.
+fn hinted_pairs<'a>(
+    fanins: &'a [u8; 128],
+    thresholds: &'a [i32; 128],
+    signals: &'a [u8; 2048],
+    weights: &'a [i32; 2048],
+    inputs: usize,
+    gates: usize,
+    u: usize,
+    hint: usize,
+) -> Pairs
+    requires { ⌜ Lent (now fanins) (now thresholds) (now signals) (now weights) inputs gates × Within inputs gates u ⌝ }
+    ensures { λ r. ⌜ TriedPairs (gateFrom (now (fanins .entry)) (now (thresholds .entry)) (now (signals .entry)) (now (weights .entry))) inputs gates u r ⌝ }
+{
+    if hint < gates {
+        let found = reader_pair(fanins, thresholds, signals, weights, inputs, gates, u, hint);
+        let code = found.code;
+        if code != 0 {
+            return no_pairs(code, hint);
+        }
+    }
+    reader_pairs(fanins, thresholds, signals, weights, inputs, gates, u)
+}
+
+// The lowest gate with at most b readers that can be folded into them. A hint is the reader that refused a gate the last time; any
+// hints give the same answer.
+fn lowest_foldable(network: Network, b: usize, hints: &mut [u8; 128]) -> Choice
+    requires { ⌜ soundRecord network ≡ true ⌝ }
+    ensures { λ r. ⌜ Chosen network b r ⌝ }
+{
+    let inputs = network.inputs;
+    let gates = network.gates;
+    let outputs = network.outputs;
+    for g in 0..gates {
+        let u = inputs + g;
+        let readers = count_readers(&network.fanins, &network.signals, gates, u);
+        if (b < readers) | is_output(&network.drivers, outputs, u) {
+            continue;
+        }
+        let hint = wide(hints[g]);
+        let pairs = hinted_pairs(
+            &network.fanins,
+            &network.thresholds,
+            &network.signals,
+            &network.weights,
+            inputs,
+            gates,
+            u,
+            hint,
+        );
+        let code = pairs.code;
+        if code == 0 {
+            return Choice {
+                found: true,
+                u,
+                pairs,
+            };
+        }
+        let last = pairs.last;
+        hints[g] = last as u8;
+    }
+    let pairs = no_pairs(0, 0);
+    Choice {
+        found: false,
+        u: 0,
+        pairs,
+    }
+}
+
+// A hint after gate g is gone.
+fn lowered_hint(hint: u8, g: usize) -> u8 {
+    if g < wide(hint) { hint - 1 } else { hint }
+}
+
+// The hints after gate g is gone: those of the higher gates move down by one, and each hint to a higher gate falls by one.
+fn lower_hints(hints: &mut [u8; 128], g: usize) {
+    for i in 0..127 {
+        let from = if i < g { i } else { i + 1 };
+        let hint = lowered_hint(hints[from], g);
+        hints[i] = hint;
+    }
+}
+
+// The answer of a sweep that has ended.
+fn ended(network: Network, collapses: usize) -> Outcome
+    ensures { λ r. ⌜ r ≡ record { code = 0; network = network; collapses = collapses } ⌝ }
+{
+    Outcome {
+        code: 0,
+        network,
+        collapses,
+    }
+}
+
+// The sweep with reader limit b, of a sound record.
+pub fn sweep_sound(network: Network, b: usize) -> Outcome
+    requires { ⌜ soundRecord network ≡ true ⌝ }
+    ensures { λ r. ⌜ r ≡ asOutcome network (accepted (sweeping (network .gates) b (netOf network) 0)) ⌝ }
+{
+    let turns = network.gates;
+    let mut result = network;
+    let mut hints = [0u8; 128];
+    let mut collapses: usize = 0;
+    while collapses < turns {
+        let choice = lowest_foldable(result, b, &mut hints);
+        let found = choice.found;
+        if !found {
+            return ended(result, collapses);
+        }
+        let u = choice.u;
+        let pairs = choice.pairs;
+        let inputs = result.inputs;
+        result = fold_into_readers(result, u, pairs);
+        lower_hints(&mut hints, u - inputs);
+        collapses = collapses + 1;
+    }
+    ended(result, collapses)
+}
