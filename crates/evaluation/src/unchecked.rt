@@ -1,4 +1,4 @@
-// Evaluation of a network on a frame: the bits of all signals, gate by gate, then the outputs' bits as a word and their count.
+// Evaluation of a sound record on a frame: the bits of all signals, gate by gate, then the outputs' bits as a word and their count.
 ghost use mathlib.Core.Path.{_≡_};
 ghost use mathlib.Core.Bool.{true};
 ghost use mathlib.Core.List.{map};
@@ -8,7 +8,7 @@ ghost use Rattle.integers.specs.Lists.{tab};
 ghost use Rattle.integers.specs.Refusals.{accepted};
 ghost use Rattle.network.specs.Threshold.{sum, bit, run, frame, fitsFrame, outputBits, wordOf};
 ghost use Rattle.network.specs.Record.{feedsFrom, gateFrom, netOf, soundRecord};
-ghost use Rattle.evaluation.specs.Reading.{asReading};
+ghost use Rattle.evaluation.specs.Reading.{asReading, reading};
 ghost use Rattle.evaluation.specs.Evaluation.{bitsIn, CanRun};
 use crate::Reading;
 use integers::wide;
@@ -109,7 +109,7 @@ fn output_word(drivers: &[u8; 16], values: &[bool; 256], outputs: usize) -> u64
 }
 
 // The outputs on frame x.
-pub fn read_outputs(network: Network, x: u64) -> Reading
+fn read_outputs(network: Network, x: u64) -> Reading
     requires { ⌜ soundRecord network ≡ true ⌝ }
     requires { ⌜ fitsFrame (network .inputs) x ≡ true ⌝ }
     ensures { λ r. ⌜ r ≡ asReading (accepted (outputBits (netOf network) (frame x))) ⌝ }
@@ -132,4 +132,35 @@ pub fn read_outputs(network: Network, x: u64) -> Reading
         bits: word,
         ones: u64::count_ones(word),
     }
+}
+
+// Whether a frame has no bit at an input's number or above.
+fn fits_frame(inputs: usize, frame: u64) -> bool
+    requires { ⌜ inputs ≤ 40 ⌝ }
+    ensures { λ r. ⌜ r ≡ fitsFrame inputs frame ⌝ }
+{
+    (frame >> inputs) == 0
+}
+
+// A refusal: 0 for every number.
+pub fn refused(code: u8) -> Reading
+    ensures { λ r. ⌜ r ≡ record { code = code; bits = 0; ones = 0 } ⌝ }
+{
+    Reading {
+        code,
+        bits: 0,
+        ones: 0,
+    }
+}
+
+// The outputs on a frame, of a sound record. Refusal: 10 long frame.
+pub fn read_sound(network: Network, frame: u64) -> Reading
+    requires { ⌜ soundRecord network ≡ true ⌝ }
+    ensures { λ r. ⌜ r ≡ reading network frame ⌝ }
+{
+    let inputs = network.inputs;
+    if !fits_frame(inputs, frame) {
+        return refused(10);
+    }
+    read_outputs(network, frame)
 }

@@ -6,9 +6,8 @@ ghost use Prim.Native.Nat.{ℕ, _+_, _≤_, _<_, max};
 ghost use lib.IntN.{ℤ};
 ghost use lib.ListN.{getD};
 ghost use Rattle.integers.specs.Lists.{tab};
-ghost use Rattle.integers.specs.Refusals.{accepted};
-ghost use Rattle.network.specs.Record.{feedsFrom, gateFrom, netOf, soundRecord};
-ghost use Rattle.report.specs.Size.{cost, highest, gateLevel, levelsFrom, reportOf};
+ghost use Rattle.network.specs.Record.{feedsFrom, gateFrom, soundRecord};
+ghost use Rattle.report.specs.Size.{cost, highest, gateLevel, levelsFrom, reported};
 ghost use Rattle.report.specs.Arrays.{levelsIn, FewGates, CostOfWeights, CostOfGate};
 use crate::SizeReport;
 use integers::magnitude;
@@ -130,7 +129,7 @@ fn network_levels<'a>(
 // The size of a sound network.
 pub fn size_of(network: Network) -> SizeReport
     requires { ⌜ soundRecord network ≡ true ⌝ }
-    ensures { λ r. ⌜ r ≡ reportOf (accepted (netOf network)) ⌝ }
+    ensures { λ r. ⌜ r ≡ reported network ⌝ }
 {
     let inputs = network.inputs;
     let gates = network.gates;

@@ -27,8 +27,7 @@ size-of-requires : tie.Need-size-of-requires
 size-of-requires c κs = tested c
 
 returns-2 : tie.Need-returns-2
-unfolding reported checks
-returns-2 c = c .size-of .ensures ∙ rw (tested (c .before))
+returns-2 c = c .size-of .ensures
 
 pub report-spec : {M : Type 1} → statement M
 report-spec = tie.close (tie.spec is-sound-requires returns size-of-requires returns-2)

@@ -2,8 +2,8 @@
 use mathlib.Core.Path.{refl}
 use borrow.Author.Needs.{needs}
 use Rattle.network.specs.Threshold.{fitsFrame}
-use Rattle.evaluation.proofs.fits_frame.Statement.{statement}
-use Rattle.evaluation.proofs.fits_frame.Tie as tie
+use Rattle.evaluation.proofs.unchecked.fits_frame.Statement.{statement}
+use Rattle.evaluation.proofs.unchecked.fits_frame.Tie as tie
 
 shr-result : tie.Need-shr-result
 shr-result c = search needs
