@@ -9,11 +9,11 @@ use mir.Syntax.{w32}
 use mir.Facts.{toZ-ofZ}
 use borrow.Author.Needs.{needs}
 use Rattle.integers.specs.Word.{intBytes}
+use Rattle.integers.specs.WriteLaws.{write-on}
 use Rattle.network.specs.Record.{feedAt}
 use Rattle.format.specs.Format.{feedBytes}
 use Rattle.pmn_writer.specs.Writing.{firstFeeds}
 use Rattle.pmn_writer.specs.WritingLaws.{firstFeeds-none, firstFeeds-more, firstFeeds-length}
-use Rattle.pmn_writer.proofs.PartWrites.{write-on}
 use Rattle.pmn_writer.proofs.unchecked.put_feeds.Statement.{statement}
 use Rattle.pmn_writer.proofs.unchecked.put_feeds.Tie as tie
 

@@ -9,9 +9,9 @@ use mir.Syntax.{w32}
 use mir.Facts.{toZ-ofZ}
 use borrow.Author.Needs.{needs}
 use Rattle.integers.specs.Word.{intBytes}
+use Rattle.integers.specs.WriteLaws.{write-on}
 use Rattle.pmn_writer.specs.Writing.{firstFeeds}
 use Rattle.pmn_writer.specs.WritingLaws.{firstFeeds-length, gateIn-bytes}
-use Rattle.pmn_writer.proofs.PartWrites.{write-on}
 use Rattle.pmn_writer.proofs.unchecked.put_gate.Statement.{statement}
 use Rattle.pmn_writer.proofs.unchecked.put_gate.Tie as tie
 

@@ -5,9 +5,9 @@ use Prim.Native.Nat.{ℕ, _+_, _-_, _≤_, zero-le}
 use native.Mathlib.Omega.{arith}
 use lib.ListN.{length, drop, getD, length-set}
 use borrow.Author.Needs.{needs}
+use Rattle.integers.specs.WriteLaws.{store-on}
 use Rattle.pmn_writer.specs.Writing.{firstOutputs}
 use Rattle.pmn_writer.specs.WritingLaws.{firstOutputs-none, firstOutputs-more, firstOutputs-length}
-use Rattle.pmn_writer.proofs.PartWrites.{store-on}
 use Rattle.pmn_writer.proofs.unchecked.put_outputs.Statement.{statement}
 use Rattle.pmn_writer.proofs.unchecked.put_outputs.Tie as tie
 

@@ -8,12 +8,12 @@ use lib.ListN.{length, drop, length-append}
 use borrow.Rule.Slice.PartMut.{putMid}
 use borrow.Author.Needs.{needs}
 use Rattle.integers.specs.Refusals.{accepted}
+use Rattle.integers.specs.WriteLaws.{tail-length, write-on}
 use Rattle.network.specs.Record.{netOf}
 use Rattle.format.specs.Format.{fileBytes}
 use Rattle.pmn_writer.specs.Writing.{header, firstGates, gatesLength, firstOutputs}
 use Rattle.pmn_writer.specs.WritingLaws.{firstGates-length, firstOutputs-length, file-parts, file-length}
 use Rattle.pmn_writer.specs.WriteAnswerLaws.{Bounded, sound-bounded, write-short, write-whole, written-refused, written-whole}
-use Rattle.pmn_writer.proofs.PartWrites.{tail-length, write-on}
 use Rattle.pmn_writer.proofs.unchecked.write_sound.Statement.{statement}
 use Rattle.pmn_writer.proofs.unchecked.write_sound.Tie as tie
 
