@@ -114,7 +114,7 @@ pub extern "C" fn pmn_part(file: &[u8], signal: u64, out: &mut [u8], answer: &mu
     if out.len() < length {
         return 18;
     }
-    unchecked::places::copy(part, out);
+    integers::unchecked::copy(part, out);
     unchecked::places::put_one(answer, 0, length as u64)
 }
 
