@@ -24,9 +24,9 @@ use Rattle.format.specs.Format.{Read, Bytes, fileBytes}
 use Rattle.format.specs.Part.{partIn, partOfRead, partAnswer, asPart}
 use Rattle.format.specs.PartLaws.{part-stray, part-found}
 use Rattle.format.specs.LengthLaws.{gateBytes-length}
-use Rattle.pmn.specs.Answers.{writeAnswer, asWritten, written, bytesOf, bytesAfter}
+use Rattle.pmn_writer.specs.Answers.{writeAnswer, asWritten, written, bytesOf, bytesAfter}
 use Rattle.pmn.specs.OpenLaws.{Opened}
-use Rattle.pmn.specs.declared.Written.{Written}
+use Rattle.pmn_writer.specs.declared.Written.{Written}
 use Rattle.folding.specs.Merge.{edge, reads, silent}
 use Rattle.folding.specs.Pair.{Pair, pairOf, pair}
 use Rattle.merging.specs.Answers.{onRecord, asPair, pairFound}

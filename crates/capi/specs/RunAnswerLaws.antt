@@ -16,8 +16,8 @@ use Rattle.network.specs.Record.{netOf, layout}
 use Rattle.network.specs.RecordLaws.{netOf-layout}
 use Rattle.network.specs.declared.Network.{Network}
 use Rattle.format.specs.Format.{fileBytes}
-use Rattle.pmn.specs.Answers.{written, bytesAfter}
-use Rattle.pmn.specs.declared.Written.{Written}
+use Rattle.pmn_writer.specs.Answers.{written, bytesAfter}
+use Rattle.pmn_writer.specs.declared.Written.{Written}
 use Rattle.folding.specs.Calls.{calls}
 use Rattle.folding.specs.declared.Call.{Call}
 use Rattle.capi.specs.Exports.{codeOf, stored, room}

@@ -18,9 +18,9 @@ use Rattle.network.specs.RecordLaws.{netOf-layout, sound-layout}
 use Rattle.network.specs.declared.Network.{Network}
 use Rattle.format.specs.Format.{gateBytes, gatesBytes, fileBytes}
 use Rattle.format.specs.LengthLaws.{gateBytes-length, fileBytes-length}
-use Rattle.pmn.specs.Answers.{asWritten, written}
-use Rattle.pmn.specs.WriteAnswerLaws.{write-whole}
-use Rattle.pmn.specs.declared.Written.{Written}
+use Rattle.pmn_writer.specs.Answers.{asWritten, written}
+use Rattle.pmn_writer.specs.WriteAnswerLaws.{write-whole}
+use Rattle.pmn_writer.specs.declared.Written.{Written}
 use Rattle.folding.specs.Sweep.{Swept}
 use Rattle.folding.specs.Calls.{answer, leaves, calls}
 use Rattle.folding.specs.GuaranteeLaws.{calls-kept}

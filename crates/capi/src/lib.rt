@@ -88,7 +88,7 @@ pub extern "C" fn pmn_write(file: &[u8], out: &mut [u8], answer: &mut [u64]) -> 
     if answer.len() < 1 {
         return 18;
     }
-    let written = pmn::write(loaded.network, out);
+    let written = pmn_writer::write(loaded.network, out);
     unchecked::places::put_one(answer, written.code, written.length as u64)
 }
 
@@ -114,7 +114,7 @@ pub extern "C" fn pmn_part(file: &[u8], signal: u64, out: &mut [u8], answer: &mu
     if out.len() < length {
         return 18;
     }
-    unchecked::places::copy(part, out);
+    integers::unchecked::copy(part, out);
     unchecked::places::put_one(answer, 0, length as u64)
 }
 
@@ -171,7 +171,7 @@ pub extern "C" fn pmn_run(file: &[u8], calls: &[u64], answers: &mut [u64], out: 
         return 18;
     }
     let after = unchecked::runs::run_storing(loaded.network, calls, answers);
-    let written = pmn::write(after, out);
+    let written = pmn_writer::write(after, out);
     unchecked::places::put_one(answers, written.code, written.length as u64)
 }
 

@@ -173,7 +173,7 @@ fn part(signal: usize) {
 // The network written into the first bytes of those lent.
 fn write_prefix(network: Network, out: &mut [u8], room: usize) {
     if room <= out.len() {
-        let w = pmn::write(network, &mut out[..room]);
+        let w = pmn_writer::write(network, &mut out[..room]);
         number(w.code as u64);
         number(w.length as u64);
     }

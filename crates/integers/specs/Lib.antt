@@ -9,3 +9,4 @@ pub mod Integer
 pub mod Size
 pub mod Word
 pub mod WordLaws
+pub mod WriteLaws

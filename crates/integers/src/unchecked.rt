@@ -1,4 +1,5 @@
-// Signed 32-bit integers in bytes, the lowest byte first, two's complement. Each function asks for four bytes.
+// Signed 32-bit integers in bytes, the lowest byte first, two's complement; and bytes as they are. Each function asks for the bytes that it
+// reads or puts.
 ghost use mathlib.Core.Path.{_≡_};
 ghost use mathlib.Core.List.{_++_};
 ghost use Prim.Native.Nat.{_+_, _≤_, _<_};
@@ -67,4 +68,14 @@ pub fn put_int(out: &mut [u8], z: i32)
     ensures { λ _. ⌜ now (out .exit) ≡ intBytes z ++ drop 4 (now (out .entry)) ⌝ }
 {
     put_word(out, unsigned_of(z))
+}
+
+// The bytes of `from` at the front of the lent bytes.
+pub fn copy(from: &[u8], out: &mut [u8])
+    requires { ⌜ length (now from) ≤ length (now out) ⌝ }
+    ensures { λ _. ⌜ now (out .exit) ≡ now (from .entry) ++ drop (length (now (from .entry))) (now (out .entry)) ⌝ }
+{
+    for i in 0..from.len() {
+        out[i] = from[i];
+    }
 }

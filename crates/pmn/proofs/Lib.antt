@@ -3,6 +3,5 @@ pub mod SeenLaws
 pub mod FeedsLoop
 pub mod OutputsLoop
 pub mod GatesLoop
-mod PartWrites
 pub mod Body
 pub mod PartFiles

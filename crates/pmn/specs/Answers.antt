@@ -1,18 +1,11 @@
--- What the calls on files answer, as document 01 has it: "A refusal hands the record back unchanged (a refused read: blank), with 0 for
--- every other number, and touches no lent byte." Nothing is proved here.
-use mathlib.Core.List.{List, [], _∷_, _++_}
+-- What `read` answers, as document 01 has it: "A refusal hands the record back unchanged (a refused read: blank), with 0 for every other
+-- number, and touches no lent byte." Nothing is proved here.
+use mathlib.Core.List.{List}
 use Prim.Native.Nat.{ℕ}
-use lib.Dec.{leb}
-use lib.ListN.{length, drop}
-use Rattle.integers.specs.Refusals.{Answer, accepted, refused, _else_, checks}
 use Rattle.network.specs.Threshold.{Net}
-use Rattle.network.specs.Record.{netOf, layout, blankRecord, soundRecord}
-use Rattle.network.specs.declared.Network.{Network}
-use Rattle.format.specs.Format.{Read, done, fileBytes, parseFile}
+use Rattle.network.specs.Record.{layout, blankRecord}
+use Rattle.format.specs.Format.{Read, done, parseFile}
 use Rattle.pmn.specs.declared.Loaded.{Loaded}
-use Rattle.pmn.specs.declared.Written.{Written}
-
--- ---- read
 
 unfoldable pub asLoaded : Read Net → Loaded
 asLoaded (Read.refused k) = record { code = k; network = blankRecord }
@@ -21,25 +14,3 @@ asLoaded (done N l) = record { code = 0; network = layout N }
 -- the network of a file, or the first refusal and the blank record
 unfoldable pub loaded : List ℕ → Loaded
 loaded file = asLoaded (parseFile file)
-
--- ---- write
-
--- order 20, 18; the answer is the file's length
-unfoldable pub writeAnswer : Network → ℕ → Answer ℕ
-writeAnswer r room =
-    checks ((soundRecord r else 20) ∷ (leb (length (fileBytes (netOf r))) room else 18) ∷ []) (accepted (length (fileBytes (netOf r))))
-
-unfoldable pub asWritten : Answer ℕ → Written
-asWritten (accepted n) = record { code = 0; length = n }
-asWritten (refused k) = record { code = k; length = 0 }
-
-unfoldable pub written : Network → ℕ → Written
-written r room = asWritten (writeAnswer r room)
-
--- the lent bytes afterwards: the file at the front and what stood after it, or as they were
-unfoldable pub bytesOf : Answer ℕ → List ℕ → List ℕ → List ℕ
-bytesOf (accepted n) file out = file ++ drop n out
-bytesOf (refused k) file out = out
-
-unfoldable pub bytesAfter : Network → List ℕ → List ℕ
-bytesAfter r out = bytesOf (writeAnswer r (length out)) (fileBytes (netOf r)) out

@@ -1,22 +1,15 @@
-// The PMN file: reading it into a record, writing a record as a file, and the bytes of one gate.
+// The PMN file: reading it into a record, and the bytes of one gate.
 use integers::wide;
 use network::Network;
 use unchecked::reader;
 ghost use mathlib.Core.Path.{_≡_};
-ghost use lib.ListN.{length};
 ghost use Rattle.format.specs.Part.{partAnswer, asPart, asCode};
-ghost use Rattle.pmn.specs.Answers.{loaded, written, bytesAfter};
+ghost use Rattle.pmn.specs.Answers.{loaded};
 
 // What `read` answers: 0 or the refusal, and the network; the blank record on refusal.
 pub struct Loaded {
     pub code: u8,
     pub network: Network,
-}
-
-// What `write` answers: 0 or the refusal, and the file's length.
-pub struct Written {
-    pub code: u8,
-    pub length: usize,
 }
 
 // The network of a file, or the first refusal and the blank record.
@@ -60,22 +53,6 @@ pub fn gate_part(file: &[u8], signal: usize) -> &[u8]
     }
     let inputs = wide(file[5]);
     unchecked::parts::gate_bytes(file, signal - inputs)
-}
-
-// Writes the file of a record at the front of the lent bytes. The answer is the file's length, or 20 for a broken record, or 18 where
-// the file is longer than the lent bytes.
-pub fn write(network: Network, out: &mut [u8]) -> Written
-    ensures { λ r. ⌜ r ≡ written network (length (now (out .entry))) ⌝ }
-    ensures { λ _. ⌜ now (out .exit) ≡ bytesAfter network (now (out .entry)) ⌝ }
-{
-    if network::soundness::is_sound(network) {
-        unchecked::writer::write_sound(network, out)
-    } else {
-        Written {
-            code: 20,
-            length: 0,
-        }
-    }
 }
 
 mod unchecked;

@@ -2,4 +2,3 @@
 pub mod gate_reader;
 pub mod parts;
 pub mod reader;
-pub mod writer;

@@ -1,4 +1,3 @@
-pub mod PartWrites
 pub mod PutLaws
 pub mod SignLaws
 pub mod SumLaws

@@ -5,8 +5,8 @@ use Prim.Native.Nat.{ℕ, _+_, _-_, _<_, _≤_}
 use native.Mathlib.Omega.{arith}
 use lib.ListN.{length, take, drop, set, length-append, length-drop}
 use borrow.Rule.Slice.PartMut.{putMid}
+use Rattle.integers.specs.WriteLaws.{store-on, write-on}
 use Rattle.question.specs.Writes.{Put}
-use Rattle.question.proofs.PartWrites.{store-on, write-on}
 
 -- no text
 pub put-none : (xs : List ℕ) → Put [] 0 xs xs

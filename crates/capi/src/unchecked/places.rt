@@ -1,8 +1,8 @@
-// Numbers and bytes put at the front of lent places, for which the caller has tested the room. The places after them stay as they were.
+// Numbers put at the front of lent places, for which the caller has tested the room. The places after them stay as they were.
 ghost use mathlib.Core.Path.{_≡_};
-ghost use mathlib.Core.List.{[], _∷_, _++_};
+ghost use mathlib.Core.List.{[], _∷_};
 ghost use Prim.Native.Nat.{_≤_};
-ghost use lib.ListN.{length, drop};
+ghost use lib.ListN.{length};
 ghost use Rattle.capi.specs.Exports.{stored};
 ghost use Rattle.capi.specs.Places.{answerOf};
 
@@ -43,14 +43,4 @@ pub fn put_three(answer: &mut [u64], code: u8, first: u64, second: u64, third: u
         answer[2] = third;
     }
     code
-}
-
-// The bytes of `from`.
-pub fn copy(from: &[u8], out: &mut [u8])
-    requires { ⌜ length (now from) ≤ length (now out) ⌝ }
-    ensures { λ _. ⌜ now (out .exit) ≡ now (from .entry) ++ drop (length (now (from .entry))) (now (out .entry)) ⌝ }
-{
-    for i in 0..from.len() {
-        out[i] = from[i];
-    }
 }

@@ -84,7 +84,7 @@ fn file_length(network: Network) -> usize
     ensures { λ r. ⌜ r ≡ length (fileBytes (netOf network)) ⌝ }
 {
     let mut room = [0u8; 10904];
-    let written = pmn::write(network, &mut room);
+    let written = pmn_writer::write(network, &mut room);
     written.length
 }
 

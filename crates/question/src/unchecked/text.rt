@@ -16,9 +16,7 @@ pub fn put_bytes(out: &mut [u8], bytes: &[u8]) -> usize
     requires { ⌜ length (now bytes) ≤ length (now out) ⌝ }
     ensures { λ r. ⌜ Put (now (bytes .entry)) r (now (out .entry)) (now (out .exit)) ⌝ }
 {
-    for i in 0..bytes.len() {
-        out[i] = bytes[i];
-    }
+    integers::unchecked::copy(bytes, out);
     bytes.len()
 }
 

@@ -3,7 +3,7 @@ use Prim.Native.Nat.{_+_, _≤_}
 use native.Mathlib.Omega.{arith}
 use lib.ListN.{length}
 use borrow.Author.Needs.{needs}
-use Rattle.question.proofs.PartWrites.{tail-length}
+use Rattle.integers.specs.WriteLaws.{tail-length}
 use Rattle.question.proofs.PutLaws.{put-part, put-length}
 use Rattle.question.proofs.unchecked.text.put_number.Statement.{statement}
 use Rattle.question.proofs.unchecked.text.put_number.Tie as tie

@@ -9,10 +9,10 @@ use mir.Facts.{toZ-ofZ}
 use mir.Val.{toZ, ofZ}
 use borrow.Author.Needs.{needs}
 use borrow.Rule.Slice.PartMut.{putMid}
+use Rattle.integers.specs.WriteLaws.{tail-length}
 use Rattle.constraints.specs.Text.{rightSide}
 use Rattle.question.specs.Writes.{Put}
 use Rattle.question.specs.TextParts.{relation-parts, relation-length}
-use Rattle.question.proofs.PartWrites.{tail-length}
 use Rattle.question.proofs.PutLaws.{put-text, put-part, put-length}
 use Rattle.question.proofs.unchecked.text.put_relation.Statement.{statement}
 use Rattle.question.proofs.unchecked.text.put_relation.Tie as tie

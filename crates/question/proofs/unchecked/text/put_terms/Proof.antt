@@ -10,6 +10,7 @@ use mir.Val.{toZ, ofZ}
 use borrow.Author.Needs.{needs}
 use Rattle.integers.specs.Size.{size-fits}
 use Rattle.integers.specs.ListLaws.{each-getD}
+use Rattle.integers.specs.WriteLaws.{tail-length}
 use Rattle.network.specs.Threshold.{Feed}
 use Rattle.network.specs.Record.{feedAt, feedsFrom, noFeed}
 use Rattle.network.specs.PlaceLaws.{length-feeds, feeds-at}
@@ -19,7 +20,6 @@ use Rattle.constraints.specs.TextLaws.{Within}
 use Rattle.question.specs.Writes.{Put}
 use Rattle.question.specs.FeedLaws.{feeds-none}
 use Rattle.question.specs.TextParts.{terms-more, terms-room}
-use Rattle.question.proofs.PartWrites.{tail-length}
 use Rattle.question.proofs.PutLaws.{put-none, put-text, put-part, put-length}
 use Rattle.question.proofs.unchecked.text.put_terms.Statement.{statement}
 use Rattle.question.proofs.unchecked.text.put_terms.Tie as tie

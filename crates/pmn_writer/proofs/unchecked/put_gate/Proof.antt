@@ -9,11 +9,11 @@ use mir.Syntax.{w32}
 use mir.Facts.{toZ-ofZ}
 use borrow.Author.Needs.{needs}
 use Rattle.integers.specs.Word.{intBytes}
-use Rattle.pmn.specs.Writing.{firstFeeds}
-use Rattle.pmn.specs.WritingLaws.{firstFeeds-length, gateIn-bytes}
-use Rattle.pmn.proofs.PartWrites.{write-on}
-use Rattle.pmn.proofs.unchecked.writer.put_gate.Statement.{statement}
-use Rattle.pmn.proofs.unchecked.writer.put_gate.Tie as tie
+use Rattle.integers.specs.WriteLaws.{write-on}
+use Rattle.pmn_writer.specs.Writing.{firstFeeds}
+use Rattle.pmn_writer.specs.WritingLaws.{firstFeeds-length, gateIn-bytes}
+use Rattle.pmn_writer.proofs.unchecked.put_gate.Statement.{statement}
+use Rattle.pmn_writer.proofs.unchecked.put_gate.Tie as tie
 
 wide-requires : tie.Need-wide-requires
 wide-requires c κs = search needs

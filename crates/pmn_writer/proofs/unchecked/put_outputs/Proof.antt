@@ -5,11 +5,11 @@ use Prim.Native.Nat.{ℕ, _+_, _-_, _≤_, zero-le}
 use native.Mathlib.Omega.{arith}
 use lib.ListN.{length, drop, getD, length-set}
 use borrow.Author.Needs.{needs}
-use Rattle.pmn.specs.Writing.{firstOutputs}
-use Rattle.pmn.specs.WritingLaws.{firstOutputs-none, firstOutputs-more, firstOutputs-length}
-use Rattle.pmn.proofs.PartWrites.{store-on}
-use Rattle.pmn.proofs.unchecked.writer.put_outputs.Statement.{statement}
-use Rattle.pmn.proofs.unchecked.writer.put_outputs.Tie as tie
+use Rattle.integers.specs.WriteLaws.{store-on}
+use Rattle.pmn_writer.specs.Writing.{firstOutputs}
+use Rattle.pmn_writer.specs.WritingLaws.{firstOutputs-none, firstOutputs-more, firstOutputs-length}
+use Rattle.pmn_writer.proofs.unchecked.put_outputs.Statement.{statement}
+use Rattle.pmn_writer.proofs.unchecked.put_outputs.Tie as tie
 
 abbrev Inv-loop : tie.InvT-loop
 Inv-loop out₀ drivers outputs j₀ out j = (j ≤ outputs) × (out ≡ firstOutputs drivers j ++ drop j out₀) × (length out ≡ length out₀)

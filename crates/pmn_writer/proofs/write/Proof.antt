@@ -2,9 +2,9 @@
 use mathlib.Core.Path.{sym, _∙_}
 use lib.ListN.{length}
 use borrow.Author.Needs.{needs}
-use Rattle.pmn.specs.WriteAnswerLaws.{write-broken, written-refused}
-use Rattle.pmn.proofs.write.Statement.{statement}
-use Rattle.pmn.proofs.write.Tie as tie
+use Rattle.pmn_writer.specs.WriteAnswerLaws.{write-broken, written-refused}
+use Rattle.pmn_writer.proofs.write.Statement.{statement}
+use Rattle.pmn_writer.proofs.write.Tie as tie
 
 is-sound-requires : tie.Need-is-sound-requires
 is-sound-requires c κs = search needs

@@ -17,8 +17,8 @@ use Rattle.network.specs.LimitLaws.{gates-at}
 use Rattle.network.specs.PlaceLaws.{length-feeds}
 use Rattle.network.specs.RecordLaws.{count-gates, count-outputs, gate-within, sound-net}
 use Rattle.format.specs.Format.{fileBytes}
-use Rattle.pmn.specs.Answers.{writeAnswer, asWritten, written, bytesOf, bytesAfter}
-use Rattle.pmn.specs.Writing.{Counted}
+use Rattle.pmn_writer.specs.Answers.{writeAnswer, asWritten, written, bytesOf, bytesAfter}
+use Rattle.pmn_writer.specs.Writing.{Counted}
 
 -- the counts of a record are within the limits
 pub record Bounded (r : Network) : Type 0 where

@@ -9,13 +9,13 @@ use mir.Syntax.{w32}
 use mir.Facts.{toZ-ofZ}
 use borrow.Author.Needs.{needs}
 use Rattle.integers.specs.Word.{intBytes}
+use Rattle.integers.specs.WriteLaws.{write-on}
 use Rattle.network.specs.Record.{feedAt}
 use Rattle.format.specs.Format.{feedBytes}
-use Rattle.pmn.specs.Writing.{firstFeeds}
-use Rattle.pmn.specs.WritingLaws.{firstFeeds-none, firstFeeds-more, firstFeeds-length}
-use Rattle.pmn.proofs.PartWrites.{write-on}
-use Rattle.pmn.proofs.unchecked.writer.put_feeds.Statement.{statement}
-use Rattle.pmn.proofs.unchecked.writer.put_feeds.Tie as tie
+use Rattle.pmn_writer.specs.Writing.{firstFeeds}
+use Rattle.pmn_writer.specs.WritingLaws.{firstFeeds-none, firstFeeds-more, firstFeeds-length}
+use Rattle.pmn_writer.proofs.unchecked.put_feeds.Statement.{statement}
+use Rattle.pmn_writer.proofs.unchecked.put_feeds.Tie as tie
 
 abbrev Inv-loop : tie.InvT-loop
 Inv-loop out₀ signals weights count i₀ out i = (i ≤ count) × (out ≡ firstFeeds signals weights i ++ drop (5 * i) out₀) × (length out ≡ length out₀)

@@ -8,9 +8,9 @@ use lib.IntN.{ℤ}
 use mir.Facts.{toZ-ofZ}
 use borrow.Author.Needs.{needs}
 use Rattle.integers.specs.Word.{intBytes}
-use Rattle.pmn.proofs.PartWrites.{tail-length, first-put, write-on}
-use Rattle.pmn.proofs.unchecked.writer.put_pair.Statement.{statement}
-use Rattle.pmn.proofs.unchecked.writer.put_pair.Tie as tie
+use Rattle.integers.specs.WriteLaws.{tail-length, first-put, write-on}
+use Rattle.pmn_writer.proofs.unchecked.put_pair.Statement.{statement}
+use Rattle.pmn_writer.proofs.unchecked.put_pair.Tie as tie
 
 slice-write-out : tie.Need-slice-write-out
 slice-write-out c = search needs

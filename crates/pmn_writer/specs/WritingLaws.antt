@@ -19,7 +19,7 @@ use Rattle.integers.specs.TableLaws.{range-tab}
 use Rattle.network.specs.PlaceLaws.{length-feeds}
 use Rattle.format.specs.Format.{feedBytes, feedsBytes, gateBytes, gatesBytes, fileBytes}
 use Rattle.format.specs.LengthLaws.{feedsBytes-length, feedsBytes-append, gateBytes-length, gatesBytes-append}
-use Rattle.pmn.specs.Writing.{header, firstFeeds, firstGates, gatesLength, firstOutputs}
+use Rattle.pmn_writer.specs.Writing.{header, firstFeeds, firstGates, gatesLength, firstOutputs}
 
 -- a table with one member more
 pub tab-more : {A : Type 0} (f : ℕ → A) (n : ℕ) → tab (n + 1) f ≡ tab n f ++ (f n ∷ [])

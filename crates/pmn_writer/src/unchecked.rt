@@ -1,4 +1,5 @@
-// Writing the parts of a file, each at the front of the lent bytes. The bytes after a part stay as they were.
+// Writing the parts of a file, each at the front of the lent bytes. The bytes after a part stay as they were. Each public function asks for
+// what its caller has tested.
 use crate::Written;
 use network::GateRecord;
 use network::Network;
@@ -10,8 +11,8 @@ ghost use lib.ListN.{length, drop};
 ghost use Rattle.integers.specs.Word.{intBytes};
 ghost use Rattle.network.specs.Record.{gateIn, soundRecord};
 ghost use Rattle.format.specs.Format.{gateBytes};
-ghost use Rattle.pmn.specs.Answers.{written, bytesAfter};
-ghost use Rattle.pmn.specs.Writing.{header, firstFeeds, firstGates, gatesLength, firstOutputs, Counted};
+ghost use Rattle.pmn_writer.specs.Answers.{written, bytesAfter};
+ghost use Rattle.pmn_writer.specs.Writing.{header, firstFeeds, firstGates, gatesLength, firstOutputs, Counted};
 
 // A byte and a signed number.
 fn put_pair(out: &mut [u8], byte: u8, number: i32)

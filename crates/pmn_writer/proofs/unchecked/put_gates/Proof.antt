@@ -6,16 +6,16 @@ use Prim.Native.Nat.{ℕ, _+_, _*_, _-_, _≤_, zero-le}
 use native.Mathlib.Omega.{arith}
 use lib.ListN.{length, drop, getD}
 use borrow.Author.Needs.{needs}
+use Rattle.integers.specs.WriteLaws.{tail-length, write-on}
 use Rattle.network.specs.declared.GateRecord.{GateRecord}
 use Rattle.network.specs.Threshold.{Gate}
 use Rattle.network.specs.Record.{gateIn, gateFrom}
 use Rattle.network.specs.Places.{rowAt}
 use Rattle.format.specs.Format.{gateBytes}
-use Rattle.pmn.specs.Writing.{firstGates, gatesLength}
-use Rattle.pmn.specs.WritingLaws.{gatesLength-none, gatesLength-more, gatesLength-room, firstGates-none, firstGates-more, firstGates-length, gateFrom-length, gateIn-row}
-use Rattle.pmn.proofs.PartWrites.{tail-length, write-on}
-use Rattle.pmn.proofs.unchecked.writer.put_gates.Statement.{statement}
-use Rattle.pmn.proofs.unchecked.writer.put_gates.Tie as tie
+use Rattle.pmn_writer.specs.Writing.{firstGates, gatesLength}
+use Rattle.pmn_writer.specs.WritingLaws.{gatesLength-none, gatesLength-more, gatesLength-room, firstGates-none, firstGates-more, firstGates-length, gateFrom-length, gateIn-row}
+use Rattle.pmn_writer.proofs.unchecked.put_gates.Statement.{statement}
+use Rattle.pmn_writer.proofs.unchecked.put_gates.Tie as tie
 
 abbrev Inv-loop : tie.InvT-loop
 Inv-loop out₀ fanins thresholds signals weights gates at₀ g₀ out at g =

@@ -3,9 +3,9 @@ use native.Mathlib.Omega.{arith}
 use lib.ListN.{length-set}
 use lib.Seq.{sets-eq}
 use borrow.Author.Needs.{needs}
-use Rattle.pmn.specs.Writing.{header}
-use Rattle.pmn.proofs.unchecked.writer.put_header.Statement.{statement}
-use Rattle.pmn.proofs.unchecked.writer.put_header.Tie as tie
+use Rattle.pmn_writer.specs.Writing.{header}
+use Rattle.pmn_writer.proofs.unchecked.put_header.Statement.{statement}
+use Rattle.pmn_writer.proofs.unchecked.put_header.Tie as tie
 
 slice-write-out : tie.Need-slice-write-out
 slice-write-out c = search needs

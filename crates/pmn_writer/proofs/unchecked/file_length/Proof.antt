@@ -3,10 +3,10 @@ use mathlib.Core.Path.{_≡_, ap}
 use Prim.Native.Nat.{_+_, _*_, _-_, _≤_, zero-le}
 use native.Mathlib.Omega.{arith}
 use borrow.Author.Needs.{needs}
-use Rattle.pmn.specs.Writing.{gatesLength}
-use Rattle.pmn.specs.WritingLaws.{gatesLength-none, gatesLength-more}
-use Rattle.pmn.proofs.unchecked.writer.file_length.Statement.{statement}
-use Rattle.pmn.proofs.unchecked.writer.file_length.Tie as tie
+use Rattle.pmn_writer.specs.Writing.{gatesLength}
+use Rattle.pmn_writer.specs.WritingLaws.{gatesLength-none, gatesLength-more}
+use Rattle.pmn_writer.proofs.unchecked.file_length.Statement.{statement}
+use Rattle.pmn_writer.proofs.unchecked.file_length.Tie as tie
 
 abbrev Inv-loop : tie.InvT-loop
 Inv-loop fanins gates outputs total₀ g₀ total g = (g ≤ gates) × (total ≡ 8 + gatesLength fanins g) × (total ≤ 8 + 85 * g)

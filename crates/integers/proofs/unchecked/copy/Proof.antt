@@ -8,8 +8,8 @@ use native.Mathlib.Numerals.{add-one}
 use native.Mathlib.Omega.{arith}
 use lib.ListN.{length, take, drop, getD, set, length-set}
 use lib.Seq.{take-length, paste-suc}
-use Rattle.capi.proofs.unchecked.places.copy.Statement.{statement}
-use Rattle.capi.proofs.unchecked.places.copy.Tie as tie
+use Rattle.integers.proofs.unchecked.copy.Statement.{statement}
+use Rattle.integers.proofs.unchecked.copy.Tie as tie
 
 abbrev Inv-loop : tie.InvT-loop
 Inv-loop from out₀ i₀ i-end out i = (i ≤ length from) × (out ≡ take i from ++ drop i out₀) × (length out ≡ length out₀)

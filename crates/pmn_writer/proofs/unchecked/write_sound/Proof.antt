@@ -8,14 +8,14 @@ use lib.ListN.{length, drop, length-append}
 use borrow.Rule.Slice.PartMut.{putMid}
 use borrow.Author.Needs.{needs}
 use Rattle.integers.specs.Refusals.{accepted}
+use Rattle.integers.specs.WriteLaws.{tail-length, write-on}
 use Rattle.network.specs.Record.{netOf}
 use Rattle.format.specs.Format.{fileBytes}
-use Rattle.pmn.specs.Writing.{header, firstGates, gatesLength, firstOutputs}
-use Rattle.pmn.specs.WritingLaws.{firstGates-length, firstOutputs-length, file-parts, file-length}
-use Rattle.pmn.specs.WriteAnswerLaws.{Bounded, sound-bounded, write-short, write-whole, written-refused, written-whole}
-use Rattle.pmn.proofs.PartWrites.{tail-length, write-on}
-use Rattle.pmn.proofs.unchecked.writer.write_sound.Statement.{statement}
-use Rattle.pmn.proofs.unchecked.writer.write_sound.Tie as tie
+use Rattle.pmn_writer.specs.Writing.{header, firstGates, gatesLength, firstOutputs}
+use Rattle.pmn_writer.specs.WritingLaws.{firstGates-length, firstOutputs-length, file-parts, file-length}
+use Rattle.pmn_writer.specs.WriteAnswerLaws.{Bounded, sound-bounded, write-short, write-whole, written-refused, written-whole}
+use Rattle.pmn_writer.proofs.unchecked.write_sound.Statement.{statement}
+use Rattle.pmn_writer.proofs.unchecked.write_sound.Tie as tie
 
 -- the record's counts are within the limits
 bounded : (c : tie.Start) → Bounded (c .args .t1)

@@ -1,0 +1,4 @@
+pub mod Answers
+pub mod Writing
+pub mod WritingLaws
+pub mod WriteAnswerLaws
