@@ -1,5 +1,6 @@
 -- Laws of what the functions answer: what an answer leaves in the lent places, and the read of a file, which comes first. Assumes nothing.
 use mathlib.Core.Path.{_≡_, refl, sym, ap, _∙_}
+use mathlib.Core.Bool.{true}
 use mathlib.Core.List.{List, [], _∷_, _++_}
 use Prim.Native.Nat.{ℕ, zero, suc, _<_, _≤_}
 use native.Mathlib.Nat.{zero-add}
@@ -10,9 +11,11 @@ use lib.ListN.{length, drop}
 use lib.Seq.{sets, sets-eq}
 use Rattle.integers.specs.Refusals.{Answer, accepted, refused, Test, _else_, checks, bind}
 use Rattle.integers.specs.RefusalLaws.{checks-first, checks-next}
+use Rattle.integers.specs.Tests.{is-true}
 use Rattle.network.specs.Threshold.{Net}
 use Rattle.network.specs.LimitLaws.{Sound}
-use Rattle.network.specs.Record.{layout}
+use Rattle.network.specs.Record.{layout, soundRecord}
+use Rattle.network.specs.RecordLaws.{sound-layout}
 use Rattle.network.specs.declared.Network.{Network}
 use Rattle.format.specs.Format.{Read, done, Bytes, parseFile}
 use Rattle.pmn.specs.Answers.{asLoaded, loaded}
@@ -82,6 +85,10 @@ pub read-accepted : (file : List ℕ) → Bytes file → {l : Loaded} → l ≡ 
 read-accepted file bytes {l} e h =
     let o = opened file (sym (ap (λ (x : Loaded). x .code) e) ∙ h) in
     record { read = o; sound = opened-sound file bytes o; laid = ap (λ (x : Loaded). x .network) (e ∙ loaded-net file o) }
+
+-- the record that was read is sound
+pub file-sound : {file : List ℕ} {r : Network} → FileRead file r → soundRecord r ≡ true
+file-sound {file} {r} f = ap soundRecord (f .laid) ∙ is-true _ (sound-layout (f .read .net) (f .sound))
 
 module _ {A : Type 0} (file : List ℕ) where
   -- a code that is not 0 is the answer, whatever follows the read

@@ -27,7 +27,7 @@ pub extern "C" fn pmn_frame(file: &[u8], frame: u64, answer: &mut [u64]) -> u8
     if answer.len() < 2 {
         return 18;
     }
-    let reading = evaluation::read_frame(loaded.network, frame);
+    let reading = evaluation::unchecked::read_sound(loaded.network, frame);
     unchecked::places::put_two(answer, reading.code, reading.bits, reading.ones as u64)
 }
 
@@ -63,7 +63,7 @@ pub extern "C" fn pmn_report(file: &[u8], answer: &mut [u64]) -> u8
     if answer.len() < 3 {
         return 18;
     }
-    let size = report::report(loaded.network);
+    let size = report::unchecked::size_of(loaded.network);
     unchecked::places::put_three(
         answer,
         size.code,
@@ -88,7 +88,7 @@ pub extern "C" fn pmn_write(file: &[u8], out: &mut [u8], answer: &mut [u64]) -> 
     if answer.len() < 1 {
         return 18;
     }
-    let written = pmn_writer::write(loaded.network, out);
+    let written = pmn_writer::unchecked::write_sound(loaded.network, out);
     unchecked::places::put_one(answer, written.code, written.length as u64)
 }
 

@@ -26,4 +26,4 @@ pub fn write(network: Network, out: &mut [u8]) -> Written
     }
 }
 
-mod unchecked;
+pub mod unchecked;

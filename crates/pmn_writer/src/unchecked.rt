@@ -35,7 +35,7 @@ fn put_feeds<'a>(out: &mut [u8], signals: &'a [u8; 16], weights: &'a [i32; 16], 
 }
 
 // One gate: its feed count, its threshold and its feeds. The answer is its length.
-pub fn put_gate(out: &mut [u8], gate: GateRecord) -> usize
+fn put_gate(out: &mut [u8], gate: GateRecord) -> usize
     requires { ⌜ (gate .fanin ≤ 16) × (5 + 5 * gate .fanin ≤ length (now out)) ⌝ }
     ensures { λ r. ⌜ r ≡ 5 + 5 * gate .fanin ⌝ }
     ensures { λ r. ⌜ now (out .exit) ≡ gateBytes (gateIn gate) ++ drop r (now (out .entry)) ⌝ }
@@ -47,7 +47,7 @@ pub fn put_gate(out: &mut [u8], gate: GateRecord) -> usize
 }
 
 // The gates of a record whose arrays are lent, each from the place where its predecessor ended. The answer is their length.
-pub fn put_gates<'a>(
+fn put_gates<'a>(
     out: &mut [u8],
     fanins: &'a [u8; 128],
     thresholds: &'a [i32; 128],
@@ -70,7 +70,7 @@ pub fn put_gates<'a>(
 }
 
 // The header with these counts.
-pub fn put_header(out: &mut [u8], inputs: usize, gates: usize, outputs: usize)
+fn put_header(out: &mut [u8], inputs: usize, gates: usize, outputs: usize)
     requires { ⌜ (inputs < 256) × (gates < 256) × (outputs < 256) ⌝ }
     requires { ⌜ 8 ≤ length (now out) ⌝ }
     ensures { λ _. ⌜ now (out .exit) ≡ header inputs gates outputs ++ drop 8 (now (out .entry)) ⌝ }
@@ -86,7 +86,7 @@ pub fn put_header(out: &mut [u8], inputs: usize, gates: usize, outputs: usize)
 }
 
 // The outputs.
-pub fn put_outputs(out: &mut [u8], drivers: &[u8; 16], outputs: usize)
+fn put_outputs(out: &mut [u8], drivers: &[u8; 16], outputs: usize)
     requires { ⌜ (outputs ≤ 16) × (outputs ≤ length (now out)) ⌝ }
     ensures { λ _. ⌜ now (out .exit) ≡ firstOutputs (now (drivers .entry)) outputs ++ drop outputs (now (out .entry)) ⌝ }
 {
@@ -96,7 +96,7 @@ pub fn put_outputs(out: &mut [u8], drivers: &[u8; 16], outputs: usize)
 }
 
 // How long the file of a record is.
-pub fn file_length(fanins: &[u8; 128], gates: usize, outputs: usize) -> usize
+fn file_length(fanins: &[u8; 128], gates: usize, outputs: usize) -> usize
     requires { ⌜ Counted (now fanins) gates ⌝ }
     requires { ⌜ outputs ≤ 16 ⌝ }
     ensures { λ r. ⌜ r ≡ 8 + gatesLength (now (fanins .entry)) gates + outputs ⌝ }

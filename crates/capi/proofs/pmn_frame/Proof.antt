@@ -3,7 +3,7 @@ use borrow.Author.Needs.{needs}
 use mathlib.Core.List.{[], _∷_}
 use Rattle.format.specs.LengthLaws.{bytes-of}
 use Rattle.capi.specs.Exports.{framePlaces}
-use Rattle.capi.specs.AnswerLaws.{FileRead, read-code, read-accepted, read-refused, read-short, refused-one, placed}
+use Rattle.capi.specs.AnswerLaws.{FileRead, file-sound, read-code, read-accepted, read-refused, read-short, refused-one, placed}
 use Rattle.capi.specs.ExportLaws.{frame-answer}
 use Rattle.capi.proofs.pmn_frame.Statement.{statement}
 use Rattle.capi.proofs.pmn_frame.Tie as tie
@@ -30,8 +30,8 @@ returns-2 c =
     let a = c .before .before .before .before .before .args in
     refused-one (a .answer .now) (read-short (a .file .now) (file-read (c .before) .read) 2 (a .answer .now) _ _ (c .if2 .taken))
 
-read-frame-requires : tie.Need-read-frame-requires
-read-frame-requires c κs = search needs
+read-sound-requires : tie.Need-read-sound-requires
+read-sound-requires c κs = file-sound (file-read (c .before))
 
 cast-put-two : tie.Need-cast-put-two
 cast-put-two c = search needs
@@ -45,7 +45,7 @@ same-length c = search needs
 returns-3 : tie.Need-returns-3
 returns-3 c =
     let a = c .before .before .before .before .before .before .before .before .before .before .before .args in
-    let g = c .before .before .before .before .before .read-frame in
+    let g = c .before .before .before .before .before .read-sound in
     placed (g .result .code) (g .result .bits ∷ g .result .ones ∷ []) (a .answer .now)
     (frame-answer (file-read (c .before .before .before .before .before .before .before)) (a .frame) (a .answer .now) (c .before .before .before .before .before .before .if2 .left) (g .ensures)) (c .before .before .put-two .ensures)
 
@@ -56,7 +56,7 @@ pmn-frame-spec =
     read-requires
     returns
     returns-2
-    read-frame-requires
+    read-sound-requires
     cast-put-two
     put-two-requires
     same-length

@@ -3,7 +3,7 @@ use borrow.Author.Needs.{needs}
 use mathlib.Core.List.{[], _∷_}
 use Rattle.format.specs.LengthLaws.{bytes-of}
 use Rattle.capi.specs.Exports.{reportPlaces}
-use Rattle.capi.specs.AnswerLaws.{FileRead, read-code, read-accepted, read-refused, read-short, refused-one, placed}
+use Rattle.capi.specs.AnswerLaws.{FileRead, file-sound, read-code, read-accepted, read-refused, read-short, refused-one, placed}
 use Rattle.capi.specs.ExportLaws.{report-answer}
 use Rattle.capi.proofs.pmn_report.Statement.{statement}
 use Rattle.capi.proofs.pmn_report.Tie as tie
@@ -30,8 +30,8 @@ returns-2 c =
     let a = c .before .before .before .before .before .args in
     refused-one (a .answer .now) (read-short (a .file .now) (file-read (c .before) .read) 3 (a .answer .now) _ _ (c .if2 .taken))
 
-report-requires : tie.Need-report-requires
-report-requires c κs = search needs
+size-of-requires : tie.Need-size-of-requires
+size-of-requires c κs = file-sound (file-read (c .before))
 
 put-three-requires : tie.Need-put-three-requires
 put-three-requires c κs = search needs
@@ -42,7 +42,7 @@ same-length c = search needs
 returns-3 : tie.Need-returns-3
 returns-3 c =
     let a = c .before .before .before .before .before .before .before .before .before .before .args in
-    let s = c .before .before .before .before .report in
+    let s = c .before .before .before .before .size-of in
     placed (s .result .code) (s .result .gates ∷ s .result .cost ∷ s .result .levels ∷ []) (a .answer .now)
     (report-answer (file-read (c .before .before .before .before .before .before)) (a .answer .now) (c .before .before .before .before .before .if2 .left) (s .ensures)) (c .before .before .put-three .ensures)
 
@@ -53,7 +53,7 @@ pmn-report-spec =
     read-requires
     returns
     returns-2
-    report-requires
+    size-of-requires
     put-three-requires
     same-length
     returns-3)

@@ -3,7 +3,7 @@ use borrow.Author.Needs.{needs}
 use mathlib.Core.Path.{_∙_}
 use Rattle.format.specs.LengthLaws.{bytes-of}
 use Rattle.capi.specs.Exports.{fileOut}
-use Rattle.capi.specs.AnswerLaws.{FileRead, read-code, read-accepted, read-refused, read-short, refused-two}
+use Rattle.capi.specs.AnswerLaws.{FileRead, file-sound, read-code, read-accepted, read-refused, read-short, refused-two}
 use Rattle.capi.specs.ExportLaws.{write-answer}
 use Rattle.capi.proofs.pmn_write.Statement.{statement}
 use Rattle.capi.proofs.pmn_write.Tie as tie
@@ -30,8 +30,8 @@ returns-2 c =
     let a = c .before .before .before .before .before .before .args in
     refused-two (a .out .now) (a .answer .now) (read-short (a .file .now) (file-read (c .before) .read) 1 (a .answer .now) _ _ (c .if2 .taken))
 
-write-requires : tie.Need-write-requires
-write-requires c κs = search needs
+write-sound-requires : tie.Need-write-sound-requires
+write-sound-requires c κs = file-sound (file-read (c .before .before))
 
 put-one-requires : tie.Need-put-one-requires
 put-one-requires c κs = search needs
@@ -45,7 +45,7 @@ same-length-2 c = search needs
 returns-3 : tie.Need-returns-3
 returns-3 c =
     let a = c .before .before .before .before .before .before .before .before .before .before .before .before .before .before .args in
-    let w = c .before .before .before .before .before .before .write in
+    let w = c .before .before .before .before .before .before .write-sound in
     let v = write-answer (file-read (c .before .before .before .before .before .before .before .before .before)) (a .out .now) (a .answer .now) (c .before .before .before .before .before .before .before .before .if2 .left) (w .ensures .0) (w .ensures .1) in
     let p = c .before .before .put-one in
     (p .ensures .0 ∙ v .number, (v .bytes, p .ensures .1 ∙ v .places))
@@ -57,7 +57,7 @@ pmn-write-spec =
     read-requires
     returns
     returns-2
-    write-requires
+    write-sound-requires
     put-one-requires
     same-length
     same-length-2
