@@ -8,7 +8,7 @@ use native.Mathlib.Omega.{arith}
 use borrow.Author.Tests.{le-leb, lt-leb}
 use lib.Dec.{leb}
 use lib.ListN.{length, drop}
-use Rattle.integers.specs.Refusals.{Answer, accepted, refused, Test, _else_, checks, bind}
+use Rattle.integers.specs.Refusals.{Answer, accepted, refused, Test, _else_, checks, bind, codeOf}
 use Rattle.integers.specs.RefusalLaws.{checks-first, checks-next, checks-none}
 use Rattle.integers.specs.Tests.{is-true, is-false, cond-case}
 use Rattle.network.specs.Threshold.{Net, frame, fitsFrame, outputBits, wordOf, onesOf}
@@ -34,7 +34,7 @@ use Rattle.collapse.specs.FuseLaws.{Numbered, readerPair-numbered, pair-reader}
 use Rattle.merging.specs.declared.PairFound.{PairFound}
 use Rattle.report.specs.Size.{cost, levels, reportOf, reported}
 use Rattle.report.specs.declared.SizeReport.{SizeReport}
-use Rattle.capi.specs.Exports.{codeOf, stored, room, framePlaces, pairPlaces, reportPlaces, lengthOf, fileOut, partOut}
+use Rattle.capi.specs.Exports.{stored, room, framePlaces, pairPlaces, reportPlaces, lengthOf, fileOut, partOut}
 use Rattle.capi.specs.Places.{answerOf}
 use Rattle.capi.specs.AnswerLaws.{left-two, FileRead, read-room}
 

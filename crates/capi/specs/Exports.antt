@@ -28,11 +28,6 @@ readNet file = asAnswer (parseFile file)
 
 -- ---- what a function leaves
 
--- the number
-unfoldable pub codeOf : {A : Type 0} → Answer A → ℕ
-codeOf (accepted a) = 0
-codeOf (refused k) = k
-
 -- a list at the front of what was lent, or what was lent as it was
 unfoldable pub stored : Answer (List ℕ) → List ℕ → List ℕ
 stored (accepted xs) lent = xs ++ drop (length xs) lent

@@ -6,7 +6,7 @@ use Prim.Native.Nat.{ℕ, zero, suc, _<_, _≤_}
 use native.Mathlib.Omega.{arith}
 use lib.Dec.{leb}
 use lib.ListN.{length}
-use Rattle.integers.specs.Refusals.{Answer, accepted, refused, Test, _else_, checks}
+use Rattle.integers.specs.Refusals.{Answer, accepted, refused, Test, _else_, checks, codeOf}
 use Rattle.integers.specs.RefusalLaws.{checks-next}
 use Rattle.integers.specs.Tests.{is-true, both-true}
 use Rattle.network.specs.Threshold.{Net}
@@ -21,7 +21,7 @@ use Rattle.constraints.specs.Text.{questionText}
 use Rattle.collapse.specs.FuseLaws.{Numbered}
 use Rattle.question.specs.Answers.{alike, lineAnswer, asLineWritten, asBytes}
 use Rattle.question.specs.declared.LineWritten.{LineWritten}
-use Rattle.capi.specs.Exports.{readNet, codeOf, stored, room, lengthOf, lineOut}
+use Rattle.capi.specs.Exports.{readNet, stored, room, lengthOf, lineOut}
 use Rattle.capi.specs.Places.{answerOf}
 use Rattle.capi.specs.AnswerLaws.{FileRead, read-refused, read-on, read-short, read-room}
 use Rattle.capi.specs.ExportLaws.{Wrote, wrote-same}

@@ -8,7 +8,7 @@ use borrow.Author.Tests.{le-leb, lt-leb}
 use lib.Dec.{leb}
 use lib.ListN.{length, drop}
 use lib.Seq.{paste, take-length}
-use Rattle.integers.specs.Refusals.{Answer, accepted, refused, Test, _else_, checks}
+use Rattle.integers.specs.Refusals.{Answer, accepted, refused, Test, _else_, checks, codeOf}
 use Rattle.integers.specs.RefusalLaws.{checks-first, checks-next, checks-none}
 use Rattle.integers.specs.Tests.{both-true, and-false-left, and-false-right}
 use Rattle.network.specs.Threshold.{Net}
@@ -20,26 +20,27 @@ use Rattle.pmn_writer.specs.Answers.{written, bytesAfter}
 use Rattle.pmn_writer.specs.declared.Written.{Written}
 use Rattle.folding.specs.Calls.{calls}
 use Rattle.folding.specs.declared.Call.{Call}
-use Rattle.capi.specs.Exports.{codeOf, stored, room}
+use Rattle.capi.specs.Exports.{stored, room}
 use Rattle.capi.specs.Places.{answerOf}
 use Rattle.capi.specs.AnswerLaws.{FileRead, read-on}
 use Rattle.capi.specs.ExportLaws.{write-fits}
-use Rattle.capi.specs.Runs.{wellFormed, callsIn, answersOf, Ran, ran, runAnswer, fileOf, numbersOf}
-use Rattle.capi.specs.Running.{Holds}
-use Rattle.capi.specs.RunLaws.{count-calls, holds-layout, after-sound, answers-length}
+use Rattle.capi.specs.Runs.{wellFormed, callsIn, answersOf, Ran, ran, runAnswer, ranFile, ranNumbers}
+use Rattle.network.specs.Places.{Holds}
+use Rattle.capi.specs.RunLaws.{count-calls, after-sound, answers-length}
+use Rattle.network.specs.RecordLaws.{holds-layout}
 
 -- what a run leaves: its answer's code, the numbers and the bytes
 pub record RunLeft (x : Answer Ran) (k : ℕ) (answers numbers out bytes : List ℕ) : Type 0 where
   pub code : k ≡ codeOf x
-  pub places : numbers ≡ stored (numbersOf x) answers
-  pub file : bytes ≡ stored (fileOf x) out
+  pub places : numbers ≡ stored (ranNumbers x) answers
+  pub file : bytes ≡ stored (ranFile x) out
 
 run-same : {x y : Answer Ran} {k : ℕ} {answers numbers out bytes : List ℕ} → x ≡ y → RunLeft y k answers numbers out bytes → RunLeft x k answers numbers out bytes
 run-same {k = k} {answers} {numbers} {out} {bytes} e l = subst (λ (z : Answer Ran). RunLeft z k answers numbers out bytes) (sym e) l
 
 -- a refusal: everything as it was
 pub run-refused : {x : Answer Ran} {k : ℕ} (answers out : List ℕ) → x ≡ refused k → RunLeft x k answers answers out out
-unfolding codeOf stored numbersOf fileOf
+unfolding codeOf stored ranNumbers ranFile
 run-refused answers out e = run-same e (record { code = refl; places = refl; file = refl })
 
 -- ---- the record of the file that was read
@@ -112,7 +113,7 @@ pub run-left : {file : List ℕ} {r : Network} (a : FileRead file r) (ns answers
     → {after : Network} → after ≡ layout (calls (netOf r) (callsIn ns)) → {put : List ℕ} → put ≡ paste answers 1 (answersOf (netOf r) (callsIn ns)) (2 * length (callsIn ns))
     → {w : Written} → w ≡ written after (length out) → {bytes : List ℕ} → bytes ≡ bytesAfter after out
     → RunLeft (runAnswer file ns answers out) (w .code) answers (stored (answerOf (w .code) (w .length ∷ [])) put) out bytes
-unfolding codeOf numbersOf fileOf ran stored
+unfolding codeOf ranNumbers ranFile ran stored
 run-left {r = r} a ns answers out t h fits {after} e {put} p {w} d {bytes} b =
     let cs = callsIn ns in
     let M = calls (netOf r) cs in

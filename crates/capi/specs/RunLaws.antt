@@ -6,15 +6,16 @@ use mathlib.Core.List.{List, [], _∷_}
 use Prim.Native.Nat.{ℕ, zero, suc, _+_, _*_, _<_, _≤_}
 use native.Mathlib.Nat.{add-zero}
 use native.Mathlib.Omega.{arith}
-use lib.Dec.{T, leb}
+use lib.Dec.{leb}
 use lib.ListN.{length, getD, drop, set, length-append, length-drop}
 use lib.Seq.{drop-drop, getD-drop, paste, paste-suc}
-use Rattle.integers.specs.Refusals.{Answer, accepted, refused}
-use Rattle.integers.specs.Tests.{is-true, and-right}
+use Rattle.integers.specs.Refusals.{Answer, accepted, refused, codeOf}
+use Rattle.integers.specs.Tests.{and-right}
 use Rattle.network.specs.Threshold.{Net, Gate}
 use Rattle.network.specs.LimitLaws.{Gates, Sound}
-use Rattle.network.specs.Record.{netOf, layout, soundRecord}
-use Rattle.network.specs.RecordLaws.{netOf-layout, sound-layout}
+use Rattle.network.specs.Record.{netOf, layout}
+use Rattle.network.specs.Places.{Holds}
+use Rattle.network.specs.RecordLaws.{netOf-layout, holds-layout, holds-sound}
 use Rattle.network.specs.declared.Network.{Network}
 use Rattle.format.specs.Format.{gateBytes, gatesBytes, fileBytes}
 use Rattle.format.specs.LengthLaws.{gateBytes-length, fileBytes-length}
@@ -23,16 +24,14 @@ use Rattle.pmn_writer.specs.WriteAnswerLaws.{write-whole}
 use Rattle.pmn_writer.specs.declared.Written.{Written}
 use Rattle.folding.specs.Sweep.{Swept}
 use Rattle.folding.specs.Calls.{answer, leaves, calls}
-use Rattle.folding.specs.GuaranteeLaws.{calls-kept}
+use Rattle.folding.specs.GuaranteeLaws.{calls-kept, step-sound}
 use Rattle.folding.specs.declared.Call.{Call}
 use Rattle.folding.specs.declared.Call.the-variants.{Sweep}
-use Rattle.merging.specs.Answers.{onRecord}
 use Rattle.sweeping.specs.Answers.{asOutcome, applied}
+use Rattle.sweeping.specs.ApplyLaws.{call-exact, call-record}
 use Rattle.sweeping.specs.declared.Outcome.{Outcome}
-use Rattle.capi.specs.Exports.{codeOf}
-use Rattle.capi.specs.ExportLaws.{on-layout}
 use Rattle.capi.specs.Runs.{callOf, wellFormed, callsIn, collapsesOf, answersOf}
-use Rattle.capi.specs.Running.{Holds, callAt, Stepped}
+use Rattle.capi.specs.Running.{callAt, Stepped}
 
 -- ---- five numbers to a call
 
@@ -96,29 +95,22 @@ sweep-call (suc zero) b v k l x y z = absurd (y refl)
 sweep-call (suc (suc zero)) b v k l x y z = absurd (z refl)
 sweep-call (suc (suc (suc n))) b v k l x y z = refl
 
--- ---- the record of a sound network
-pub holds-layout : (N : Net) → Sound N → Holds (layout N)
-holds-layout N s = record { sound = subst Sound (sym (netOf-layout N s)) s; laid = ap layout (netOf-layout N s) }
-
-pub holds-sound : (r : Network) → Holds r → soundRecord r ≡ true
-holds-sound r h = is-true (soundRecord r) (subst (λ (x : Network). T (soundRecord x)) (h .laid) (sound-layout (netOf r) (h .sound)))
+-- ---- one call on a record
 
 -- the network after a list is sound
 pub after-sound : (r : Network) → Holds r → (cs : List Call) → Sound (calls (netOf r) cs)
 after-sound r h cs = calls-kept (netOf r) cs (h .sound) .sound
 
--- one call on it
-step-by : (r : Network) → layout (netOf r) ≡ r → (a : Answer Swept) → Stepped (netOf r) a (asOutcome r a)
-unfolding asOutcome codeOf collapsesOf leaves
-step-by r e (accepted s) = record { code = refl; collapses = refl; network = refl }
-step-by r e (refused k) = record { code = refl; collapses = refl; network = sym e }
+step-by : (r : Network) (a : Answer Swept) → asOutcome r a .network ≡ layout (leaves (netOf r) a) → Stepped (netOf r) a (asOutcome r a)
+unfolding asOutcome codeOf collapsesOf
+step-by r (accepted s) e = record { code = refl; collapses = refl; network = e }
+step-by r (refused k) e = record { code = refl; collapses = refl; network = e }
 
 pub step-done : (r : Network) → Holds r → (c : Call) {o : Outcome} → o ≡ applied r c → Stepped (netOf r) (answer (netOf r) c) o
-unfolding applied
 step-done r h c e =
-    let N = netOf r in
-    let same = ap (λ (x : Network). asOutcome r (onRecord x (λ M. answer M c))) (sym (h .laid)) ∙ ap (asOutcome r) (on-layout N (h .sound) (λ M. answer M c)) in
-    subst (Stepped N (answer N c)) (sym (e ∙ same)) (step-by r (h .laid) (answer N c))
+    let a = answer (netOf r) c in
+    let same = call-exact r c (holds-sound r h) in
+    subst (Stepped (netOf r) a) (sym (e ∙ same)) (step-by r a (ap (λ (x : Outcome). x .network) (sym same) ∙ call-record r c h))
 
 -- what is left of the list after call i
 module _ (r : Network) (h : Holds r) (ns : List ℕ) (i : ℕ) (l : 5 * i + 5 ≤ length ns) (o : Outcome) (s : Stepped (netOf r) (answer (netOf r) (callAt ns i)) o) where
@@ -126,8 +118,8 @@ module _ (r : Network) (h : Holds r) (ns : List ℕ) (i : ℕ) (l : 5 * i + 5 �
   next = leaves (netOf r) (answer (netOf r) (callAt ns i))
 
   next-sound : Sound next
-  unfolding next calls
-  next-sound = after-sound r h (callAt ns i ∷ [])
+  unfolding next
+  next-sound = step-sound (netOf r) (callAt ns i) (h .sound)
 
   pub next-holds : Holds (o .network)
   unfolding next

@@ -3,22 +3,14 @@ use mathlib.Core.Path.{_≡_}
 use mathlib.Core.List.{List}
 use Prim.Native.Nat.{ℕ, _+_, _*_}
 use lib.ListN.{getD}
-use Rattle.integers.specs.Refusals.{Answer}
+use Rattle.integers.specs.Refusals.{Answer, codeOf}
 use Rattle.network.specs.Threshold.{Net}
-use Rattle.network.specs.LimitLaws.{Sound}
-use Rattle.network.specs.Record.{netOf, layout}
-use Rattle.network.specs.declared.Network.{Network}
+use Rattle.network.specs.Record.{layout}
 use Rattle.folding.specs.Sweep.{Swept}
 use Rattle.folding.specs.Calls.{leaves}
 use Rattle.folding.specs.declared.Call.{Call}
 use Rattle.sweeping.specs.declared.Outcome.{Outcome}
-use Rattle.capi.specs.Exports.{codeOf}
 use Rattle.capi.specs.Runs.{callOf, collapsesOf}
-
--- a record is that of its network, which is sound
-pub record Holds (r : Network) : Type 0 where
-  pub sound : Sound (netOf r)
-  pub laid : layout (netOf r) ≡ r
 
 -- call i of a list of numbers
 abbrev pub callAt : List ℕ → ℕ → Call

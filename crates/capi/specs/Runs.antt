@@ -5,14 +5,14 @@ use mathlib.Core.List.{List, [], _∷_}
 use Prim.Native.Nat.{ℕ, zero, suc, _+_, _*_}
 use lib.Dec.{leb}
 use lib.ListN.{length}
-use Rattle.integers.specs.Refusals.{Answer, accepted, refused, _else_, checks, bind}
+use Rattle.integers.specs.Refusals.{Answer, accepted, refused, _else_, checks, bind, codeOf}
 use Rattle.network.specs.Threshold.{Net}
 use Rattle.format.specs.Format.{fileBytes}
 use Rattle.folding.specs.Sweep.{Swept}
 use Rattle.folding.specs.Calls.{answer, leaves, calls}
 use Rattle.folding.specs.declared.Call.{Call}
 use Rattle.folding.specs.declared.Call.the-variants.{Merge, Drop, Collapse, Sweep}
-use Rattle.capi.specs.Exports.{readNet, codeOf, room}
+use Rattle.capi.specs.Exports.{readNet, room}
 
 -- the call of a kind from 0 to 3 and four numbers
 unfoldable pub callOf : ℕ → ℕ → ℕ → ℕ → ℕ → Call
@@ -62,10 +62,10 @@ runAnswer file numbers answers out = bind (readNet file) (λ N.
     checks ((wellFormed numbers else 14) ∷ (room (1 + 2 * length (callsIn numbers)) answers && room (length (fileBytes (calls N (callsIn numbers)))) out else 18) ∷ [])
     (accepted (ran N (callsIn numbers))))
 
-unfoldable pub fileOf : Answer Ran → Answer (List ℕ)
-fileOf (accepted r) = accepted (r .file)
-fileOf (refused k) = refused k
+unfoldable pub ranFile : Answer Ran → Answer (List ℕ)
+ranFile (accepted r) = accepted (r .file)
+ranFile (refused k) = refused k
 
-unfoldable pub numbersOf : Answer Ran → Answer (List ℕ)
-numbersOf (accepted r) = accepted (r .numbers)
-numbersOf (refused k) = refused k
+unfoldable pub ranNumbers : Answer Ran → Answer (List ℕ)
+ranNumbers (accepted r) = accepted (r .numbers)
+ranNumbers (refused k) = refused k

@@ -1,8 +1,9 @@
 // The folder for C and Rust: each function takes a PMN file and numbers, and answers 0 or the refusal. include/pmn.h has the
 // declarations; a slice is a pointer and then a length.
 ghost use mathlib.Core.Path.{_≡_};
-ghost use Rattle.capi.specs.Exports.{readNet, codeOf, stored, lengthOf, framePlaces, pairPlaces, reportPlaces, fileOut, partOut, lineOut};
-ghost use Rattle.capi.specs.Runs.{runAnswer, fileOf, numbersOf};
+ghost use Rattle.integers.specs.Refusals.{codeOf};
+ghost use Rattle.capi.specs.Exports.{readNet, stored, lengthOf, framePlaces, pairPlaces, reportPlaces, fileOut, partOut, lineOut};
+ghost use Rattle.capi.specs.Runs.{runAnswer, ranFile, ranNumbers};
 
 // The network of a file is read, and nothing more.
 #[no_mangle]
@@ -153,8 +154,8 @@ pub extern "C" fn pmn_line(
 #[no_mangle]
 pub extern "C" fn pmn_run(file: &[u8], calls: &[u64], answers: &mut [u64], out: &mut [u8]) -> u8
     ensures { λ r. ⌜ r ≡ codeOf (runAnswer (now (file .entry)) (now (calls .entry)) (now (answers .entry)) (now (out .entry))) ⌝ }
-    ensures { λ _. ⌜ now (answers .exit) ≡ stored (numbersOf (runAnswer (now (file .entry)) (now (calls .entry)) (now (answers .entry)) (now (out .entry)))) (now (answers .entry)) ⌝ }
-    ensures { λ _. ⌜ now (out .exit) ≡ stored (fileOf (runAnswer (now (file .entry)) (now (calls .entry)) (now (answers .entry)) (now (out .entry)))) (now (out .entry)) ⌝ }
+    ensures { λ _. ⌜ now (answers .exit) ≡ stored (ranNumbers (runAnswer (now (file .entry)) (now (calls .entry)) (now (answers .entry)) (now (out .entry)))) (now (answers .entry)) ⌝ }
+    ensures { λ _. ⌜ now (out .exit) ≡ stored (ranFile (runAnswer (now (file .entry)) (now (calls .entry)) (now (answers .entry)) (now (out .entry)))) (now (out .entry)) ⌝ }
 {
     let loaded = pmn::read(file);
     let code = loaded.code;

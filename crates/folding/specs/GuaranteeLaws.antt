@@ -42,6 +42,10 @@ unfolding calls
 calls-kept N [] s = kept-refl N s
 calls-kept N (c ∷ cs) s = let k = leaves-kept N (answer N c) s (answer-kept N c) in kept-trans k (calls-kept (leaves N (answer N c)) cs (k .sound))
 
+-- one call by itself
+pub step-sound : (N : Net) (c : Call) → Sound N → Sound (leaves N (answer N c))
+step-sound N c s = leaves-kept N (answer N c) s (answer-kept N c) .sound
+
 pub calls-agree : (N : Net) (cs : List Call) → Sound N → (ρ : Assignment) → outputBits (calls N cs) ρ ≡ outputBits N ρ
 calls-agree N cs s ρ = let k = calls-kept N cs s in sim-outputs N (calls N cs) (sound-good N s) (sound-good (calls N cs) (k .sound)) (k .sim) ρ
 

@@ -29,8 +29,3 @@ partAnswer s signal = partOfRead s signal (parseFile s)
 abbrev pub asPart : Answer (List ℕ) → List ℕ
 asPart (accepted l) = l
 asPart (Answer.refused k) = []
-
--- "the number, 0 for none"
-abbrev pub asCode : {A : Type 0} → Answer A → ℕ
-asCode (accepted a) = 0
-asCode (Answer.refused k) = k

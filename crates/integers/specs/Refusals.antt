@@ -9,6 +9,11 @@ pub data Answer (A : Type 0) : Type 0 where
   accepted : A → Answer A
   refused : ℕ → Answer A
 
+-- the number of an answer, 0 for accepted
+unfoldable pub codeOf : {A : Type 0} → Answer A → ℕ
+codeOf (accepted a) = 0
+codeOf (refused k) = k
+
 -- a test, and the number of the refusal where it fails
 infix 20 _else_
 pub data Test : Type 0 where

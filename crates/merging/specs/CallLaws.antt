@@ -20,7 +20,7 @@ use Rattle.folding.specs.PairLaws.{of-qualified}
 use Rattle.folding.specs.SoundLaws.{merged-ok}
 use Rattle.merging.specs.Answers.{onRecord, asChanged, asPair, mergedRecord, pairFound}
 use Rattle.merging.specs.Lent.{edgeIn, Joined}
-use Rattle.merging.specs.Codes.{codeOf, edgeTests, edgeTestsIn, mergeTests}
+use Rattle.merging.specs.Codes.{firstFailing, edgeTests, edgeTestsIn, mergeTests}
 use Rattle.merging.specs.CodeLaws.{code-passed, code-refused}
 use Rattle.merging.specs.EdgeLaws.{joined-of, edge-is, tests-are}
 use Rattle.merging.specs.FittedLaws.{narrow-few}
@@ -51,8 +51,8 @@ module _ (r : Network) (s : soundRecord r ≡ true) (u v : ℕ) where
   merge-sound k l = rw (s, sound-is)
 
   -- the number of the first test of u and v that fails
-  module _ (n : ℕ) (same : n ≡ codeOf (edgeTestsIn (r .fanins) (r .thresholds) (r .signals) (r .weights) (r .inputs) (r .gates) u v)) where
-    number-is : n ≡ codeOf (edgeTests (netOf r) u v)
+  module _ (n : ℕ) (same : n ≡ firstFailing (edgeTestsIn (r .fanins) (r .thresholds) (r .signals) (r .weights) (r .inputs) (r .gates) u v)) where
+    number-is : n ≡ firstFailing (edgeTests (netOf r) u v)
     number-is = same ∙ tests-are r u v
 
     -- 11 or 12
@@ -92,14 +92,14 @@ module _ (r : Network) (s : soundRecord r ≡ true) (u v : ℕ) where
           ∙ ap (λ (e : Edge). checks (mergeTests e k l) (accepted (withGate (netOf r) v (merged e k l)))) (sym here-is))
 
       -- 13, 14, 7, 6 or 15
-      pub merge-refused : (k l m : ℕ) → m ≡ codeOf (mergeTests here k l) → (m ≡ 0 → ⊥) → mergedRecord r u v k l ≡ asChanged r (refused m)
+      pub merge-refused : (k l m : ℕ) → m ≡ firstFailing (mergeTests here k l) → (m ≡ 0 → ⊥) → mergedRecord r u v k l ≡ asChanged r (refused m)
       merge-refused k l m e h = merge-joined k l ∙ ap (asChanged r) (code-refused (mergeTests here k l) _ (λ z. h (e ∙ z)) ∙ ap refused (sym e))
 
       pub merge-accepted : (k l : ℕ) → Passed (mergeTests here k l) → mergedRecord r u v k l ≡ asChanged r (accepted (withGate (netOf r) v (merged here k l)))
       merge-accepted k l p = merge-joined k l ∙ ap (asChanged r) (passed-checks (mergeTests here k l) _ p)
 
 -- ---- where the tests of a merge hold
-pub merge-passed : (e : Edge) (k l m : ℕ) → m ≡ codeOf (mergeTests e k l) → m ≡ 0 → Passed (mergeTests e k l)
+pub merge-passed : (e : Edge) (k l m : ℕ) → m ≡ firstFailing (mergeTests e k l) → m ≡ 0 → Passed (mergeTests e k l)
 unfolding mergeTests
 merge-passed e k l m same none = code-passed (mergeTests e k l) (omega arith, (omega arith, (omega arith, (omega arith, (omega arith, tt))))) (sym same ∙ none)
 

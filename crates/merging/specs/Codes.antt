@@ -13,9 +13,9 @@ use Rattle.folding.specs.Merge.{Edge, reads, merged, agrees, onDial, withGrain,
 use Rattle.folding.specs.Aligned.{Aligned, agreesAll, scaleFits}
 
 -- the number of the first test that fails, 0 if none does
-unfoldable pub codeOf : List Test → ℕ
-codeOf [] = 0
-codeOf ((b else c) ∷ ts) = cond b (codeOf ts) c
+unfoldable pub firstFailing : List Test → ℕ
+firstFailing [] = 0
+firstFailing ((b else c) ∷ ts) = cond b (firstFailing ts) c
 
 -- 11 and 12: u and v are gates, and u feeds v
 unfoldable pub edgeTests : Net → ℕ → ℕ → List Test

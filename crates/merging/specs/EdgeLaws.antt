@@ -27,7 +27,7 @@ use Rattle.alignment.specs.Alignments as alignments
 use Rattle.alignment.specs.Alignments.{Alignable}
 use Rattle.merging.specs.Lent.{edgeIn, Lent, Within, Joined}
 use Rattle.merging.specs.LentLaws.{lent-gate}
-use Rattle.merging.specs.Codes.{codeOf, edgeTests, edgeTestsIn}
+use Rattle.merging.specs.Codes.{firstFailing, edgeTests, edgeTestsIn}
 
 -- ---- gates in lent arrays
 
@@ -93,12 +93,12 @@ module _ (r : Network) where
   edge-is u v a b = ap₂ (λ (g h : Gate). record { u = u; v = v; gateU = g; gateV = h }) (gate-is u a) (gate-is v b)
 
   -- so are the tests: v's feeds are looked at only if v is a gate
-  pub tests-are : (u v : ℕ) → codeOf (edgeTestsIn (r .fanins) (r .thresholds) (r .signals) (r .weights) (r .inputs) (r .gates) u v) ≡ codeOf (edgeTests (netOf r) u v)
-  unfolding codeOf edgeTestsIn edgeTests
+  pub tests-are : (u v : ℕ) → firstFailing (edgeTestsIn (r .fanins) (r .thresholds) (r .signals) (r .weights) (r .inputs) (r .gates) u v) ≡ firstFailing (edgeTests (netOf r) u v)
+  unfolding firstFailing edgeTestsIn edgeTests
   tests-are u v = rw (← signal-is u, ← signal-is v)
       (second (gateSignal (r .inputs) (r .gates) u && gateSignal (r .inputs) (r .gates) v)
       (λ t. ap (reads u) (gate-is v (within-of (r .inputs) (r .gates) v (T-and (gateSignal (r .inputs) (r .gates) u) (gateSignal (r .inputs) (r .gates) v) t .1)))))
     where
-      second : (b : Bool) {x y : Bool} → (T b → x ≡ y) → codeOf ((b else 11) ∷ (x else 12) ∷ []) ≡ codeOf ((b else 11) ∷ (y else 12) ∷ [])
+      second : (b : Bool) {x y : Bool} → (T b → x ≡ y) → firstFailing ((b else 11) ∷ (x else 12) ∷ []) ≡ firstFailing ((b else 11) ∷ (y else 12) ∷ [])
       second true h = rw (h tt)
       second false h = refl

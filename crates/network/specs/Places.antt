@@ -9,7 +9,8 @@ use lib.IntN.{ℤ, pos}
 use lib.ListN.{getD, length}
 use Rattle.integers.specs.Lists.{tab}
 use Rattle.network.specs.Limits.{isGate}
-use Rattle.network.specs.Record.{netOf, soundRecord}
+use Rattle.network.specs.LimitLaws.{Sound}
+use Rattle.network.specs.Record.{netOf, layout, soundRecord}
 use Rattle.network.specs.declared.GateRecord.{GateRecord}
 use Rattle.network.specs.declared.Network.{Network}
 
@@ -28,6 +29,11 @@ rowAt fanins thresholds signals weights g = record {
   signals = tab 16 (λ i. getD signals (16 * g + i) 0);
   weights = tab 16 (λ i. getD weights (16 * g + i) (pos 0));
 }
+
+-- the record holds a sound network, and nothing more
+pub record Holds (r : Network) : Type 0 where
+  pub sound : Sound (netOf r)
+  pub laid : layout (netOf r) ≡ r
 
 -- a sound record, and the signal of one of its gates
 pub record SoundGate (r : Network) (v : ℕ) : Type 0 where

@@ -1,7 +1,7 @@
 -- Laws between a record and its network: the network of a network's record, the record of a sound record's network, and soundness both
 -- ways. Assumes nothing.
 use mathlib.Core.Path.{_≡_, refl, sym, ap, _∙_, subst}
-use mathlib.Core.Bool.{not}
+use mathlib.Core.Bool.{true, not}
 use mathlib.Core.List.{List}
 use Prim.Native.Nat.{ℕ, _+_, _*_, _/_, _%_, _-_, _≤_, _<_}
 use native.Mathlib.Decide.{decLt}
@@ -9,7 +9,7 @@ use native.Mathlib.Omega.{arith}
 use lib.Dec.{T, T-not, ltb, lt→ltb, ltb→lt}
 use lib.IntN.{pos}
 use lib.ListN.{length, getD, List·getD-eq-default}
-use Rattle.integers.specs.Tests.{T-is, T-and, and-T}
+use Rattle.integers.specs.Tests.{is-true, T-is, T-and, and-T, test-case}
 use Rattle.integers.specs.ListLaws.{length-tab, getD-tab, tab-of, tab-same}
 use Rattle.network.specs.declared.Network.{Network}
 use Rattle.network.specs.Threshold.{Feed, Gate, Net}
@@ -17,8 +17,7 @@ use Rattle.network.specs.Limits.{isGate, sound}
 use Rattle.network.specs.LimitLaws.{Has, has-of, Sound, sound-of, of-sound, gates-at}
 use Rattle.network.specs.Record.{feedAt, gateFrom, gateOf, netOf, noFeed, noGate, nthGate, placeOf, faninsOf, thresholdsOf, placeSignals, placeWeights, driversOf, layout, usedPlace, spareClear, soundRecord, gateRecord}
 use Rattle.network.specs.Changes.{gateAt}
-use Rattle.network.specs.Places.{rowAt, SoundGate}
-use Rattle.integers.specs.Tests.{test-case}
+use Rattle.network.specs.Places.{rowAt, Holds, SoundGate}
 use Rattle.network.specs.SpareLaws.{Spare, spare-of, of-spare}
 use Rattle.network.specs.PlaceLaws.{place-at, length-feeds, feeds-at, gate-beyond, has-gate, place-beyond, place-read, gate-back}
 
@@ -206,3 +205,10 @@ unfolding netOf
 gate-number r v s =
     let h = has-of (netOf r) v (T-is (isGate (netOf r) v) (s .gate)) in
     omega (arith, h, count-gates r, sound-net r (T-is (soundRecord r) (s .sound)) .few-gates)
+
+-- ---- the record of a sound network
+pub holds-layout : (N : Net) → Sound N → Holds (layout N)
+holds-layout N s = record { sound = subst Sound (sym (netOf-layout N s)) s; laid = ap layout (netOf-layout N s) }
+
+pub holds-sound : (r : Network) → Holds r → soundRecord r ≡ true
+holds-sound r h = is-true (soundRecord r) (subst (λ (x : Network). T (soundRecord x)) (h .laid) (sound-layout (netOf r) (h .sound)))

@@ -7,7 +7,7 @@ use native.Mathlib.Nat.{le-refl}
 use native.Mathlib.Omega.{arith}
 use lib.Dec.{T}
 use lib.ListN.{length, getD}
-use Rattle.integers.specs.Refusals.{Answer, accepted}
+use Rattle.integers.specs.Refusals.{Answer, accepted, codeOf}
 use Rattle.integers.specs.Tests.{T-is}
 use Rattle.network.specs.Threshold.{Net}
 use Rattle.network.specs.Limits.{isGate}
@@ -15,7 +15,7 @@ use Rattle.network.specs.LimitLaws.{Has, has-of}
 use Rattle.network.specs.Record.{layout}
 use Rattle.network.specs.Changes.{gateAt}
 use Rattle.format.specs.Format.{Read, refused, done, gateBytes, fileBytes, parseFile, Bytes}
-use Rattle.format.specs.Part.{partAnswer, asPart, asCode}
+use Rattle.format.specs.Part.{partAnswer, asPart}
 use Rattle.format.specs.CodeLaws.{refused-positive}
 use Rattle.format.specs.ReadWriteLaws.{file-of}
 use Rattle.format.specs.PartLaws.{GateFile, part-refused, part-stray, part-found, part-by}
@@ -54,7 +54,8 @@ pub not-gate : (N : Net) (x : ℕ) → (Has N x → ⊥) → isGate N x ≡ fals
 not-gate N x n = elim (isGate N x) as (λ b. (T b → Has N x) → b ≡ false) [ true ↦ λ h. absurd (n (h tt)) | false ↦ λ h. refl ] (has-of N x)
 
 -- ---- a gate's part, by its number
-pub no-part : (a : Answer (List ℕ)) → (asCode a ≡ 0 → ⊥) → asPart a ≡ []
+pub no-part : (a : Answer (List ℕ)) → (codeOf a ≡ 0 → ⊥) → asPart a ≡ []
+unfolding codeOf
 no-part (accepted l) h = absurd (h refl)
 no-part (Answer.refused k) h = refl
 
@@ -65,20 +66,22 @@ pub record PartFile (s : List ℕ) (x : ℕ) : Type 0 where
   pub has : Has net x
   pub answer : asPart (partAnswer s x) ≡ gateBytes (gateAt net x)
 
-part-test : (s : List ℕ) (x : ℕ) (N : Net) (m : List ℕ) → Bytes s → parseFile s ≡ done N m → (b : Bool) → isGate N x ≡ b → asCode (partAnswer s x) ≡ 0 → PartFile s x
+part-test : (s : List ℕ) (x : ℕ) (N : Net) (m : List ℕ) → Bytes s → parseFile s ≡ done N m → (b : Bool) → isGate N x ≡ b → codeOf (partAnswer s x) ≡ 0 → PartFile s x
+unfolding codeOf
 part-test s x N m bs e true t h = record {
   net = N;
   file = file-of s N m bs e .list;
   has = has-of N x (T-is (isGate N x) t);
   answer = ap asPart (part-found s x N m bs e t);
 }
-part-test s x N m bs e false t h = absurd (omega (arith, ap asCode (part-stray s x N m e t)))
+part-test s x N m bs e false t h = absurd (omega (arith, ap codeOf (part-stray s x N m e t)))
 
-part-file-by : (s : List ℕ) (x : ℕ) → Bytes s → (p : Read Net) → parseFile s ≡ p → asCode (partAnswer s x) ≡ 0 → PartFile s x
-part-file-by s x bs (refused k) e h = absurd (omega (arith, refused-positive s k e, ap asCode (part-refused s x k e)))
+part-file-by : (s : List ℕ) (x : ℕ) → Bytes s → (p : Read Net) → parseFile s ≡ p → codeOf (partAnswer s x) ≡ 0 → PartFile s x
+unfolding codeOf
+part-file-by s x bs (refused k) e h = absurd (omega (arith, refused-positive s k e, ap codeOf (part-refused s x k e)))
 part-file-by s x bs (done N m) e h = part-test s x N m bs e (isGate N x) refl h
 
-pub part-file : (s : List ℕ) (x : ℕ) → Bytes s → asCode (partAnswer s x) ≡ 0 → PartFile s x
+pub part-file : (s : List ℕ) (x : ℕ) → Bytes s → codeOf (partAnswer s x) ≡ 0 → PartFile s x
 part-file s x bs h = part-file-by s x bs (parseFile s) refl h
 
 module _ {s : List ℕ} {x : ℕ} (p : PartFile s x) where

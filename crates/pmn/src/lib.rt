@@ -3,7 +3,8 @@ use integers::wide;
 use network::Network;
 use unchecked::reader;
 ghost use mathlib.Core.Path.{_≡_};
-ghost use Rattle.format.specs.Part.{partAnswer, asPart, asCode};
+ghost use Rattle.integers.specs.Refusals.{codeOf};
+ghost use Rattle.format.specs.Part.{partAnswer, asPart};
 ghost use Rattle.pmn.specs.Answers.{loaded};
 
 // What `read` answers: 0 or the refusal, and the network; the blank record on refusal.
@@ -26,7 +27,7 @@ pub fn read(file: &[u8]) -> Loaded
 
 // The number of the refusal that `gate_part` gives for the same file and signal, or 0.
 pub fn gate_part_code(file: &[u8], signal: usize) -> u8
-    ensures { λ r. ⌜ r ≡ asCode (partAnswer (now (file .entry)) signal) ⌝ }
+    ensures { λ r. ⌜ r ≡ codeOf (partAnswer (now (file .entry)) signal) ⌝ }
 {
     let loaded = read(file);
     let code = loaded.code;

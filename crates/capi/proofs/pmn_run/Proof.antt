@@ -5,10 +5,10 @@ use mathlib.Core.Path.{_≡_, refl, sym, _∙_}
 use mathlib.Core.Bool.{true}
 use mathlib.Core.List.{List}
 use Prim.Native.Nat.{ℕ}
-use Rattle.integers.specs.Refusals.{Answer}
+use Rattle.integers.specs.Refusals.{Answer, codeOf}
 use Rattle.format.specs.LengthLaws.{bytes-of}
-use Rattle.capi.specs.Exports.{codeOf, stored}
-use Rattle.capi.specs.Runs.{wellFormed, Ran, runAnswer, fileOf, numbersOf}
+use Rattle.capi.specs.Exports.{stored}
+use Rattle.capi.specs.Runs.{wellFormed, Ran, runAnswer, ranFile, ranNumbers}
 use Rattle.capi.specs.AnswerLaws.{FileRead, read-code, read-accepted, read-refused}
 use Rattle.capi.specs.RunAnswerLaws.{RunLeft, run-refused, read-holds, run-unformed, enough, run-few, run-long, run-left}
 use Rattle.capi.proofs.pmn_run.Statement.{statement}
@@ -19,7 +19,7 @@ read-requires c κs = search needs
 
 -- what a run leaves, as the contract has it
 left : {x : Answer Ran} {k m : ℕ} {answers numbers out bytes : List ℕ} → m ≡ k → RunLeft x k answers numbers out bytes
-    → (m ≡ codeOf x) × ((numbers ≡ stored (numbersOf x) answers) × (bytes ≡ stored (fileOf x) out))
+    → (m ≡ codeOf x) × ((numbers ≡ stored (ranNumbers x) answers) × (bytes ≡ stored (ranFile x) out))
 left e l = (e ∙ l .code, (l .places, l .file))
 
 returns : tie.Need-returns

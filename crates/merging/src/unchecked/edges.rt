@@ -13,7 +13,7 @@ ghost use lib.Signed.{nonNeg};
 ghost use Rattle.folding.specs.Merge.{onDial};
 ghost use Rattle.alignment.specs.Alignments.{alignmentOf};
 ghost use Rattle.merging.specs.Lent.{edgeIn, Lent, Joined};
-ghost use Rattle.merging.specs.Codes.{codeOf, edgeTestsIn};
+ghost use Rattle.merging.specs.Codes.{firstFailing, edgeTestsIn};
 ghost use Rattle.merging.specs.Fitted.{levelsIn};
 
 // 11 or 12 if u or v is no gate or u doesn't feed v, else 0.
@@ -28,7 +28,7 @@ pub fn edge_code<'a>(
     v: usize,
 ) -> u8
     requires { ⌜ Lent (now fanins) (now thresholds) (now signals) (now weights) inputs gates ⌝ }
-    ensures { λ r. ⌜ r ≡ codeOf (edgeTestsIn (now (fanins .entry)) (now (thresholds .entry)) (now (signals .entry)) (now (weights .entry)) inputs gates u v) ⌝ }
+    ensures { λ r. ⌜ r ≡ firstFailing (edgeTestsIn (now (fanins .entry)) (now (thresholds .entry)) (now (signals .entry)) (now (weights .entry)) inputs gates u v) ⌝ }
 {
     let both = is_gate(inputs, gates, u) & is_gate(inputs, gates, v);
     if !both {

@@ -10,14 +10,14 @@ ghost use mathlib.Core.Path.{_≡_};
 ghost use Rattle.alignment.specs.Alignments.{alignedIn};
 ghost use Rattle.search.specs.Search.{Dial};
 ghost use Rattle.merging.specs.Lent.{edgeIn, Lent, Joined};
-ghost use Rattle.merging.specs.Codes.{codeOf, mergeTests, fitTests};
+ghost use Rattle.merging.specs.Codes.{firstFailing, mergeTests, fitTests};
 ghost use Rattle.merging.specs.Fitted.{Searchable};
 
 // 6 or 15 if the merged gate is off the scale or disagrees, else 0.
 fn fit_code(a: Alignment, k: usize, l: usize) -> u8
     requires { ⌜ Searchable a ⌝ }
     requires { ⌜ Dial k l ⌝ }
-    ensures { λ r. ⌜ r ≡ codeOf (fitTests (alignedIn a) k l) ⌝ }
+    ensures { λ r. ⌜ r ≡ firstFailing (fitTests (alignedIn a) k l) ⌝ }
 {
     let us = a.us;
     let vs = a.vs;
@@ -49,7 +49,7 @@ pub fn merge_code<'a>(
 ) -> u8
     requires { ⌜ Lent (now fanins) (now thresholds) (now signals) (now weights) inputs gates ⌝ }
     requires { ⌜ Joined (now fanins) (now thresholds) (now signals) (now weights) inputs gates u v ⌝ }
-    ensures { λ r. ⌜ r ≡ codeOf (mergeTests (edgeIn (now (fanins .entry)) (now (thresholds .entry)) (now (signals .entry)) (now (weights .entry)) inputs u v) k l) ⌝ }
+    ensures { λ r. ⌜ r ≡ firstFailing (mergeTests (edgeIn (now (fanins .entry)) (now (thresholds .entry)) (now (signals .entry)) (now (weights .entry)) inputs u v) k l) ⌝ }
 {
     let a = aligned_at(fanins, thresholds, signals, weights, inputs, gates, u, v);
     let b = a.b;

@@ -2,10 +2,10 @@
 use borrow.Author.Needs.{needs}
 use native.Mathlib.Omega.{arith}
 use mathlib.Core.Path.{sym, ap}
+use Rattle.integers.specs.Refusals.{codeOf}
 use Rattle.integers.specs.Tests.{is-true}
 use Rattle.network.specs.Limits.{isGate}
 use Rattle.network.specs.LimitLaws.{of-has}
-use Rattle.format.specs.Part.{asCode}
 use Rattle.format.specs.PartLaws.{part-refused, part-stray, part-found}
 use Rattle.format.specs.LengthLaws.{bytes-of}
 use Rattle.pmn.proofs.PartFiles.{Opened, opened, closed, not-gate}
@@ -20,28 +20,32 @@ open-file : (c : tie.Else1) → Opened (c .before .before .before .args .file .n
 open-file c = opened (c .before .before .before .args .file .now) (c .before .read .ensures) (c .if1 .left)
 
 returns : tie.Need-returns
+unfolding codeOf
 returns c =
     let a = c .before .before .before .args in
-    sym (ap asCode (part-refused (a .file .now) (a .signal) _ (closed (a .file .now) (c .before .read .ensures) (c .if1 .taken))))
+    sym (ap codeOf (part-refused (a .file .now) (a .signal) _ (closed (a .file .now) (c .before .read .ensures) (c .if1 .taken))))
 
 returns-2 : tie.Need-returns-2
+unfolding codeOf
 returns-2 c =
     let a = c .before .before .before .before .args in
     let o = open-file (c .before) in
-    sym (ap asCode (part-stray (a .file .now) (a .signal) (o .net) (o .rest) (o .reads) (not-gate (o .net) (a .signal) (λ h. omega (arith, o .inputs)))))
+    sym (ap codeOf (part-stray (a .file .now) (a .signal) (o .net) (o .rest) (o .reads) (not-gate (o .net) (a .signal) (λ h. omega (arith, o .inputs)))))
 
 returns-3 : tie.Need-returns-3
+unfolding codeOf
 returns-3 c =
     let a = c .before .before .before .before .before .args in
     let o = open-file (c .before .before) in
-    sym (ap asCode (part-stray (a .file .now) (a .signal) (o .net) (o .rest) (o .reads) (not-gate (o .net) (a .signal) (λ h. omega (arith, o .inputs, o .gates)))))
+    sym (ap codeOf (part-stray (a .file .now) (a .signal) (o .net) (o .rest) (o .reads) (not-gate (o .net) (a .signal) (λ h. omega (arith, o .inputs, o .gates)))))
 
 returns-4 : tie.Need-returns-4
+unfolding codeOf
 returns-4 c =
     let a = c .before .before .before .before .before .args in
     let o = open-file (c .before .before) in
     let bytes = bytes-of (a .file .now) (λ i. c .before .before .before .before .shared-slice-known .given i .fits) in
-    sym (ap asCode (part-found (a .file .now) (a .signal) (o .net) (o .rest) bytes (o .reads) (is-true (isGate (o .net) (a .signal)) (of-has (o .net) (a .signal) (omega (arith, o .inputs), omega (arith, o .inputs, o .gates))))))
+    sym (ap codeOf (part-found (a .file .now) (a .signal) (o .net) (o .rest) bytes (o .reads) (is-true (isGate (o .net) (a .signal)) (of-has (o .net) (a .signal) (omega (arith, o .inputs), omega (arith, o .inputs, o .gates))))))
 
 pub gate-part-code-spec : {M : Type 1} → statement M
 gate-part-code-spec = tie.close (tie.spec read-requires returns returns-2 returns-3 returns-4)

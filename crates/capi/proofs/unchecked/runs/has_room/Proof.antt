@@ -13,8 +13,9 @@ use Rattle.network.specs.declared.Network.{Network}
 use Rattle.format.specs.Format.{fileBytes}
 use Rattle.folding.specs.Calls.{calls}
 use Rattle.capi.specs.Runs.{callsIn}
-use Rattle.capi.specs.Running.{Holds}
-use Rattle.capi.specs.RunLaws.{holds-layout, after-sound, longest}
+use Rattle.network.specs.Places.{Holds}
+use Rattle.capi.specs.RunLaws.{after-sound, longest}
+use Rattle.network.specs.RecordLaws.{holds-layout}
 use Rattle.capi.proofs.unchecked.runs.has_room.Statement.{statement}
 use Rattle.capi.proofs.unchecked.runs.has_room.Tie as tie
 

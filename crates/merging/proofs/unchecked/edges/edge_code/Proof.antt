@@ -9,7 +9,7 @@ use Rattle.network.specs.RecordTests.{gateSignal}
 use Rattle.merging.specs.Lent.{Within}
 use Rattle.merging.specs.LentLaws.{lent-counted}
 use Rattle.merging.specs.EdgeLaws.{within-of, signal-place}
-use Rattle.merging.specs.Codes.{codeOf, edgeTestsIn}
+use Rattle.merging.specs.Codes.{firstFailing, edgeTestsIn}
 use borrow.Author.Needs.{needs}
 use Rattle.merging.proofs.unchecked.edges.edge_code.Statement.{statement}
 use Rattle.merging.proofs.unchecked.edges.edge_code.Tie as tie
@@ -32,7 +32,7 @@ reader : (c : tie.Else1) → let a = c .before .before .before .args in Within (
 reader c = let a = c .before .before .before .args in within-of (a .inputs) (a .gates) (a .v) (T-and (gateSignal (a .inputs) (a .gates) (a .u)) _ (T-is _ (both c)) .1)
 
 returns : tie.Need-returns
-unfolding codeOf edgeTestsIn
+unfolding firstFailing edgeTestsIn
 returns c = rw (sym (tested (c .before)) ∙ not-true _ (c .if1 .taken))
 
 sub-reads-gate : tie.Need-sub-reads-gate
@@ -44,13 +44,13 @@ reads-gate-requires c κs =
     (signal-place (s .pre) (s .args .v) (reader c), lent-counted (s .pre) .few-feeds _ (reader c .high))
 
 returns-2 : tie.Need-returns-2
-unfolding codeOf edgeTestsIn
+unfolding firstFailing edgeTestsIn
 returns-2 c =
     let a = c .before .before .before .before .before .args in
     rw (both (c .before .before), sym (c .before .reads-gate .ensures (now (a .thresholds)) (now (a .weights))) ∙ not-true _ (c .if2 .taken))
 
 returns-3 : tie.Need-returns-3
-unfolding codeOf edgeTestsIn
+unfolding firstFailing edgeTestsIn
 returns-3 c =
     let a = c .before .before .before .before .before .args in
     rw (both (c .before .before), sym (c .before .reads-gate .ensures (now (a .thresholds)) (now (a .weights))) ∙ not-false _ (c .if2 .left))

@@ -6,7 +6,7 @@ use Rattle.folding.specs.Aligned.{agreesAll, scaleFits}
 use Rattle.alignment.specs.Alignments.{alignedIn}
 use Rattle.search.specs.declared.Levels.{Levels}
 use Rattle.search.specs.Search.{alignedBy, Fair}
-use Rattle.merging.specs.Codes.{codeOf, fitTests}
+use Rattle.merging.specs.Codes.{firstFailing, fitTests}
 use Rattle.merging.specs.Fitted.{levelsIn}
 use borrow.Author.Needs.{needs}
 use Rattle.merging.proofs.unchecked.merges.fit_code.Statement.{statement}
@@ -40,7 +40,7 @@ on : (c : tie.Else1) → let a = c .before .before .before .before .before .befo
 on c = sym (fitted (c .before)) ∙ not-false _ (c .if1 .left)
 
 returns : tie.Need-returns
-unfolding codeOf fitTests
+unfolding firstFailing fitTests
 returns c = rw (off c)
 
 agrees-everywhere-requires : tie.Need-agrees-everywhere-requires
@@ -62,11 +62,11 @@ alike : (c : tie.Else2) → let a = c .before .before .before .before .before .b
 alike c = sym (agreed (c .before)) ∙ not-false _ (c .if2 .left)
 
 returns-2 : tie.Need-returns-2
-unfolding codeOf fitTests
+unfolding firstFailing fitTests
 returns-2 c = rw (on (c .before .before .before .before), differs c)
 
 returns-3 : tie.Need-returns-3
-unfolding codeOf fitTests
+unfolding firstFailing fitTests
 returns-3 c = rw (on (c .before .before .before .before), alike c)
 
 pub fit-code-spec : {M : Type 1} → statement M

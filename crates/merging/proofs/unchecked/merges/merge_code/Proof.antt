@@ -12,7 +12,7 @@ use Rattle.folding.specs.Merge.{Edge, distinct, onDial, withGrain}
 use Rattle.folding.specs.PairLaws.{dial-of}
 use Rattle.alignment.specs.Alignments.{alignedIn}
 use Rattle.alignment.specs.declared.Alignment.{Alignment}
-use Rattle.merging.specs.Codes.{codeOf, mergeTests, fitTests}
+use Rattle.merging.specs.Codes.{firstFailing, mergeTests, fitTests}
 use Rattle.merging.specs.Lent.{edgeIn}
 use Rattle.merging.specs.EdgeLaws.{joined-ok}
 use Rattle.merging.specs.Fitted.{Searchable}
@@ -42,7 +42,7 @@ along : (c : tie.Else1) → withGrain (edge (c .before .before .before .before))
 along c = sym (grain (c .before)) ∙ not-false _ (c .if1 .left)
 
 returns : tie.Need-returns
-unfolding codeOf mergeTests
+unfolding firstFailing mergeTests
 returns c = rw (sym (grain (c .before)) ∙ not-true _ (c .if1 .taken))
 
 on-dial-requires : tie.Need-on-dial-requires
@@ -59,11 +59,11 @@ within : (c : tie.Else2) → let a = c .before .before .before .before .before .
 within c = sym (dial (c .before)) ∙ not-false _ (c .if2 .left)
 
 returns-2 : tie.Need-returns-2
-unfolding codeOf mergeTests
+unfolding firstFailing mergeTests
 returns-2 c = rw (along (c .before .before .before), sym (dial (c .before)) ∙ not-true _ (c .if2 .taken))
 
 returns-3 : tie.Need-returns-3
-unfolding codeOf mergeTests
+unfolding firstFailing mergeTests
 returns-3 c =
     let p = c .before .before .before .before .before .before .before in
     rw (along (c .before .before .before .before), within (c .before), wide-is _ (p .aligned-at .ensures) (c .if3 .taken))
@@ -82,14 +82,14 @@ fit-code-requires c κs =
     )
 
 returns-4 : tie.Need-returns-4
-unfolding codeOf mergeTests
+unfolding firstFailing mergeTests
 returns-4 c =
     let e = c .before in
     let p = e .before .before .before .before .before .before .before in
     let s = p .before in
     c .fit-code .ensures
-    ∙ ap (λ (a : Alignment). codeOf (fitTests (alignedIn a) (s .args .k) (s .args .l))) (p .aligned-at .ensures)
-    ∙ ap codeOf (fit-is (edge s) (joined-ok (s .pre .0) (s .pre .1)) (few e) (s .args .k) (s .args .l))
+    ∙ ap (λ (a : Alignment). firstFailing (fitTests (alignedIn a) (s .args .k) (s .args .l))) (p .aligned-at .ensures)
+    ∙ ap firstFailing (fit-is (edge s) (joined-ok (s .pre .0) (s .pre .1)) (few e) (s .args .k) (s .args .l))
     ∙ rw (along (e .before .before .before .before), within (e .before), narrow-is (edge s) (few e))
 
 pub merge-code-spec : {M : Type 1} → statement M
