@@ -16,7 +16,8 @@ use Rattle.folding.specs.Merge.{Edge, weightOf, distinct, mergedFeed, stays, me
 use Rattle.folding.specs.Aligned.{Aligned, aligned, level, mix, scaleFits}
 use Rattle.folding.specs.AlignedLaws.{us-length, vs-length}
 use Rattle.alignment.specs.Alignments.{places, alignmentOf, alignedIn, mixFeed, mergedOf, Mergeable}
-use Rattle.alignment.specs.PlaceLaws.{getD-places, take-places, map-at}
+use Rattle.integers.specs.TableLaws.{getD-map}
+use Rattle.alignment.specs.PlaceLaws.{getD-places, take-places}
 
 -- the record of an edge with at most 16 distinct feeds stands for its two gates
 pub aligned-in : (e : Edge) → length (distinct e) ≤ 16 → alignedIn (alignmentOf e) ≡ aligned e
@@ -32,10 +33,10 @@ unfolding mixFeed mergedFeed mix aligned alignmentOf
 mix-feed e k l h i n =
     let s = getD-places 0 (distinct e) i (omega arith) in
     let m = ap (λ (a : Aligned). mix a k l i) (aligned-in e h) in
-    let f = map-at (λ x. weightOf x (e .gateU .feeds)) (distinct e) (pos 0) 0 i n in
-    let g = map-at (λ x. weightOf x (e .gateV .feeds)) (distinct e) (pos 0) 0 i n in
+    let f = getD-map (λ x. weightOf x (e .gateU .feeds)) (distinct e) i 0 (pos 0) n in
+    let g = getD-map (λ x. weightOf x (e .gateV .feeds)) (distinct e) i 0 (pos 0) n in
     let w = m ∙ ap₂ (λ (x y : ℤ). pos k *ℤ x +ℤ pos l *ℤ y) f g in
-    (λ j. record { signal = s j; weight = w j }) ∙ sym (map-at (mergedFeed e k l) (distinct e) noFeed 0 i n)
+    (λ j. record { signal = s j; weight = w j }) ∙ sym (getD-map (mergedFeed e k l) (distinct e) i 0 noFeed n)
 
 -- its merged gate is the edge's
 pub merged-is : (e : Edge) (k l : ℕ) → length (distinct e) ≤ 16 → mergedOf (alignmentOf e) k l ≡ merged e k l

@@ -81,11 +81,6 @@ pub map-last : {A B : Type 0} (f : A → B) (xs : List A) (x : A) → map f (xs 
 map-last f [] x = refl
 map-last f (y ∷ ys) x = ap (λ l. f y ∷ l) (map-last f ys x)
 
-pub map-at : {A B : Type 0} (f : A → B) (xs : List A) (d : B) (a : A) (i : ℕ) → i < length xs → getD (map f xs) i d ≡ f (getD xs i a)
-map-at f [] d a i h = absurd (omega arith)
-map-at f (x ∷ xs) d a zero h = refl
-map-at f (x ∷ xs) d a (suc i) h = map-at f xs d a i (omega arith)
-
 -- the 16 places of one property of each member, with a member more: stored, or with no room
 module _ {A B : Type 0} (d : B) (f : A → B) (xs : List A) (x : A) (n : ℕ) (t : List B) (same : t ≡ places d (map f xs)) (counted : n ≡ length xs) where
   long : n ≡ length (map f xs)

@@ -13,7 +13,8 @@ use Rattle.network.specs.Record.{nthGate}
 use Rattle.constraints.specs.Question.{upper, lower, secondVariable, overGate, gateLines, someLine, notBothLine, outputLines, lastLine, firstDifference, question}
 use Rattle.constraints.specs.Text.{noLine}
 use Rattle.constraints.specs.Stretches.{secondOf, firstLines, secondLines, pairLines, lastOf}
-use Rattle.constraints.specs.ListMore.{getD-behind, getD-map}
+use Rattle.integers.specs.TableLaws.{getD-map}
+use Rattle.constraints.specs.ListMore.{getD-behind}
 
 -- ---- the variables of the second network
 pub second-input : (i g s : ℕ) → s < i → secondVariable i g s ≡ s

@@ -22,11 +22,6 @@ module _ {A : Type 0} where
 
 -- ---- a list of values
 module _ {A B : Type 0} where
-  pub getD-map : (f : A → B) (xs : List A) (i : ℕ) (a : A) (b : B) → i < length xs → getD (map f xs) i b ≡ f (getD xs i a)
-  getD-map f [] i a b h = absurd (omega arith)
-  getD-map f (x ∷ xs) zero a b h = refl
-  getD-map f (x ∷ xs) (suc i) a b h = getD-map f xs i a b (omega arith)
-
   pub each-map : (P : B → Type 0) (f : A → B) (xs : List A) → Each (λ x. P (f x)) xs → Each P (map f xs)
   each-map P f [] h = tt
   each-map P f (x ∷ xs) h = (h .0, each-map P f xs (h .1))

@@ -20,6 +20,12 @@ map-shift f a b (suc n) = ap (λ (l : List _). f (a + b) ∷ l) (ap (λ (k : ℕ
 pub range-tab : {A : Type 0} (f : ℕ → A) (a n : ℕ) → map f (range a n) ≡ tab n (λ i. f (a + i))
 range-tab f a n = ap (λ (k : ℕ). map f (range k n)) (let e : a ≡ a + 0 = omega arith in e) ∙ map-shift f a 0 n
 
+-- f of each member, at a place within the list
+pub getD-map : {A B : Type 0} (f : A → B) (xs : List A) (i : ℕ) (a : A) (b : B) → i < length xs → getD (map f xs) i b ≡ f (getD xs i a)
+getD-map f [] i a b h = absurd (omega arith)
+getD-map f (x ∷ xs) zero a b h = refl
+getD-map f (x ∷ xs) (suc i) a b h = getD-map f xs i a b (omega arith)
+
 -- f of each value of a table
 pub map-tab : {A B : Type 0} (f : A → B) (n : ℕ) (g : ℕ → A) → map f (tab n g) ≡ tab n (λ i. f (g i))
 map-tab f n g = map-map f g (range 0 n)
