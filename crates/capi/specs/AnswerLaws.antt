@@ -9,7 +9,7 @@ use borrow.Author.Tests.{le-leb, lt-leb}
 use lib.Dec.{leb}
 use lib.ListN.{length, drop}
 use lib.Seq.{sets, sets-eq}
-use Rattle.integers.specs.Refusals.{Answer, accepted, refused, Test, _else_, checks, bind, codeOf}
+use Rattle.integers.specs.Refusals.{Answer, accepted, refused, Test, _else_, checks, bind, codeOf, stored}
 use Rattle.integers.specs.RefusalLaws.{checks-first, checks-next}
 use Rattle.integers.specs.Tests.{is-true}
 use Rattle.network.specs.Threshold.{Net}
@@ -21,7 +21,7 @@ use Rattle.format.specs.Format.{Read, done, Bytes, parseFile}
 use Rattle.pmn.specs.Answers.{asLoaded, loaded}
 use Rattle.pmn.specs.OpenLaws.{Opened, opened, loaded-net, opened-sound}
 use Rattle.pmn.specs.declared.Loaded.{Loaded}
-use Rattle.capi.specs.Exports.{asAnswer, readNet, stored, room, lengthOf}
+use Rattle.capi.specs.Exports.{asAnswer, readNet, room, lengthOf}
 use Rattle.capi.specs.Places.{answerOf}
 
 -- ---- answers

@@ -8,7 +8,7 @@ use native.Mathlib.Omega.{arith}
 use borrow.Author.Tests.{le-leb, lt-leb}
 use lib.Dec.{leb}
 use lib.ListN.{length, drop}
-use Rattle.integers.specs.Refusals.{Answer, accepted, refused, Test, _else_, checks, bind, codeOf}
+use Rattle.integers.specs.Refusals.{Answer, accepted, refused, Test, _else_, checks, bind, codeOf, stored}
 use Rattle.integers.specs.RefusalLaws.{checks-first, checks-next, checks-none}
 use Rattle.integers.specs.Tests.{is-true, is-false, cond-case}
 use Rattle.network.specs.Threshold.{Net, frame, fitsFrame, outputBits, wordOf, onesOf}
@@ -24,7 +24,7 @@ use Rattle.format.specs.Format.{Read, Bytes, fileBytes}
 use Rattle.format.specs.Part.{partIn, partOfRead, partAnswer, asPart}
 use Rattle.format.specs.PartLaws.{part-stray, part-found}
 use Rattle.format.specs.LengthLaws.{gateBytes-length}
-use Rattle.pmn_writer.specs.Answers.{writeAnswer, asWritten, written, bytesOf, bytesAfter}
+use Rattle.pmn_writer.specs.Answers.{writeAnswer, asWritten, written, bytesAfter}
 use Rattle.pmn.specs.OpenLaws.{Opened}
 use Rattle.pmn_writer.specs.declared.Written.{Written}
 use Rattle.folding.specs.Merge.{edge, reads, silent}
@@ -34,7 +34,7 @@ use Rattle.collapse.specs.FuseLaws.{Numbered, readerPair-numbered, pair-reader}
 use Rattle.merging.specs.declared.PairFound.{PairFound}
 use Rattle.report.specs.Size.{cost, levels, reportOf, reported}
 use Rattle.report.specs.declared.SizeReport.{SizeReport}
-use Rattle.capi.specs.Exports.{stored, room, framePlaces, pairPlaces, reportPlaces, lengthOf, fileOut, partOut}
+use Rattle.capi.specs.Exports.{room, framePlaces, pairPlaces, reportPlaces, lengthOf, fileOut, partOut}
 use Rattle.capi.specs.Places.{answerOf}
 use Rattle.capi.specs.AnswerLaws.{left-two, FileRead, read-room}
 
@@ -155,26 +155,26 @@ pub wrote-whole : {a : Answer (List ℕ)} {p : List ℕ} (out lent : List ℕ) �
 unfolding codeOf stored lengthOf answerOf
 wrote-whole out lent e = let l = left-two e lent out in record { number = l .0; bytes = l .1 .0; places = l .1 .1 }
 
-write-test : (b : Bool) (file out lent : List ℕ) → let n = checks ((b else 18) ∷ []) (accepted (length file)) in
-    Wrote (checks ((b else 18) ∷ []) (accepted file)) (asWritten n .code) (asWritten n .length) out (bytesOf n file out) lent
-unfolding checks asWritten bytesOf codeOf stored answerOf lengthOf
+write-test : (b : Bool) (file out lent : List ℕ) → let a = checks ((b else 18) ∷ []) (accepted file) in
+    Wrote a (asWritten a .code) (asWritten a .length) out (stored a out) lent
+unfolding checks asWritten codeOf stored answerOf lengthOf
 write-test true file out lent = record { number = refl; bytes = refl; places = refl }
 write-test false file out lent = record { number = refl; bytes = refl; places = refl }
 
-write-layout : (N : Net) (n : ℕ) → Sound N → writeAnswer (layout N) n ≡ checks ((leb (length (fileBytes N)) n else 18) ∷ []) (accepted (length (fileBytes N)))
+write-layout : (N : Net) (n : ℕ) → Sound N → writeAnswer (layout N) n ≡ checks ((leb (length (fileBytes N)) n else 18) ∷ []) (accepted (fileBytes N))
 unfolding writeAnswer
 write-layout N n s =
     sound-first N s _ _
-    ∙ ap (λ (M : Net). checks ((leb (length (fileBytes M)) n else 18) ∷ []) (accepted (length (fileBytes M)))) (netOf-layout N s)
+    ∙ ap (λ (M : Net). checks ((leb (length (fileBytes M)) n else 18) ∷ []) (accepted (fileBytes M))) (netOf-layout N s)
 
 -- where the file has room
 pub write-fits : (N : Net) → Sound N → (out : List ℕ) → leb (length (fileBytes N)) (length out) ≡ true
     → (written (layout N) (length out) ≡ record { code = 0; length = length (fileBytes N) }) × (bytesAfter (layout N) out ≡ fileBytes N ++ drop (length (fileBytes N)) out)
-unfolding written asWritten bytesAfter bytesOf
+unfolding written asWritten bytesAfter stored
 write-fits N s out t =
     let n = length (fileBytes N) in
-    let e = write-layout N (length out) s ∙ checks-next (leb n (length out)) 18 [] (accepted n) t ∙ checks-none (accepted n) in
-    (ap asWritten e, (λ x. bytesOf (e x) (fileBytes (netOf-layout N s x)) out))
+    let e = write-layout N (length out) s ∙ checks-next (leb n (length out)) 18 [] (accepted (fileBytes N)) t ∙ checks-none (accepted (fileBytes N)) in
+    (ap asWritten e, ap (λ (a : Answer (List ℕ)). stored a out) e)
 
 pub write-answer : {file : List ℕ} {r : Network} (a : FileRead file r) (out lent : List ℕ) → 1 ≤ length lent → {w : Written} → w ≡ written r (length out)
     → {after : List ℕ} → after ≡ bytesAfter r out → Wrote (fileOut file out lent) (w .code) (w .length) out after lent
@@ -182,13 +182,10 @@ unfolding fileOut room written bytesAfter
 write-answer a out lent h {w} e {after} d =
     let N = a .read .net in
     let fits = leb (length (fileBytes N)) (length out) in
-    let n = checks ((fits else 18) ∷ []) (accepted (length (fileBytes N))) in
-    let same : writeAnswer (layout N) (length out) ≡ n = write-layout N (length out) (a .sound) in
-    let left : w ≡ asWritten n = e ∙ ap (λ (r : Network). written r (length out)) (a .laid) ∙ ap asWritten same in
-    let put : after ≡ bytesOf n (fileBytes N) out =
-    d ∙ ap (λ (r : Network). bytesAfter r out) (a .laid)
-    ∙ ap (λ (k : Answer ℕ). bytesOf k (fileBytes (netOf (layout N))) out) same
-    ∙ ap (λ (M : Net). bytesOf n (fileBytes M) out) (netOf-layout N (a .sound)) in
+    let x = checks ((fits else 18) ∷ []) (accepted (fileBytes N)) in
+    let same : writeAnswer (layout N) (length out) ≡ x = write-layout N (length out) (a .sound) in
+    let left : w ≡ asWritten x = e ∙ ap (λ (r : Network). written r (length out)) (a .laid) ∙ ap asWritten same in
+    let put : after ≡ stored x out = d ∙ ap (λ (r : Network). bytesAfter r out) (a .laid) ∙ ap (λ (k : Answer (List ℕ)). stored k out) same in
     wrote-same (read-room _ (a .read) 1 lent _ _ h) (ap (λ (x : Written). x .code) left) (ap (λ (x : Written). x .length) left) put (write-test fits (fileBytes N) out lent)
 
 -- ---- the bytes of a gate

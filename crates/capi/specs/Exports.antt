@@ -1,10 +1,10 @@
 -- What the functions for C answer: a number, 0 or a refusal, and what they leave in the lent numbers and bytes. Each begins with the
 -- read of its file. A refusal leaves everything as it was; places and bytes beyond those named are untouched. Nothing is proved here.
 use mathlib.Core.Bool.{Bool}
-use mathlib.Core.List.{List, [], _∷_, _++_}
+use mathlib.Core.List.{List, [], _∷_}
 use Prim.Native.Nat.{ℕ}
 use lib.Dec.{leb}
-use lib.ListN.{length, drop}
+use lib.ListN.{length}
 use Rattle.integers.specs.Refusals.{Answer, accepted, refused, _else_, checks, bind}
 use Rattle.network.specs.Threshold.{Net, frame, fitsFrame, outputBits, wordOf, onesOf}
 use Rattle.network.specs.Limits.{isGate}
@@ -27,11 +27,6 @@ unfoldable pub readNet : List ℕ → Answer Net
 readNet file = asAnswer (parseFile file)
 
 -- ---- what a function leaves
-
--- a list at the front of what was lent, or what was lent as it was
-unfoldable pub stored : Answer (List ℕ) → List ℕ → List ℕ
-stored (accepted xs) lent = xs ++ drop (length xs) lent
-stored (refused k) lent = lent
 
 -- n places are lent
 unfoldable pub room : ℕ → List ℕ → Bool

@@ -6,7 +6,7 @@ use Prim.Native.Nat.{ℕ, zero, suc, _<_, _≤_}
 use native.Mathlib.Omega.{arith}
 use lib.Dec.{leb}
 use lib.ListN.{length}
-use Rattle.integers.specs.Refusals.{Answer, accepted, refused, Test, _else_, checks, codeOf}
+use Rattle.integers.specs.Refusals.{Answer, accepted, refused, Test, _else_, checks, codeOf, stored}
 use Rattle.integers.specs.RefusalLaws.{checks-next}
 use Rattle.integers.specs.Tests.{is-true, both-true}
 use Rattle.network.specs.Threshold.{Net}
@@ -19,9 +19,9 @@ use Rattle.folding.specs.RefusalMore.{NoneSays}
 use Rattle.constraints.specs.Question.{question}
 use Rattle.constraints.specs.Text.{questionText}
 use Rattle.collapse.specs.FuseLaws.{Numbered}
-use Rattle.question.specs.Answers.{alike, lineAnswer, asLineWritten, asBytes}
+use Rattle.question.specs.Answers.{alike, lineAnswer, asLineWritten}
 use Rattle.question.specs.declared.LineWritten.{LineWritten}
-use Rattle.capi.specs.Exports.{readNet, stored, room, lengthOf, lineOut}
+use Rattle.capi.specs.Exports.{readNet, room, lengthOf, lineOut}
 use Rattle.capi.specs.Places.{answerOf}
 use Rattle.capi.specs.AnswerLaws.{FileRead, read-refused, read-on, read-short, read-room}
 use Rattle.capi.specs.ExportLaws.{Wrote, wrote-same}
@@ -58,14 +58,14 @@ tests-numbered [] a h = tt
 tests-numbered ((true else d) ∷ ts) a h = tests-numbered ts a (h .1)
 tests-numbered ((false else d) ∷ ts) a h = h .0
 
-line-gives : (x : Answer (List ℕ)) → Numbered x → (out lent : List ℕ) → Wrote x (asLineWritten x .code) (asLineWritten x .length) out (asBytes x out) lent
-unfolding asLineWritten asBytes codeOf stored answerOf lengthOf
+line-gives : (x : Answer (List ℕ)) → Numbered x → (out lent : List ℕ) → Wrote x (asLineWritten x .code) (asLineWritten x .length) out (stored x out) lent
+unfolding asLineWritten codeOf stored answerOf lengthOf
 line-gives (accepted text) h out lent = record { number = refl; bytes = refl; places = refl }
 line-gives (refused zero) h out lent = absurd (h refl)
 line-gives (refused (suc c)) h out lent = record { number = refl; bytes = refl; places = refl }
 
 pub line-answer : {first second : List ℕ} {r q : Network} (a : FileRead first r) (b : FileRead second q) (n : ℕ) (out lent : List ℕ) → 1 ≤ length lent
-    → {w : LineWritten} → w ≡ asLineWritten (lineAnswer r q n (length out)) → {after : List ℕ} → after ≡ asBytes (lineAnswer r q n (length out)) out
+    → {w : LineWritten} → w ≡ asLineWritten (lineAnswer r q n (length out)) → {after : List ℕ} → after ≡ stored (lineAnswer r q n (length out)) out
     → Wrote (lineOut first second n out lent) (w .code) (w .length) out after lent
 unfolding lineOut room
 line-answer {first} {second} a b n out lent h e d =
@@ -76,4 +76,4 @@ line-answer {first} {second} a b n out lent h e d =
     let left = e ∙ ap asLineWritten same in
     let numbered = tests-numbered (lineTests N M n (length out)) (questionText N M n) (omega arith, (omega arith, (omega arith, tt))) in
     wrote-same (read-on first (a .read) _ ∙ read-room second (b .read) 1 lent _ _ h) (ap (λ (z : LineWritten). z .code) left) (ap (λ (z : LineWritten). z .length) left)
-    (d ∙ ap (λ (z : Answer (List ℕ)). asBytes z out) same) (line-gives x numbered out lent)
+    (d ∙ ap (λ (z : Answer (List ℕ)). stored z out) same) (line-gives x numbered out lent)

@@ -8,7 +8,7 @@ use borrow.Author.Tests.{le-leb, lt-leb}
 use lib.Dec.{leb}
 use lib.ListN.{length, drop}
 use lib.Seq.{paste, take-length}
-use Rattle.integers.specs.Refusals.{Answer, accepted, refused, Test, _else_, checks, codeOf}
+use Rattle.integers.specs.Refusals.{Answer, accepted, refused, Test, _else_, checks, codeOf, stored}
 use Rattle.integers.specs.RefusalLaws.{checks-first, checks-next, checks-none}
 use Rattle.integers.specs.Tests.{both-true, and-false-left, and-false-right}
 use Rattle.network.specs.Threshold.{Net}
@@ -20,7 +20,7 @@ use Rattle.pmn_writer.specs.Answers.{written, bytesAfter}
 use Rattle.pmn_writer.specs.declared.Written.{Written}
 use Rattle.folding.specs.Calls.{calls}
 use Rattle.folding.specs.declared.Call.{Call}
-use Rattle.capi.specs.Exports.{stored, room}
+use Rattle.capi.specs.Exports.{room}
 use Rattle.capi.specs.Places.{answerOf}
 use Rattle.capi.specs.AnswerLaws.{FileRead, read-on}
 use Rattle.capi.specs.ExportLaws.{write-fits}

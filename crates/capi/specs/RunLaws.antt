@@ -174,4 +174,4 @@ pub length-written : (r : Network) → Holds r → (room : ℕ) → 10904 ≤ ro
 unfolding written asWritten
 length-written r h room l e =
     let fits : length (fileBytes (netOf r)) ≤ room = omega (arith, longest (netOf r) (h .sound)) in
-    ap (λ (x : Written). x .length) e ∙ ap (λ (a : Answer ℕ). asWritten a .length) (write-whole r room (holds-sound r h) fits)
+    ap (λ (x : Written). x .length) e ∙ ap (λ (a : Answer (List ℕ)). asWritten a .length) (write-whole r room (holds-sound r h) fits)

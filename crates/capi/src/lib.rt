@@ -1,8 +1,8 @@
 // The folder for C and Rust: each function takes a PMN file and numbers, and answers 0 or the refusal. include/pmn.h has the
 // declarations; a slice is a pointer and then a length.
 ghost use mathlib.Core.Path.{_≡_};
-ghost use Rattle.integers.specs.Refusals.{codeOf};
-ghost use Rattle.capi.specs.Exports.{readNet, stored, lengthOf, framePlaces, pairPlaces, reportPlaces, fileOut, partOut, lineOut};
+ghost use Rattle.integers.specs.Refusals.{codeOf, stored};
+ghost use Rattle.capi.specs.Exports.{readNet, lengthOf, framePlaces, pairPlaces, reportPlaces, fileOut, partOut, lineOut};
 ghost use Rattle.capi.specs.Runs.{runAnswer, ranFile, ranNumbers};
 
 // The network of a file is read, and nothing more.

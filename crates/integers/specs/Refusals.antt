@@ -1,8 +1,9 @@
--- Answers and refusals. A call's order is a list of tests, each with its number; the first that fails is the answer. Nothing is
--- proved here.
+-- Answers and refusals. A call's order is a list of tests, each with its number; the first that fails is the answer. "A refusal .. touches
+-- no lent byte." Nothing is proved here.
 use mathlib.Core.Bool.{Bool, cond}
-use mathlib.Core.List.{List, [], _∷_}
+use mathlib.Core.List.{List, [], _∷_, _++_}
 use Prim.Native.Nat.{ℕ}
+use lib.ListN.{length, drop}
 
 -- "accepted", with what the call gives, or the number of a refusal
 pub data Answer (A : Type 0) : Type 0 where
@@ -13,6 +14,11 @@ pub data Answer (A : Type 0) : Type 0 where
 unfoldable pub codeOf : {A : Type 0} → Answer A → ℕ
 codeOf (accepted a) = 0
 codeOf (refused k) = k
+
+-- what a call leaves in lent places: a list at the front and what stood after it, or what stood there
+unfoldable pub stored : Answer (List ℕ) → List ℕ → List ℕ
+stored (accepted xs) lent = xs ++ drop (length xs) lent
+stored (refused k) lent = lent
 
 -- a test, and the number of the refusal where it fails
 infix 20 _else_

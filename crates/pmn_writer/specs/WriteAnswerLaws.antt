@@ -7,7 +7,7 @@ use native.Mathlib.Omega.{arith}
 use borrow.Author.Tests.{le-leb, lt-leb}
 use lib.Dec.{leb}
 use lib.ListN.{length, drop, getD}
-use Rattle.integers.specs.Refusals.{Answer, accepted, refused}
+use Rattle.integers.specs.Refusals.{Answer, accepted, refused, stored}
 use Rattle.integers.specs.RefusalLaws.{checks-first, checks-next, checks-none}
 use Rattle.integers.specs.Tests.{T-is}
 use Rattle.network.specs.declared.Network.{Network}
@@ -17,7 +17,7 @@ use Rattle.network.specs.LimitLaws.{gates-at}
 use Rattle.network.specs.PlaceLaws.{length-feeds}
 use Rattle.network.specs.RecordLaws.{count-gates, count-outputs, gate-within, sound-net}
 use Rattle.format.specs.Format.{fileBytes}
-use Rattle.pmn_writer.specs.Answers.{writeAnswer, asWritten, written, bytesOf, bytesAfter}
+use Rattle.pmn_writer.specs.Answers.{writeAnswer, asWritten, written, bytesAfter}
 use Rattle.pmn_writer.specs.Writing.{Counted}
 
 -- the counts of a record are within the limits
@@ -53,8 +53,8 @@ unfolding writeAnswer
 write-short r room h k =
     checks-next (soundRecord r) 20 _ _ h ∙ checks-first (leb (length (fileBytes (netOf r))) room) 18 _ _ (lt-leb (length (fileBytes (netOf r))) room k)
 
--- the file's length
-pub write-whole : (r : Network) (room : ℕ) → soundRecord r ≡ true → length (fileBytes (netOf r)) ≤ room → writeAnswer r room ≡ accepted (length (fileBytes (netOf r)))
+-- the file
+pub write-whole : (r : Network) (room : ℕ) → soundRecord r ≡ true → length (fileBytes (netOf r)) ≤ room → writeAnswer r room ≡ accepted (fileBytes (netOf r))
 unfolding writeAnswer
 write-whole r room h k =
     checks-next (soundRecord r) 20 _ _ h ∙ checks-next (leb (length (fileBytes (netOf r))) room) 18 _ _ (le-leb (length (fileBytes (netOf r))) room k) ∙ checks-none _
@@ -62,11 +62,14 @@ write-whole r room h k =
 -- a refusal's number, and the bytes untouched
 pub written-refused : (r : Network) (k : ℕ) (out : List ℕ) → writeAnswer r (length out) ≡ refused k
     → (record { code = k; length = 0 } ≡ written r (length out)) × (out ≡ bytesAfter r out)
-unfolding written asWritten bytesAfter bytesOf
-written-refused r k out e = (sym (ap asWritten e), sym (ap (λ (a : Answer ℕ). bytesOf a (fileBytes (netOf r)) out) e))
+unfolding written asWritten bytesAfter stored
+written-refused r k out e = (sym (ap asWritten e), sym (ap (λ (a : Answer (List ℕ)). stored a out) e))
 
 -- the file's length, and the file at the front
-pub written-whole : (r : Network) (n : ℕ) (out : List ℕ) → writeAnswer r (length out) ≡ accepted n
+pub written-whole : (r : Network) (n : ℕ) (out : List ℕ) → writeAnswer r (length out) ≡ accepted (fileBytes (netOf r)) → n ≡ length (fileBytes (netOf r))
     → (record { code = 0; length = n } ≡ written r (length out)) × (fileBytes (netOf r) ++ drop n out ≡ bytesAfter r out)
-unfolding written asWritten bytesAfter bytesOf
-written-whole r n out e = (sym (ap asWritten e), sym (ap (λ (a : Answer ℕ). bytesOf a (fileBytes (netOf r)) out) e))
+unfolding written asWritten bytesAfter stored
+written-whole r n out e l = (
+  ap (λ (m : ℕ). record { code = 0; length = m }) l ∙ sym (ap asWritten e),
+  ap (λ (m : ℕ). fileBytes (netOf r) ++ drop m out) l ∙ sym (ap (λ (a : Answer (List ℕ)). stored a out) e),
+)

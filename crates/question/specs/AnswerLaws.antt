@@ -5,26 +5,26 @@ use mathlib.Core.List.{List, _∷_, _++_}
 use Prim.Native.Nat.{ℕ, _≤_, _<_}
 use borrow.Author.Tests.{le-leb, lt-leb}
 use lib.ListN.{length, drop}
-use Rattle.integers.specs.Refusals.{Answer, accepted, refused, Test, _else_, checks}
+use Rattle.integers.specs.Refusals.{Answer, accepted, refused, Test, _else_, checks, stored}
 use Rattle.integers.specs.RefusalLaws.{checks-first, checks-next, checks-none}
 use Rattle.integers.specs.Tests.{both-true}
 use Rattle.network.specs.Record.{netOf, soundRecord}
 use Rattle.network.specs.declared.Network.{Network}
 use Rattle.constraints.specs.Text.{questionText}
-use Rattle.question.specs.Answers.{alike, lineAnswer, asLineWritten, asBytes}
+use Rattle.question.specs.Answers.{alike, lineAnswer, asLineWritten}
 use Rattle.question.specs.Lines.{Comparable, Asked, linesOf}
 
 -- ---- what an answer gives
 
 -- a refusal and its bytes
-pub refused-gives : {answer : Answer (List ℕ)} {c : ℕ} (out : List ℕ) → answer ≡ refused c → (asLineWritten (refused c) ≡ asLineWritten answer) × (out ≡ asBytes answer out)
-unfolding asBytes
+pub refused-gives : {answer : Answer (List ℕ)} {c : ℕ} (out : List ℕ) → answer ≡ refused c → (asLineWritten (refused c) ≡ asLineWritten answer) × (out ≡ stored answer out)
+unfolding stored
 refused-gives out e = rw e (refl, refl)
 
 -- a line and its bytes
 pub accepted-gives : {answer : Answer (List ℕ)} (text out : List ℕ) → answer ≡ accepted text
-    → (record { code = 0; length = length text } ≡ asLineWritten answer) × (text ++ drop (length text) out ≡ asBytes answer out)
-unfolding asLineWritten asBytes
+    → (record { code = 0; length = length text } ≡ asLineWritten answer) × (text ++ drop (length text) out ≡ stored answer out)
+unfolding asLineWritten stored
 accepted-gives text out e = rw e (refl, refl)
 
 -- ---- the tests in their order

@@ -1,9 +1,9 @@
 -- What the call for one line of the question answers. Document 01, "The question", with the order 20, 19, 21, 18. Nothing is proved here.
 use mathlib.Core.Bool.{Bool, _&&_}
-use mathlib.Core.List.{List, [], _∷_, _++_}
+use mathlib.Core.List.{List, [], _∷_}
 use Prim.Native.Nat.{ℕ}
 use lib.Dec.{leb, eqb}
-use lib.ListN.{length, drop}
+use lib.ListN.{length}
 use Rattle.integers.specs.Refusals.{Answer, accepted, refused, _else_, checks}
 use Rattle.network.specs.Threshold.{Net}
 use Rattle.network.specs.Record.{netOf, soundRecord}
@@ -26,8 +26,3 @@ lineAnswer a b n room =
 unfoldable pub asLineWritten : Answer (List ℕ) → LineWritten
 asLineWritten (accepted text) = record { code = 0; length = length text }
 asLineWritten (refused c) = record { code = c; length = 0 }
-
--- the lent bytes afterwards: the line at the front and what stood after it, or as they were
-unfoldable pub asBytes : Answer (List ℕ) → List ℕ → List ℕ
-asBytes (accepted text) out = text ++ drop (length text) out
-asBytes (refused c) out = out

@@ -3,10 +3,10 @@ use network::Network;
 ghost use mathlib.Core.Path.{_≡_};
 ghost use Prim.Native.Nat.{_≤_};
 ghost use lib.ListN.{length};
-ghost use Rattle.integers.specs.Refusals.{refused};
+ghost use Rattle.integers.specs.Refusals.{refused, stored};
 ghost use Rattle.network.specs.Record.{netOf};
 ghost use Rattle.constraints.specs.Text.{questionText};
-ghost use Rattle.question.specs.Answers.{alike, lineAnswer, asLineWritten, asBytes};
+ghost use Rattle.question.specs.Answers.{alike, lineAnswer, asLineWritten};
 ghost use Rattle.question.specs.Lines.{Comparable, Asked, linesOf};
 ghost use Rattle.question.specs.Writes.{Put};
 
@@ -57,7 +57,7 @@ fn put_question(first: Network, second: Network, n: usize, out: &mut [u8]) -> us
 fn write_line(first: Network, second: Network, n: usize, out: &mut [u8]) -> LineWritten
     requires { ⌜ Asked first second n ⌝ }
     ensures { λ r. ⌜ r ≡ asLineWritten (lineAnswer first second n (length (now (out .entry)))) ⌝ }
-    ensures { λ _. ⌜ now (out .exit) ≡ asBytes (lineAnswer first second n (length (now (out .entry)))) (now (out .entry)) ⌝ }
+    ensures { λ _. ⌜ now (out .exit) ≡ stored (lineAnswer first second n (length (now (out .entry)))) (now (out .entry)) ⌝ }
 {
     let mut text = [0u8; 254];
     let length = put_question(first, second, n, &mut text);
@@ -72,7 +72,7 @@ fn write_line(first: Network, second: Network, n: usize, out: &mut [u8]) -> Line
 // record, 19 for unlike networks, 21 where there is no such line, 18 where the line is longer than the lent bytes.
 pub fn line(first: Network, second: Network, n: usize, out: &mut [u8]) -> LineWritten
     ensures { λ r. ⌜ r ≡ asLineWritten (lineAnswer first second n (length (now (out .entry)))) ⌝ }
-    ensures { λ _. ⌜ now (out .exit) ≡ asBytes (lineAnswer first second n (length (now (out .entry)))) (now (out .entry)) ⌝ }
+    ensures { λ _. ⌜ now (out .exit) ≡ stored (lineAnswer first second n (length (now (out .entry)))) (now (out .entry)) ⌝ }
 {
     if !(network::soundness::is_sound(first) & network::soundness::is_sound(second)) {
         return refusal(20);

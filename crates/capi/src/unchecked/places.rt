@@ -3,7 +3,7 @@ ghost use mathlib.Core.Path.{_≡_};
 ghost use mathlib.Core.List.{[], _∷_};
 ghost use Prim.Native.Nat.{_≤_};
 ghost use lib.ListN.{length};
-ghost use Rattle.capi.specs.Exports.{stored};
+ghost use Rattle.integers.specs.Refusals.{stored};
 ghost use Rattle.capi.specs.Places.{answerOf};
 
 // A number that came with code 0; nothing with any other code. The answer is the code.

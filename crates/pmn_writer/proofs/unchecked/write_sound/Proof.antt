@@ -134,7 +134,7 @@ returns-2 c =
     let n = first .file-length .result in
     let e = ends gates in
     let el = length-is first in
-    let w = written-whole r n x₀ (write-whole r (length x₀) (start .pre) (omega (arith, e .0, e .1, el)) ∙ ap accepted (sym el)) in (
+    let w = written-whole r n x₀ (write-whole r (length x₀) (start .pre) (omega (arith, e .0, e .1, el))) el in (
       w .0,
       write-on x₀ (body gates) (out .put-outputs .last .0) (H ++ G) O (8 + m) (r .outputs) (body-is gates) lp lO (e .1) (out .put-outputs .ensures)
           ∙ ap (λ (k : ℕ). ((H ++ G) ++ O) ++ drop k x₀) (e .0)
