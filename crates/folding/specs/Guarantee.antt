@@ -7,15 +7,15 @@ use Prim.Native.Nat.{ℕ, _+_, _^_, _≤_, _<_}
 use lib.Dec.{T}
 use lib.ListN.{length}
 use Rattle.integers.specs.ListLaws.{Each}
-use Rattle.integers.specs.Refusals.{accepted}
+use Rattle.integers.specs.Refusals.{accepted, refused}
 use Rattle.integers.specs.RefusalLaws.{Passed}
 use Rattle.network.specs.Threshold.{Net, bit, frame, outputBits}
 use Rattle.network.specs.Limits.{sound}
 use Rattle.network.specs.Changes.{gateAt, withGate}
 use Rattle.network.specs.LimitLaws.{Has, Sound}
 use Rattle.equivalence.specs.Consistent.{Sim}
-use Rattle.folding.specs.Merge.{Edge, edge, reads, distinct, merged, composed, setting, limits}
-use Rattle.folding.specs.Pair.{Pair, qualifies}
+use Rattle.folding.specs.Merge.{Edge, edge, reads, distinct, merged, composed, setting, limits, merge}
+use Rattle.folding.specs.Pair.{Pair, qualifies, pair}
 use Rattle.folding.specs.Sweep.{readers, Swept}
 use Rattle.folding.specs.Calls.{uncounted, answer, leaves, calls}
 use Rattle.folding.specs.declared.Call.{Call}
@@ -41,6 +41,12 @@ pub record Least (e : Edge) (p : Pair) : Type 0 where
 -- "16 only if none of the 1,024 qualifies"; only a pair with k and l from 1 to 32 can
 abbrev pub NonePairs : Edge → Type 0
 NonePairs e = (q : Pair) → T (not (qualifies e q))
+
+-- "the k and l with the least k + l, then the least k, that qualify", whose merge is accepted; "16 only if none of the 1,024 qualifies"
+pub record PairClaim (N : Net) (u v : ℕ) : Type 0 where
+  pub least : (p : Pair) → pair N u v ≡ accepted p → Least (edge N u v) p
+  pub merges : (p : Pair) → pair N u v ≡ accepted p → merge N u v (p .k) (p .l) ≡ accepted (withGate N v (merged (edge N u v) (p .k) (p .l)))
+  pub none : pair N u v ≡ refused 16 → NonePairs (edge N u v)
 
 -- some merge of u into v is within the limits and agrees
 abbrev pub HasPair : Net → ℕ → ℕ → Type 0
@@ -75,11 +81,16 @@ pub record Exact (N : Net) (u v k l : ℕ) : Type 0 where
   pub accepts : Alike (edge N u v) k l → answer N (Merge u v k l) ≡ uncounted (withGate N v (merged (edge N u v) k l))
   pub only : (s : Swept) → answer N (Merge u v k l) ≡ accepted s → Alike (edge N u v) k l
 
+-- a collapse is accepted exactly when u is a gate and no output and every gate that reads it has a pair
+pub record Tried (N : Net) (u : ℕ) : Type 0 where
+  pub accepts : Collapsible N u → (M : Net) × (answer N (Collapse u) ≡ uncounted M)
+  pub only : (s : Swept) → answer N (Collapse u) ≡ accepted s → Collapsible N u
+
 -- what is claimed of one call, at the network that it gets
 abbrev pub Claim : Net → Call → Type 0
 Claim N (Merge u v k l) = Passed (limits N u v k l) → Exact N u v k l
 Claim N (Drop u) = Unit {0}
-Claim N (Collapse u) = Unit {0}
+Claim N (Collapse u) = Tried N u
 Claim N (Sweep B) = (s : Swept) → answer N (Sweep B) ≡ accepted s → Done N B s
 
 -- of each call of a list, at the network that the calls before it leave

@@ -14,7 +14,10 @@ use Rattle.folding.specs.Merge.{limits, merge}
 use Rattle.folding.specs.Collapse.{drop, collapse}
 use Rattle.folding.specs.Sweep.{Swept}
 use Rattle.folding.specs.Calls.{uncounted, answer, leaves, calls}
-use Rattle.folding.specs.Guarantee.{Kept, Exact, Claim, Claims, Preserved}
+use Rattle.folding.specs.Guarantee.{Kept, Exact, Tried, Claim, Claims, PairClaim, Preserved}
+use Rattle.folding.specs.RefusalMore.{Refused}
+use Rattle.folding.specs.PairLaws.{pair-least, pair-none, pair-merge}
+use Rattle.folding.specs.CollapseLaws.{collapse-tried, collapse-only}
 use Rattle.folding.specs.StepLaws.{merge-kept, merge-exact, merge-net, drop-kept, collapse-kept}
 use Rattle.folding.specs.SweepLaws.{kept-refl, kept-trans, sweep-kept, sweep-done}
 use Rattle.folding.specs.declared.Call.{Call}
@@ -57,15 +60,31 @@ merge-claim N u v k l p = record {
   only = λ s e. let b = bind-accepted (merge N u v k l) uncounted e in merge-exact N u v k l p .0 (merge-net N u v k l (b .0) (b .1));
 }
 
-claim : (N : Net) (c : Call) → Claim N c
-claim N (Merge u v k l) = merge-claim N u v k l
-claim N (Drop u) = tt
-claim N (Collapse u) = tt
-claim N (Sweep B) = λ s e. sweep-done N B s (unfold answer in e)
+accepted-one : (r : Answer Net) → (Refused r → ⊥) → (M : Net) × (bind r uncounted ≡ uncounted M)
+unfolding bind
+accepted-one (accepted M) h = (M, refl)
+accepted-one (refused c) h = absurd (h tt)
 
-claims : (N : Net) (cs : List Call) → Claims N cs
-claims N [] = tt
-claims N (c ∷ cs) = (claim N c, claims (leaves N (answer N c)) cs)
+collapse-claim : (N : Net) (u : ℕ) → Sound N → Tried N u
+unfolding answer
+collapse-claim N u s = record {
+  accepts = λ h. accepted-one (collapse N u) (collapse-tried N u s h);
+  only = λ x e. let b = bind-accepted (collapse N u) uncounted e in collapse-only N u (b .0) (b .1);
+}
+
+claim : (N : Net) (c : Call) → Sound N → Claim N c
+claim N (Merge u v k l) s = merge-claim N u v k l
+claim N (Drop u) s = tt
+claim N (Collapse u) s = collapse-claim N u s
+claim N (Sweep B) s = λ x e. sweep-done N B x (unfold answer in e)
+
+claims : (N : Net) (cs : List Call) → Sound N → Claims N cs
+claims N [] s = tt
+claims N (c ∷ cs) s = (claim N c s, claims (leaves N (answer N c)) cs (step-sound N c s))
+
+-- ---- pairs
+pub pair-claim : (N : Net) (u v : ℕ) → PairClaim N u v
+pair-claim N u v = record { least = pair-least N u v; merges = pair-merge N u v; none = pair-none N u v }
 
 -- ---- every list of calls
 pub list-kept : (N : Net) → T (sound N) → (cs : List Call) → Preserved N cs
@@ -74,5 +93,5 @@ list-kept N t cs = let s = sound-of N t in let k = calls-kept N cs s in record {
   same-inputs = sym (k .sim .same-inputs);
   same-outputs = outputs-many N (calls N cs) (frame 0) (calls-agree N cs s (frame 0));
   agree = λ n h. calls-agree N cs s (frame n);
-  each-call = claims N cs;
+  each-call = claims N cs s;
 }

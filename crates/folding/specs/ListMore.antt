@@ -16,6 +16,11 @@ module _ {A : Type 0} where
   EachFrom P n [] = Unit {0}
   EachFrom P n (x ∷ xs) = P n x × EachFrom P (suc n) xs
 
+  pub from-at : (P : ℕ → A → Type 0) (n : ℕ) (xs : List A) (d : A) → EachFrom P n xs → (i : ℕ) → i < length xs → P (n + i) (getD xs i d)
+  from-at P n [] d h i k = absurd (omega arith)
+  from-at P n (x ∷ xs) d h zero k = subst (λ (m : ℕ). P m x) (let e : n ≡ n + 0 = omega arith in e) (h .0)
+  from-at P n (x ∷ xs) d h (suc i) k = subst (λ (m : ℕ). P m (getD xs i d)) (let e : suc n + i ≡ n + suc i = omega arith in e) (from-at P (suc n) xs d (h .1) i (omega arith))
+
   pub each-from : (P : ℕ → A → Type 0) (n : ℕ) (xs : List A) (d : A) → ((i : ℕ) → i < length xs → P (n + i) (getD xs i d)) → EachFrom P n xs
   each-from P n [] d h = tt
   each-from P n (x ∷ xs) d h = (

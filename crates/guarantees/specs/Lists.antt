@@ -22,7 +22,7 @@ callsOn r (c ∷ cs) = callsOn (applied r c .network) cs
 
 -- one call on a record: it leaves exactly the network and gives exactly the answer that the definitions give for its numbers and the
 -- network that it got; a merge within the limits is accepted exactly when merged gate and composed pair have the same bit on every
--- setting; after an accepted sweep no gate within its reader limit, outputs aside, has a qualifying pair for every gate that reads it
+-- setting; a collapse is accepted exactly when its gate is no output and has a qualifying pair for every reader; after an accepted sweep no gate within its reader limit, outputs aside, has a qualifying pair for every gate that reads it
 pub record CallClaim (r : Network) (c : Call) : Type 0 where
   pub exact : applied r c ≡ asOutcome r (answer (netOf r) c)
   pub claim : Claim (netOf r) c

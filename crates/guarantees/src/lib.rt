@@ -4,9 +4,11 @@ use network::Network;
 ghost use mathlib.Core.Path.{_≡_};
 ghost use mathlib.Core.List.{List, map};
 ghost use Prim.Native.Nat.{ℕ};
+ghost use Rattle.network.specs.Threshold.{Net};
 ghost use Rattle.format.specs.Format.{Bytes};
 ghost use Rattle.pmn.specs.Answers.{loaded};
 ghost use Rattle.folding.specs.Bench.{bench, reply};
+ghost use Rattle.folding.specs.Guarantee.{PairClaim};
 ghost use Rattle.folding.specs.declared.Call.{Call};
 ghost use Rattle.guarantees.specs.Files.{Accepted, SoundIsDescribed, WrittenIsRead, ReadIsWritten};
 ghost use Rattle.guarantees.specs.Questions.{Questions};
@@ -35,10 +37,16 @@ pub fn question_decides(first: Network, second: Network)
 
 // Demand 3: from the record of any file that a read accepts, every list of merges, drops, collapses and sweeps with any numbers, refused
 // ones included. The record after it is read alike on every frame; the question for the two has no 0/1 solution; each call leaves exactly
-// the network and gives exactly the answer that the definitions give; a merge within the limits is accepted exactly when it agrees; and
-// after an accepted sweep nothing within its reader limit is left to collapse.
+// the network and gives exactly the answer that the definitions give; a merge within the limits is accepted exactly when it agrees;
+// a collapse exactly when every reader has a pair; and after an accepted sweep nothing within its reader limit is left to collapse.
 pub fn lists_of_calls()
     ensures { λ _. ⌜ ((file : List ℕ) → Bytes file → Accepted file → (calls : List Call) → ListClaim (loaded file .network) calls) ⌝ }
+{}
+
+// The pair rule, for every network and any two numbers: the answer is the qualifying pair with the least k + l, then the least k, and its
+// merge is accepted; 16 is given only if none of the 1,024 qualifies.
+pub fn pairs_are_least()
+    ensures { λ _. ⌜ ((net : Net) (u v : ℕ) → PairClaim net u v) ⌝ }
 {}
 
 // The bench gates P1 to P11: what the definitions say is what the paper says.
