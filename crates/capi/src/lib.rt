@@ -145,8 +145,8 @@ pub extern "C" fn pmn_line(
     if answer.len() < 1 {
         return 18;
     }
-    let written = question::line(one.network, other.network, n as usize, out);
-    unchecked::places::put_one(answer, written.code, written.length as u64)
+    let line = question::line(one.network, other.network, n as usize, out);
+    unchecked::places::put_one(answer, line.code, line.length as u64)
 }
 
 // The list of calls is run: each call's code and collapses go into the answers from place 1 on, the file of the network after the list
