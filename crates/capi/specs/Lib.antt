@@ -1,9 +1,7 @@
 pub mod Exports
-pub mod Runs
+pub mod RunAnswers
 pub mod Places
 pub mod AnswerLaws
 pub mod ExportLaws
 pub mod LineLaws
-pub mod Running
-pub mod RunLaws
 pub mod RunAnswerLaws

@@ -24,9 +24,10 @@ use Rattle.capi.specs.Exports.{room}
 use Rattle.capi.specs.Places.{answerOf}
 use Rattle.capi.specs.AnswerLaws.{FileRead, read-on}
 use Rattle.capi.specs.ExportLaws.{write-fits}
-use Rattle.capi.specs.Runs.{wellFormed, callsIn, answersOf, Ran, ran, runAnswer, ranFile, ranNumbers}
+use Rattle.runs.specs.Runs.{wellFormed, callsIn, answersOf, Ran, ran}
+use Rattle.capi.specs.RunAnswers.{runAnswer, ranFile, ranNumbers}
 use Rattle.network.specs.Places.{Holds}
-use Rattle.capi.specs.RunLaws.{count-calls, after-sound, answers-length}
+use Rattle.runs.specs.RunLaws.{count-calls, after-sound, answers-length}
 use Rattle.network.specs.RecordLaws.{holds-layout}
 
 -- what a run leaves: its answer's code, the numbers and the bytes

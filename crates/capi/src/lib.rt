@@ -3,7 +3,7 @@
 ghost use mathlib.Core.Path.{_≡_};
 ghost use Rattle.integers.specs.Refusals.{codeOf, stored};
 ghost use Rattle.capi.specs.Exports.{readNet, lengthOf, framePlaces, pairPlaces, reportPlaces, fileOut, partOut, lineOut};
-ghost use Rattle.capi.specs.Runs.{runAnswer, ranFile, ranNumbers};
+ghost use Rattle.capi.specs.RunAnswers.{runAnswer, ranFile, ranNumbers};
 
 // The network of a file is read, and nothing more.
 #[no_mangle]
@@ -162,16 +162,16 @@ pub extern "C" fn pmn_run(file: &[u8], calls: &[u64], answers: &mut [u64], out: 
     if code != 0 {
         return code;
     }
-    if !unchecked::runs::is_well_formed(calls) {
+    if !runs::unchecked::is_well_formed(calls) {
         return 14;
     }
     if answers.len() < 2 * (calls.len() / 5) + 1 {
         return 18;
     }
-    if !unchecked::runs::has_room(loaded.network, calls, out.len()) {
+    if !runs::unchecked::has_room(loaded.network, calls, out.len()) {
         return 18;
     }
-    let after = unchecked::runs::run_storing(loaded.network, calls, answers);
+    let after = runs::unchecked::run_storing(loaded.network, calls, answers);
     let written = pmn_writer::write(after, out);
     unchecked::places::put_one(answers, written.code, written.length as u64)
 }

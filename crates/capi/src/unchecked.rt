@@ -1,3 +1,2 @@
 // The parts of the functions. Each public function asks for what its caller has tested.
 pub mod places;
-pub mod runs;

@@ -7,7 +7,8 @@ use mathlib.Core.List.{List}
 use Prim.Native.Nat.{ℕ}
 use Rattle.integers.specs.Refusals.{Answer, codeOf, stored}
 use Rattle.format.specs.LengthLaws.{bytes-of}
-use Rattle.capi.specs.Runs.{wellFormed, Ran, runAnswer, ranFile, ranNumbers}
+use Rattle.runs.specs.Runs.{wellFormed, Ran}
+use Rattle.capi.specs.RunAnswers.{runAnswer, ranFile, ranNumbers}
 use Rattle.capi.specs.AnswerLaws.{FileRead, read-code, read-accepted, read-refused}
 use Rattle.capi.specs.RunAnswerLaws.{RunLeft, run-refused, read-holds, run-unformed, enough, run-few, run-long, run-left}
 use Rattle.capi.proofs.pmn_run.Statement.{statement}

@@ -3,10 +3,10 @@ use borrow.Author.Needs.{needs}
 use mathlib.Core.Path.{sym}
 use Prim.Native.Nat.{_+_, _*_}
 use lib.ListN.{getD}
-use Rattle.capi.specs.Runs.{callOf}
-use Rattle.capi.specs.RunLaws.{sweep-call}
-use Rattle.capi.proofs.unchecked.runs.call_at.Statement.{statement}
-use Rattle.capi.proofs.unchecked.runs.call_at.Tie as tie
+use Rattle.runs.specs.Runs.{callOf}
+use Rattle.runs.specs.RunLaws.{sweep-call}
+use Rattle.runs.proofs.unchecked.call_at.Statement.{statement}
+use Rattle.runs.proofs.unchecked.call_at.Tie as tie
 
 mul-at : tie.Need-mul-at
 mul-at c = search needs

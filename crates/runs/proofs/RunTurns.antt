@@ -10,10 +10,10 @@ use Rattle.network.specs.Record.{netOf, layout}
 use Rattle.network.specs.declared.Network.{Network}
 use Rattle.folding.specs.Calls.{answer, calls}
 use Rattle.sweeping.specs.declared.Outcome.{Outcome}
-use Rattle.capi.specs.Runs.{wellFormed, callsIn, answersOf}
+use Rattle.runs.specs.Runs.{wellFormed, callsIn, answersOf}
 use Rattle.network.specs.Places.{Holds}
-use Rattle.capi.specs.Running.{callAt, Stepped}
-use Rattle.capi.specs.RunLaws.{count-calls, next-holds, next-calls, next-answers, after-two, store-two}
+use Rattle.runs.specs.Running.{callAt, Stepped}
+use Rattle.runs.specs.RunLaws.{count-calls, next-holds, next-calls, next-answers, after-two, store-two}
 
 -- r is the record before call i of a list that began with r₀
 pub record Reached (r₀ : Network) (ns : List ℕ) (i : ℕ) (r : Network) : Type 0 where

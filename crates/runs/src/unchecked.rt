@@ -12,8 +12,8 @@ ghost use Rattle.network.specs.Record.{netOf, layout};
 ghost use Rattle.network.specs.Places.{Holds};
 ghost use Rattle.format.specs.Format.{fileBytes};
 ghost use Rattle.folding.specs.Calls.{answer, calls};
-ghost use Rattle.capi.specs.Runs.{wellFormed, callsIn, answersOf};
-ghost use Rattle.capi.specs.Running.{Stepped, callAt};
+ghost use Rattle.runs.specs.Runs.{wellFormed, callsIn, answersOf};
+ghost use Rattle.runs.specs.Running.{Stepped, callAt};
 
 // Whether every call has five numbers and a kind from 0 to 3.
 pub fn is_well_formed(numbers: &[u64]) -> bool

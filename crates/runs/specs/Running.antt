@@ -10,7 +10,7 @@ use Rattle.folding.specs.Sweep.{Swept}
 use Rattle.folding.specs.Calls.{leaves}
 use Rattle.folding.specs.declared.Call.{Call}
 use Rattle.sweeping.specs.declared.Outcome.{Outcome}
-use Rattle.capi.specs.Runs.{callOf, collapsesOf}
+use Rattle.runs.specs.Runs.{callOf, collapsesOf}
 
 -- call i of a list of numbers
 abbrev pub callAt : List ℕ → ℕ → Call

@@ -4,10 +4,10 @@ use borrow.Author.Needs.{needs}
 use Prim.Native.Nat.{_+_, _*_, _-_, _/_, _<_, _≤_, zero-le}
 use native.Mathlib.Omega.{arith}
 use lib.ListN.{length, length-set}
-use Rattle.capi.specs.RunLaws.{count-calls}
-use Rattle.capi.proofs.RunTurns.{Reached, Answered, reached-none, reached-next, reached-end, answered-none, answered-next, answered-end}
-use Rattle.capi.proofs.unchecked.runs.run_storing.Statement.{statement}
-use Rattle.capi.proofs.unchecked.runs.run_storing.Tie as tie
+use Rattle.runs.specs.RunLaws.{count-calls}
+use Rattle.runs.proofs.RunTurns.{Reached, Answered, reached-none, reached-next, reached-end, answered-none, answered-next, answered-end}
+use Rattle.runs.proofs.unchecked.run_storing.Statement.{statement}
+use Rattle.runs.proofs.unchecked.run_storing.Tie as tie
 
 abbrev Inv-loop : tie.InvT-loop
 Inv-loop numbers answers₀ after₀ i₀ i-end answers after i = (i ≤ length numbers / 5) × Reached after₀ numbers i after × Answered after₀ numbers i after answers₀ answers

@@ -3,9 +3,9 @@ use borrow.Author.Needs.{needs}
 use Prim.Native.Nat.{_-_, _/_, _≤_, zero-le}
 use native.Mathlib.Omega.{arith}
 use lib.ListN.{length}
-use Rattle.capi.proofs.RunTurns.{Reached, reached-none, reached-next, reached-end}
-use Rattle.capi.proofs.unchecked.runs.run.Statement.{statement}
-use Rattle.capi.proofs.unchecked.runs.run.Tie as tie
+use Rattle.runs.proofs.RunTurns.{Reached, reached-none, reached-next, reached-end}
+use Rattle.runs.proofs.unchecked.run.Statement.{statement}
+use Rattle.runs.proofs.unchecked.run.Tie as tie
 
 abbrev Inv-loop : tie.InvT-loop
 Inv-loop numbers after₀ i₀ i-end after i = (i ≤ length numbers / 5) × Reached after₀ numbers i after

@@ -1,8 +1,8 @@
 -- The longest file has room, so the writing gives the file's length.
 use borrow.Author.Needs.{needs}
-use Rattle.capi.specs.RunLaws.{length-written}
-use Rattle.capi.proofs.unchecked.runs.file_length.Statement.{statement}
-use Rattle.capi.proofs.unchecked.runs.file_length.Tie as tie
+use Rattle.runs.specs.RunLaws.{length-written}
+use Rattle.runs.proofs.unchecked.file_length.Statement.{statement}
+use Rattle.runs.proofs.unchecked.file_length.Tie as tie
 
 slice-aggregate-write : tie.Need-slice-aggregate-write
 slice-aggregate-write c = search needs

@@ -12,12 +12,12 @@ use Rattle.network.specs.RecordLaws.{netOf-layout}
 use Rattle.network.specs.declared.Network.{Network}
 use Rattle.format.specs.Format.{fileBytes}
 use Rattle.folding.specs.Calls.{calls}
-use Rattle.capi.specs.Runs.{callsIn}
+use Rattle.runs.specs.Runs.{callsIn}
 use Rattle.network.specs.Places.{Holds}
-use Rattle.capi.specs.RunLaws.{after-sound, longest}
+use Rattle.runs.specs.RunLaws.{after-sound, longest}
 use Rattle.network.specs.RecordLaws.{holds-layout}
-use Rattle.capi.proofs.unchecked.runs.has_room.Statement.{statement}
-use Rattle.capi.proofs.unchecked.runs.has_room.Tie as tie
+use Rattle.runs.proofs.unchecked.has_room.Statement.{statement}
+use Rattle.runs.proofs.unchecked.has_room.Tie as tie
 
 returns : tie.Need-returns
 returns c =

@@ -30,8 +30,8 @@ use Rattle.folding.specs.declared.Call.the-variants.{Sweep}
 use Rattle.sweeping.specs.Answers.{asOutcome, applied}
 use Rattle.sweeping.specs.ApplyLaws.{call-exact, call-record}
 use Rattle.sweeping.specs.declared.Outcome.{Outcome}
-use Rattle.capi.specs.Runs.{callOf, wellFormed, callsIn, collapsesOf, answersOf}
-use Rattle.capi.specs.Running.{callAt, Stepped}
+use Rattle.runs.specs.Runs.{callOf, wellFormed, callsIn, collapsesOf, answersOf}
+use Rattle.runs.specs.Running.{callAt, Stepped}
 
 -- ---- five numbers to a call
 

@@ -2,9 +2,9 @@
 use borrow.Author.Needs.{needs}
 use mathlib.Core.Path.{ap, _∙_}
 use Rattle.sweeping.specs.Answers.{applied}
-use Rattle.capi.specs.RunLaws.{step-done}
-use Rattle.capi.proofs.unchecked.runs.step.Statement.{statement}
-use Rattle.capi.proofs.unchecked.runs.step.Tie as tie
+use Rattle.runs.specs.RunLaws.{step-done}
+use Rattle.runs.proofs.unchecked.step.Statement.{statement}
+use Rattle.runs.proofs.unchecked.step.Tie as tie
 
 call-at-requires : tie.Need-call-at-requires
 call-at-requires c κs = search needs

@@ -2,17 +2,16 @@
 -- kind passes over those that it does not use. The list is run as document 01, "A list of calls", has it. Nothing is proved here.
 use mathlib.Core.Bool.{Bool, true, false, _&&_}
 use mathlib.Core.List.{List, [], _∷_}
-use Prim.Native.Nat.{ℕ, zero, suc, _+_, _*_}
+use Prim.Native.Nat.{ℕ, zero, suc}
 use lib.Dec.{leb}
 use lib.ListN.{length}
-use Rattle.integers.specs.Refusals.{Answer, accepted, refused, _else_, checks, bind, codeOf}
+use Rattle.integers.specs.Refusals.{Answer, accepted, refused, codeOf}
 use Rattle.network.specs.Threshold.{Net}
 use Rattle.format.specs.Format.{fileBytes}
 use Rattle.folding.specs.Sweep.{Swept}
 use Rattle.folding.specs.Calls.{answer, leaves, calls}
 use Rattle.folding.specs.declared.Call.{Call}
 use Rattle.folding.specs.declared.Call.the-variants.{Merge, Drop, Collapse, Sweep}
-use Rattle.capi.specs.Exports.{readNet, room}
 
 -- the call of a kind from 0 to 3 and four numbers
 unfoldable pub callOf : ℕ → ℕ → ℕ → ℕ → ℕ → Call
@@ -55,17 +54,3 @@ pub record Ran : Type 0 where
 
 unfoldable pub ran : Net → List Call → Ran
 ran N cs = record { file = fileBytes (calls N cs); numbers = length (fileBytes (calls N cs)) ∷ answersOf N cs }
-
--- as read, 14, 18
-unfoldable pub runAnswer : List ℕ → List ℕ → List ℕ → List ℕ → Answer Ran
-runAnswer file numbers answers out = bind (readNet file) (λ N.
-    checks ((wellFormed numbers else 14) ∷ (room (1 + 2 * length (callsIn numbers)) answers && room (length (fileBytes (calls N (callsIn numbers)))) out else 18) ∷ [])
-    (accepted (ran N (callsIn numbers))))
-
-unfoldable pub ranFile : Answer Ran → Answer (List ℕ)
-ranFile (accepted r) = accepted (r .file)
-ranFile (refused k) = refused k
-
-unfoldable pub ranNumbers : Answer Ran → Answer (List ℕ)
-ranNumbers (accepted r) = accepted (r .numbers)
-ranNumbers (refused k) = refused k

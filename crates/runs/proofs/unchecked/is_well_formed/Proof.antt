@@ -7,10 +7,10 @@ use native.Mathlib.Omega.{arith}
 use borrow.Author.Tests.{le-leb, lt-leb}
 use lib.ListN.{length, drop, getD, length-drop, drop-of-length-le}
 use Rattle.integers.specs.Tests.{and-false-left}
-use Rattle.capi.specs.Runs.{wellFormed}
-use Rattle.capi.specs.RunLaws.{formed-short, formed-next}
-use Rattle.capi.proofs.unchecked.runs.is_well_formed.Statement.{statement}
-use Rattle.capi.proofs.unchecked.runs.is_well_formed.Tie as tie
+use Rattle.runs.specs.Runs.{wellFormed}
+use Rattle.runs.specs.RunLaws.{formed-short, formed-next}
+use Rattle.runs.proofs.unchecked.is_well_formed.Statement.{statement}
+use Rattle.runs.proofs.unchecked.is_well_formed.Tie as tie
 
 abbrev Inv-loop : tie.InvT-loop
 Inv-loop numbers at₀ at = (at ≤ length numbers) × (wellFormed (drop at numbers) ≡ wellFormed numbers)
