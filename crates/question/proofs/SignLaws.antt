@@ -1,7 +1,6 @@
 -- The sign of a number from a test in code. Assumes nothing.
 use mathlib.Core.Path.{_≡_, refl}
 use mathlib.Core.Bool.{true, false}
-use Prim.Native.Nat.{ℕ}
 use native.Mathlib.Omega.{arith}
 use borrow.Author.Tests.{ltb-true}
 use lib.Dec.{leb·zero}
@@ -19,10 +18,6 @@ pub above-sign : (z : ℤ) → ltZ z (pos 0) ≡ false → nonNeg z ≡ true
 above-sign z e = is-true (nonNeg z) (plus-nonNeg z e)
 
 -- by the test `0 <= z`
-pub from-sign : (z : ℤ) → leZ (pos 0) z ≡ true → nonNeg z ≡ true
-from-sign (pos n) e = refl
-from-sign (negsuc n) e = let z : _≡_ {A = ℕ} 0 1 = cc in absurd (omega arith)
-
-pub under-sign : (z : ℤ) → leZ (pos 0) z ≡ false → nonNeg z ≡ false
-under-sign (pos n) e = let z : _≡_ {A = ℕ} 0 1 = cc (leb·zero n) in absurd (omega arith)
-under-sign (negsuc n) e = refl
+pub from-sign : (z : ℤ) → leZ (pos 0) z ≡ nonNeg z
+from-sign (pos n) = leb·zero n
+from-sign (negsuc n) = refl

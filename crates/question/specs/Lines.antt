@@ -1,12 +1,13 @@
 -- A line as plain data and the line that it stands for, the lines of each stretch by their number, and what their makers ask for.
 -- Nothing is proved here.
 use mathlib.Core.Path.{_≡_}
-use mathlib.Core.Bool.{Bool, true, cond}
-use mathlib.Core.List.{[], _∷_, _++_, map}
+use mathlib.Core.Bool.{Bool, true, Bool·beq, cond}
+use mathlib.Core.List.{List, [], _∷_, _++_, map}
 use Prim.Native.Nat.{ℕ, _+_, _/_, _%_, _≤_}
 use lib.Dec.{eqb}
-use lib.IntN.{ℤ, natAbs, negℤ, negsuc}
+use lib.IntN.{ℤ, pos, natAbs, negℤ, negsuc, _+ℤ_}
 use lib.ListN.{length, getD}
+use lib.Signed.{nonNeg}
 use Rattle.integers.specs.ListLaws.{Each}
 use Rattle.network.specs.Threshold.{Feed, Gate, Net}
 use Rattle.network.specs.Record.{feedsFrom, gateIn, netOf, soundRecord, nthGate}
@@ -44,6 +45,15 @@ feedTerm negative φ f = term (φ (f .signal)) (cond negative (negℤ (f .weight
 -- the feeds of a gate as terms
 unfoldable pub feedTerms : Bool → (ℕ → ℕ) → Gate → ℤ → Line
 feedTerms negative φ g right = record { terms = map (feedTerm negative φ) (g .feeds); right = right }
+
+-- what a weight adds to M, where above, or else to m
+unfoldable pub sidePart : Bool → ℤ → ℤ
+sidePart above w = cond (Bool·beq (nonNeg w) above) w (pos 0)
+
+-- M or m of some feeds
+unfoldable pub oneSided : Bool → List Feed → ℤ
+oneSided above [] = pos 0
+oneSided above (f ∷ fs) = sidePart above (f .weight) +ℤ oneSided above fs
 
 -- line i of those of a network's gates, before which shift others come
 unfoldable pub gateLine : Net → ℕ → ℕ → Line

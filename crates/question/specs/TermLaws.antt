@@ -16,7 +16,7 @@ use Rattle.network.specs.PlaceLaws.{length-feeds, feeds-at}
 use Rattle.network.specs.declared.GateRecord.{GateRecord}
 use Rattle.constraints.specs.Question.{Line, term, most, least, negated, upper, lower, overGate, someLine, notBothLine, lastLine}
 use Rattle.question.specs.declared.unchecked.lines.LineRecord.{LineRecord}
-use Rattle.question.specs.Lines.{lineIn, Stands, noTerms, extended, feedTerm, feedTerms, InLimits, threeTerms}
+use Rattle.question.specs.Lines.{lineIn, Stands, noTerms, extended, feedTerm, feedTerms, sidePart, oneSided, InLimits, threeTerms}
 use Rattle.question.specs.FeedLaws.{feeds-none, feeds-more, feeds-set}
 
 -- ---- a line's record
@@ -90,46 +90,46 @@ term-count negative φ g z = length-map (g .feeds) (feedTerm negative φ)
 
 -- ---- M and m
 
--- what a weight adds to M and to m
-abbrev pub positivePart : ℤ → ℤ
-positivePart w = cond (nonNeg w) w (pos 0)
+-- each is the sum of its side
+part-most : (w : ℤ) → sidePart true w ≡ cond (nonNeg w) w (pos 0)
+unfolding sidePart
+part-most (pos n) = refl
+part-most (negsuc n) = refl
 
-abbrev pub negativePart : ℤ → ℤ
-negativePart w = cond (nonNeg w) (pos 0) w
+part-least : (w : ℤ) → sidePart false w ≡ cond (nonNeg w) (pos 0) w
+unfolding sidePart
+part-least (pos n) = refl
+part-least (negsuc n) = refl
 
-most-end : (fs : List Feed) (f : Feed) → most (fs ++ (f ∷ [])) ≡ most fs +ℤ positivePart (f .weight)
-unfolding most
-most-end [] f = +ℤ-comm (positivePart (f .weight)) (pos 0)
-most-end (g ∷ fs) f = ap (λ (z : ℤ). positivePart (g .weight) +ℤ z) (most-end fs f) ∙ sym (+ℤ-assoc (positivePart (g .weight)) (most fs) (positivePart (f .weight)))
+pub sided-most : (fs : List Feed) → oneSided true fs ≡ most fs
+unfolding oneSided most
+sided-most [] = refl
+sided-most (f ∷ fs) = rw (part-most (f .weight), sided-most fs)
 
-least-end : (fs : List Feed) (f : Feed) → least (fs ++ (f ∷ [])) ≡ least fs +ℤ negativePart (f .weight)
-unfolding least
-least-end [] f = +ℤ-comm (negativePart (f .weight)) (pos 0)
-least-end (g ∷ fs) f = ap (λ (z : ℤ). negativePart (g .weight) +ℤ z) (least-end fs f) ∙ sym (+ℤ-assoc (negativePart (g .weight)) (least fs) (negativePart (f .weight)))
+pub sided-least : (fs : List Feed) → oneSided false fs ≡ least fs
+unfolding oneSided least
+sided-least [] = refl
+sided-least (f ∷ fs) = rw (part-least (f .weight), sided-least fs)
 
-module _ (gate : GateRecord) where
-  -- M and m of the first i feeds
-  abbrev pub mostOf : ℕ → ℤ
-  mostOf i = most (feedsFrom (gate .signals) (gate .weights) 0 i)
+-- one feed more
+module _ (above : Bool) where
+  sided-end : (fs : List Feed) (f : Feed) → oneSided above (fs ++ (f ∷ [])) ≡ oneSided above fs +ℤ sidePart above (f .weight)
+  unfolding oneSided
+  sided-end [] f = +ℤ-comm (sidePart above (f .weight)) (pos 0)
+  sided-end (g ∷ fs) f = ap (λ (z : ℤ). sidePart above (g .weight) +ℤ z) (sided-end fs f) ∙ sym (+ℤ-assoc (sidePart above (g .weight)) (oneSided above fs) (sidePart above (f .weight)))
 
-  abbrev pub leastOf : ℕ → ℤ
-  leastOf i = least (feedsFrom (gate .signals) (gate .weights) 0 i)
+  module _ (gate : GateRecord) where
+    -- the sum of the first i feeds
+    abbrev pub sidedOf : ℕ → ℤ
+    sidedOf i = oneSided above (feedsFrom (gate .signals) (gate .weights) 0 i)
 
-  pub most-none : mostOf 0 ≡ pos 0
-  unfolding most
-  most-none = ap most (feeds-none (gate .signals) (gate .weights) 0)
+    pub sided-none : sidedOf 0 ≡ pos 0
+    unfolding oneSided
+    sided-none = ap (oneSided above) (feeds-none (gate .signals) (gate .weights) 0)
 
-  pub least-none : leastOf 0 ≡ pos 0
-  unfolding least
-  least-none = ap least (feeds-none (gate .signals) (gate .weights) 0)
-
-  pub most-more : (i : ℕ) → mostOf i +ℤ positivePart (getD (gate .weights) i (pos 0)) ≡ mostOf (i + 1)
-  unfolding feedAt
-  most-more i = sym (ap most (feeds-more (gate .signals) (gate .weights) i) ∙ most-end (feedsFrom (gate .signals) (gate .weights) 0 i) (feedAt (gate .signals) (gate .weights) i))
-
-  pub least-more : (i : ℕ) → leastOf i +ℤ negativePart (getD (gate .weights) i (pos 0)) ≡ leastOf (i + 1)
-  unfolding feedAt
-  least-more i = sym (ap least (feeds-more (gate .signals) (gate .weights) i) ∙ least-end (feedsFrom (gate .signals) (gate .weights) 0 i) (feedAt (gate .signals) (gate .weights) i))
+    pub sided-more : (i : ℕ) → sidedOf i +ℤ sidePart above (getD (gate .weights) i (pos 0)) ≡ sidedOf (i + 1)
+    unfolding feedAt
+    sided-more i = sym (ap (oneSided above) (feeds-more (gate .signals) (gate .weights) i) ∙ sided-end (feedsFrom (gate .signals) (gate .weights) 0 i) (feedAt (gate .signals) (gate .weights) i))
 
 -- ---- the two lines of a gate
 module _ (φ : ℕ → ℕ) where

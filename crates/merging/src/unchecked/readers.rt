@@ -12,8 +12,8 @@ ghost use Rattle.merging.specs.Lent.{gatesIn};
 ghost use Rattle.merging.specs.Readers.{occurs, Counted};
 
 // Whether a signal is one of count signals from place base on.
-fn has_feed(signals: &[u8; 2048], base: usize, count: usize, signal: usize) -> bool
-    requires { ⌜ base + count ≤ 2048 ⌝ }
+fn has_feed(signals: &[u8], base: usize, count: usize, signal: usize) -> bool
+    requires { ⌜ base + count ≤ length (now signals) ⌝ }
     ensures { λ r. ⌜ r ≡ occurs (now (signals .entry)) base count signal ⌝ }
 {
     for p in base..base + count {
@@ -29,12 +29,7 @@ pub fn is_output(drivers: &[u8; 16], outputs: usize, signal: usize) -> bool
     requires { ⌜ outputs ≤ 16 ⌝ }
     ensures { λ r. ⌜ r ≡ occurs (now (drivers .entry)) 0 outputs signal ⌝ }
 {
-    for j in 0..outputs {
-        if wide(drivers[j]) == signal {
-            return true;
-        }
-    }
-    false
+    has_feed(drivers, 0, outputs, signal)
 }
 
 // Whether gate g reads a signal.

@@ -8,9 +8,9 @@ ghost use Prim.Native.Nat.{_+_, _*_, _≤_, _<_};
 ghost use lib.IntN.{natAbs, negℤ};
 ghost use lib.ListN.{getD};
 ghost use Rattle.network.specs.Record.{gateIn, netOf, soundRecord};
-ghost use Rattle.constraints.specs.Question.{term, most, least, upper, lower, secondVariable, overGate, lastLine, question};
+ghost use Rattle.constraints.specs.Question.{term, upper, lower, secondVariable, overGate, lastLine, question};
 ghost use Rattle.constraints.specs.Text.{noLine};
-ghost use Rattle.question.specs.Lines.{lineIn, Stands, noTerms, extended, feedTerms, gateLine, InLimits, threeTerms, outputLine, Comparable, linesOf};
+ghost use Rattle.question.specs.Lines.{lineIn, Stands, noTerms, extended, feedTerms, oneSided, gateLine, InLimits, threeTerms, outputLine, Comparable, linesOf};
 
 // A line: so many terms, each a coefficient on a variable (counted from 0), and the right side.
 pub struct LineRecord {
@@ -87,30 +87,15 @@ fn feed_terms(
     line
 }
 
-// The sum of a gate's positive weights.
-fn most_of(gate: GateRecord) -> i32
+// The sum of a gate's weights that are 0 or more, where above, or else of those below 0.
+fn sum_of(gate: GateRecord, above: bool) -> i32
     requires { ⌜ InLimits gate ⌝ }
-    ensures { λ r. ⌜ r ≡ most (gateIn gate .feeds) ⌝ }
+    ensures { λ r. ⌜ r ≡ oneSided above (gateIn gate .feeds) ⌝ }
 {
     let mut sum: i32 = 0;
     for i in 0..wide(gate.fanin) {
         let weight = gate.weights[i];
-        if 0 <= weight {
-            sum = sum + weight;
-        }
-    }
-    sum
-}
-
-// The sum of a gate's negative weights.
-fn least_of(gate: GateRecord) -> i32
-    requires { ⌜ InLimits gate ⌝ }
-    ensures { λ r. ⌜ r ≡ least (gateIn gate .feeds) ⌝ }
-{
-    let mut sum: i32 = 0;
-    for i in 0..wide(gate.fanin) {
-        let weight = gate.weights[i];
-        if weight < 0 {
+        if (0 <= weight) == above {
             sum = sum + weight;
         }
     }
@@ -124,7 +109,7 @@ fn upper_line(gate: GateRecord, inputs: usize, shift: usize, y: usize) -> LineRe
 {
     let threshold = gate.threshold;
     let feeds = feed_terms(gate, inputs, shift, true, 1 - threshold);
-    with_term(feeds, y, most_of(gate) - threshold + 1)
+    with_term(feeds, y, sum_of(gate, true) - threshold + 1)
 }
 
 // The lower line of a gate with output y.
@@ -133,7 +118,7 @@ fn lower_line(gate: GateRecord, inputs: usize, shift: usize, y: usize) -> LineRe
     ensures { λ r. ⌜ Stands r (lower y (overGate (secondVariable inputs shift) (gateIn gate))) ⌝ }
 {
     let threshold = gate.threshold;
-    let least = least_of(gate);
+    let least = sum_of(gate, false);
     let feeds = feed_terms(gate, inputs, shift, false, least);
     with_term(feeds, y, least - threshold)
 }

@@ -19,10 +19,10 @@ add-p-end : tie.Need-add-p-end Inv-loop μ-loop
 add-p-end c = search needs
 
 loop-holds : tie.Need-loop-holds Inv-loop μ-loop
-loop-holds c = (omega arith, omega arith, rw (let e : c .args .base + c .args .count - c .args .base ≡ c .args .count = omega arith in e))
+loop-holds c = let a = c .before .args in (omega arith, omega arith, rw (let e : a .base + a .count - a .base ≡ a .count = omega arith in e))
 
-element-copy-out-wide : tie.Need-element-copy-out-wide Inv-loop μ-loop
-element-copy-out-wide c = search needs
+shared-slice-read-wide : tie.Need-shared-slice-read-wide Inv-loop μ-loop
+shared-slice-read-wide c = search needs
 
 wide-requires : tie.Need-wide-requires Inv-loop μ-loop
 wide-requires c κs = search needs
@@ -57,7 +57,7 @@ has-feed-spec =
     μ-loop
     add-p-end
     loop-holds
-    element-copy-out-wide
+    shared-slice-read-wide
     wide-requires
     returns
     add-p

@@ -18,7 +18,7 @@ has-feed-requires : tie.Need-has-feed-requires
 has-feed-requires c κs = search needs
 
 returns : tie.Need-returns
-returns c = λ ts ws. c .has-feed .ensures ∙ rw (c .before .wide .ensures .0) (sym (reads-places _ ts _ ws _ _))
+returns c = λ ts ws. c .has-feed .ensures ∙ rw (c .before .before .wide .ensures .0) (sym (reads-places _ ts _ ws _ _))
 
 pub reads-gate-spec : {M : Type 1} → statement M
 reads-gate-spec =

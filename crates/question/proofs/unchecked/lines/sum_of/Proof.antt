@@ -8,17 +8,18 @@ use lib.IntN.{ℤ, pos, natAbs, _+ℤ_}
 use lib.ListN.{getD}
 use borrow.Author.Needs.{needs}
 use Rattle.network.specs.Record.{gateIn}
-use Rattle.question.specs.TermLaws.{leastOf, least-none, least-more, negativePart, scaled-at}
-use Rattle.question.proofs.SignLaws.{below-sign, above-sign}
+use Rattle.question.specs.Lines.{sidePart}
+use Rattle.question.specs.TermLaws.{sidedOf, sided-none, sided-more, scaled-at}
+use Rattle.question.proofs.SignLaws.{from-sign}
 use Rattle.question.proofs.SumLaws.{small-back, Summed, summed-is, add-fits, summed-more, summed-same}
-use Rattle.question.proofs.unchecked.lines.least_of.Statement.{statement}
-use Rattle.question.proofs.unchecked.lines.least_of.Tie as tie
+use Rattle.question.proofs.unchecked.lines.sum_of.Statement.{statement}
+use Rattle.question.proofs.unchecked.lines.sum_of.Tie as tie
 
 abbrev Inv-loop : tie.InvT-loop
-Inv-loop gate sum₀ i₀ i-end sum i = (i ≤ i-end) × Summed sum (leastOf gate i) i
+Inv-loop above gate sum₀ i₀ i-end sum i = (i ≤ i-end) × Summed sum (sidedOf above gate i) i
 
 abbrev μ-loop : tie.MeasureT-loop
-μ-loop gate sum₀ i₀ i-end sum i = i-end - i
+μ-loop above gate sum₀ i₀ i-end sum i = i-end - i
 
 -- the weight of the loop's feed
 abbrev weight : tie.In-loop Inv-loop μ-loop → ℤ
@@ -36,7 +37,7 @@ wide-requires : tie.Need-wide-requires Inv-loop μ-loop
 wide-requires c κs = search needs
 
 loop-holds : tie.Need-loop-holds Inv-loop μ-loop
-loop-holds c = (omega arith, summed-is (sym (least-none (c .before .args .t1))) (record { holds = refl; small = omega arith }))
+loop-holds c = (omega arith, summed-is (sym (sided-none (c .before .args .above) (c .before .args .t1))) (record { holds = refl; small = omega arith }))
 
 mul-weight : tie.Need-mul-weight Inv-loop μ-loop
 mul-weight c = let h = below c in record { fits = omega arith }
@@ -54,32 +55,33 @@ loop-less : tie.Need-loop-less Inv-loop μ-loop
 loop-less c = let h = c .before .before .loop-test .taken in omega arith
 
 -- the sum with or without the feed's weight
-turn : (c : tie.Joined1 Inv-loop μ-loop) → Summed (c .if1 .sum) (leastOf (c .before .before .before .before .before .args .t1) (c .before .before .before .loop .i) +ℤ negativePart (weight (c .before .before))) (c .before .before .before .loop .i + 1)
+turn : (c : tie.Joined1 Inv-loop μ-loop) → let start = c .before .before .before .before .before in let i = c .before .before .before .loop .i in Summed (c .if1 .sum) (sidedOf (start .args .above) (start .args .t1) i +ℤ sidePart (start .args .above) (weight (c .before .before))) (i + 1)
+unfolding sidePart
 turn c =
     let in-loop = c .before .before in
     let w = weight in-loop in
     let sofar = in-loop .before .loop .inv .1 in
     let back = small-back w (small in-loop) in
     ⊎-elim
-    (λ k. summed-more sofar w (small in-loop) (below in-loop .1) (k .1) (ap (λ (b : Bool). cond b (pos 0) w) (below-sign w (rw back at (k .0 .taken)))))
-    (λ k. summed-same sofar w (small in-loop) (below in-loop .1) (k .1) (ap (λ (b : Bool). cond b (pos 0) w) (above-sign w (rw back at (k .0 .left)))))
+    (λ k. summed-more sofar w (small in-loop) (below in-loop .1) (k .1) (ap (λ (b : Bool). cond b w (pos 0)) (rw (back, from-sign w) at (k .0 .taken))))
+    (λ k. summed-same sofar w (small in-loop) (below in-loop .1) (k .1) (ap (λ (b : Bool). cond b w (pos 0)) (rw (back, from-sign w) at (k .0 .left))))
     (c .if1 .came)
 
 loop-again : tie.Need-loop-again Inv-loop μ-loop
 loop-again c =
     let in-loop = c .before .before in
     let h = in-loop .loop-test .taken in
-    (omega arith, summed-is (least-more (in-loop .before .before .before .args .t1) (in-loop .before .loop .i)) (turn c))
+    (omega arith, summed-is (sided-more (in-loop .before .before .before .args .above) (in-loop .before .before .before .args .t1) (in-loop .before .loop .i)) (turn c))
 
 returns : tie.Need-returns Inv-loop μ-loop
 unfolding gateIn
 returns c =
     let l = c .before .loop in
     let e : l .i ≡ c .before .before .before .args .t1 .fanin = omega (arith, c .before .before .wide .ensures) in
-    l .inv .1 .holds ∙ ap (leastOf (c .before .before .before .args .t1)) e
+    l .inv .1 .holds ∙ ap (sidedOf (c .before .before .before .args .above) (c .before .before .before .args .t1)) e
 
-pub least-of-spec : {M : Type 1} → statement M
-least-of-spec =
+pub sum-of-spec : {M : Type 1} → statement M
+sum-of-spec =
     tie.close
     (tie.spec
     Inv-loop
