@@ -11,10 +11,9 @@ use Rattle.network.specs.Limits.{isGate}
 use Rattle.format.specs.Format.{Read, done, fileBytes, parseFile}
 use Rattle.format.specs.Part.{partIn}
 use Rattle.folding.specs.Pair.{pair}
-use Rattle.constraints.specs.Question.{question}
+use Rattle.constraints.specs.Question.{question, alike}
 use Rattle.constraints.specs.Text.{questionText}
 use Rattle.report.specs.Size.{cost, levels}
-use Rattle.question.specs.Answers.{alike}
 
 -- ---- reading first
 

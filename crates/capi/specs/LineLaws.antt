@@ -16,10 +16,10 @@ use Rattle.network.specs.RecordLaws.{netOf-layout, sound-layout}
 use Rattle.network.specs.declared.Network.{Network}
 use Rattle.pmn.specs.OpenLaws.{Opened}
 use Rattle.folding.specs.RefusalMore.{NoneSays}
-use Rattle.constraints.specs.Question.{question}
+use Rattle.constraints.specs.Question.{question, alike}
 use Rattle.constraints.specs.Text.{questionText}
 use Rattle.collapse.specs.FuseLaws.{Numbered}
-use Rattle.question.specs.Answers.{alike, lineAnswer, asLineWritten}
+use Rattle.question.specs.Answers.{lineAnswer, asLineWritten}
 use Rattle.question.specs.declared.LineWritten.{LineWritten}
 use Rattle.capi.specs.Exports.{readNet, room, lengthOf, lineOut}
 use Rattle.capi.specs.Places.{answerOf}

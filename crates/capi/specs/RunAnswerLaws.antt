@@ -13,7 +13,7 @@ use Rattle.integers.specs.RefusalLaws.{checks-first, checks-next, checks-none}
 use Rattle.integers.specs.Tests.{both-true, and-false-left, and-false-right}
 use Rattle.network.specs.Threshold.{Net}
 use Rattle.network.specs.Record.{netOf, layout}
-use Rattle.network.specs.RecordLaws.{netOf-layout}
+use Rattle.network.specs.RecordLaws.{netOf-layout, holds-layout}
 use Rattle.network.specs.declared.Network.{Network}
 use Rattle.format.specs.Format.{fileBytes}
 use Rattle.pmn_writer.specs.Answers.{written, bytesAfter}
@@ -28,7 +28,6 @@ use Rattle.runs.specs.Runs.{wellFormed, callsIn, answersOf, Ran, ran}
 use Rattle.capi.specs.RunAnswers.{runAnswer, ranFile, ranNumbers}
 use Rattle.network.specs.Places.{Holds}
 use Rattle.runs.specs.RunLaws.{count-calls, after-sound, answers-length}
-use Rattle.network.specs.RecordLaws.{holds-layout}
 
 -- what a run leaves: its answer's code, the numbers and the bytes
 pub record RunLeft (x : Answer Ran) (k : ℕ) (answers numbers out bytes : List ℕ) : Type 0 where

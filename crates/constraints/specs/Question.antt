@@ -1,10 +1,10 @@
 -- The question for two networks, as pseudo-Boolean lines. Document 01, "The question". Variables are numbered from 0 here: signal s of
 -- the first network is variable s, the second's gates come after the first's, then one variable d for each output. Nothing is proved
 -- here.
-use mathlib.Core.Bool.{Bool, cond}
+use mathlib.Core.Bool.{Bool, cond, _&&_}
 use mathlib.Core.List.{List, [], _∷_, _++_, map}
 use Prim.Native.Nat.{ℕ, suc, _+_}
-use lib.Dec.{T, ltb}
+use lib.Dec.{T, ltb, eqb}
 use lib.IntN.{ℤ, pos, negsuc, negℤ, _+ℤ_, _-ℤ_}
 use lib.Signed.{leZ, nonNeg}
 use lib.ListN.{length}
@@ -90,6 +90,10 @@ unfoldable pub lastLine : ℕ → ℕ → Line
 lastLine d n = record { terms = map (λ v. term v (pos 1)) (range d n); right = pos 1 }
 
 -- ---- the question
+
+-- "Two networks with equal input and output counts"
+unfoldable pub alike : Net → Net → Bool
+alike N M = eqb (N .inputs) (M .inputs) && eqb (length (N .outputs)) (length (M .outputs))
 
 -- the first d
 unfoldable pub firstDifference : Net → Net → ℕ

@@ -12,7 +12,7 @@ use Rattle.network.specs.declared.Network.{Network}
 use Rattle.constraints.specs.SolutionLaws.{question-decides}
 use Rattle.constraints.specs.SizeLaws.{line-short}
 use Rattle.constraints.specs.MeaningLaws.{question-text-says}
-use Rattle.question.specs.Answers.{alike}
+use Rattle.constraints.specs.Question.{alike}
 use Rattle.guarantees.specs.Questions.{QuestionClaim, Questions}
 
 pub questions : (a b : Network) → Questions a b

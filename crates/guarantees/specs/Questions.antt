@@ -5,11 +5,10 @@ use Prim.Native.Nat.{ℕ, suc, _≤_, _<_}
 use lib.ListN.{length, getD}
 use Rattle.network.specs.Record.{netOf, soundRecord}
 use Rattle.network.specs.declared.Network.{Network}
-use Rattle.constraints.specs.Question.{question}
+use Rattle.constraints.specs.Question.{question, alike}
 use Rattle.constraints.specs.Text.{noLine, questionText}
 use Rattle.constraints.specs.Meaning.{lineOf}
 use Rattle.constraints.specs.Demand.{Decides}
-use Rattle.question.specs.Answers.{alike}
 
 -- two sound records with equal input and output counts: the question has a 0/1 solution exactly when some frame makes their outputs
 -- differ; no line is longer than 254 bytes; and the text of each line says the line

@@ -8,12 +8,11 @@ use lib.Dec.{T, ltb, eqb, eqb→eq, lt→ltb}
 use lib.IntN.{ℤ, pos, negsuc}
 use lib.ListN.{getD}
 use Rattle.integers.specs.Lists.{below}
-use Rattle.integers.specs.Tests.{T-and, and-T, T-or, or-T}
+use Rattle.integers.specs.Tests.{T-and, and-T, T-or, or-T, or-second, not-below}
 use Rattle.integers.specs.ListLaws.{below-at, at-below}
 use Rattle.network.specs.declared.Network.{Network}
 use Rattle.network.specs.Threshold.{Feed}
 use Rattle.network.specs.Limits.{isZero}
-use Rattle.integers.specs.Tests.{or-second, not-below}
 use Rattle.network.specs.Record.{feedAt, noFeed, usedPlace, placeClear, gateClear, driverClear, spareClear}
 
 -- spare places hold 0

@@ -1,4 +1,1 @@
 pub mod PutLaws
-pub mod SignLaws
-pub mod SumLaws
-pub mod GateNumbers

@@ -11,8 +11,9 @@ use Rattle.integers.specs.Tests.{both-true}
 use Rattle.network.specs.Record.{netOf, soundRecord}
 use Rattle.network.specs.declared.Network.{Network}
 use Rattle.constraints.specs.Text.{questionText}
-use Rattle.question.specs.Answers.{alike, lineAnswer, asLineWritten}
-use Rattle.question.specs.Lines.{Comparable, Asked, linesOf}
+use Rattle.constraints.specs.Question.{alike}
+use Rattle.question.specs.Answers.{lineAnswer, asLineWritten}
+use Rattle.lines.specs.Lines.{Comparable, Asked, linesOf}
 
 -- ---- what an answer gives
 

@@ -15,7 +15,7 @@ use Rattle.constraints.specs.Question.{Line, term}
 use Rattle.constraints.specs.Text.{digits, decimal, coefficient, rightSide, variableName, termText, termsText, lineText, variableWord, constraintWord, headerText}
 use Rattle.constraints.specs.TextLaws.{terms-append}
 use Rattle.question.specs.Writes.{relationText}
-use Rattle.question.specs.FeedLaws.{feeds-more, feeds-split}
+use Rattle.lines.specs.FeedLaws.{feeds-more, feeds-split}
 
 -- ---- decimal digits
 digits-one : (k n : ℕ) → n < 10 → digits (suc k) n ≡ (48 + n) ∷ []

@@ -9,8 +9,8 @@ use Rattle.network.specs.Threshold.{Feed}
 use Rattle.constraints.specs.Text.{rightSide, termsText}
 use Rattle.constraints.specs.TextLaws.{Within}
 use Rattle.constraints.specs.SizeLaws.{Narrow}
-use Rattle.question.specs.declared.unchecked.lines.LineRecord.{LineRecord}
-use Rattle.question.specs.Lines.{lineIn}
+use Rattle.lines.specs.declared.LineRecord.{LineRecord}
+use Rattle.lines.specs.Lines.{lineIn}
 
 -- a text of r bytes stands at the front, and after it what stood there before
 pub record Put (text : List ℕ) (r : ℕ) (old new : List ℕ) : Type 0 where

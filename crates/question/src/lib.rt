@@ -6,8 +6,9 @@ ghost use lib.ListN.{length};
 ghost use Rattle.integers.specs.Refusals.{refused, stored};
 ghost use Rattle.network.specs.Record.{netOf};
 ghost use Rattle.constraints.specs.Text.{questionText};
-ghost use Rattle.question.specs.Answers.{alike, lineAnswer, asLineWritten};
-ghost use Rattle.question.specs.Lines.{Comparable, Asked, linesOf};
+ghost use Rattle.constraints.specs.Question.{alike};
+ghost use Rattle.question.specs.Answers.{lineAnswer, asLineWritten};
+ghost use Rattle.lines.specs.Lines.{Comparable, Asked, linesOf};
 ghost use Rattle.question.specs.Writes.{Put};
 
 // What `line` answers: 0 or the refusal, and the line's length with its line feed.
@@ -47,10 +48,10 @@ fn put_question(first: Network, second: Network, n: usize, out: &mut [u8]) -> us
     if n == 0 {
         let lines = line_count(first, second);
         let variables = first.inputs + first.gates + second.gates + first.outputs;
-        return unchecked::text::put_header(out, variables, lines);
+        return unchecked::put_header(out, variables, lines);
     }
-    let line = unchecked::lines::question_line(first, second, n - 1);
-    unchecked::text::put_line(out, line)
+    let line = lines::unchecked::question_line(first, second, n - 1);
+    unchecked::put_line(out, line)
 }
 
 // Line n of two networks that can be asked about, or 18 where it is longer than the lent bytes.
@@ -64,7 +65,7 @@ fn write_line(first: Network, second: Network, n: usize, out: &mut [u8]) -> Line
     if out.len() < length {
         return refusal(18);
     }
-    unchecked::text::put_bytes(out, &text[..length]);
+    unchecked::put_bytes(out, &text[..length]);
     LineWritten { code: 0, length }
 }
 

@@ -7,7 +7,7 @@ use borrow.Author.Needs.{needs}
 use borrow.Author.Tests.{not-true, not-false}
 use Rattle.integers.specs.Tests.{and-left, and-right}
 use Rattle.network.specs.Record.{soundRecord}
-use Rattle.question.specs.Lines.{Comparable}
+use Rattle.lines.specs.Lines.{Comparable}
 use Rattle.question.specs.AnswerLaws.{refused-gives, broken, unlike, no-such-line}
 use Rattle.question.proofs.line.Statement.{statement}
 use Rattle.question.proofs.line.Tie as tie

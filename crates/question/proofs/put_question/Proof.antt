@@ -9,8 +9,8 @@ use Rattle.network.specs.Record.{netOf}
 use Rattle.constraints.specs.Question.{Line}
 use Rattle.constraints.specs.Text.{lineText}
 use Rattle.constraints.specs.SizeLaws.{Narrow}
-use Rattle.question.specs.Lines.{linesOf}
-use Rattle.question.specs.ComparableLaws.{small-counts, line-narrow, text-short, header-is, line-is}
+use Rattle.lines.specs.Lines.{linesOf}
+use Rattle.lines.specs.ComparableLaws.{small-counts, line-narrow, text-short, header-is, line-is}
 use Rattle.question.proofs.PutLaws.{put-text}
 use Rattle.question.proofs.put_question.Statement.{statement}
 use Rattle.question.proofs.put_question.Tie as tie

@@ -7,14 +7,13 @@ use lib.IntN.{pos, natAbs}
 use lib.ListN.{length, getD}
 use mir.Syntax.{w32}
 use mir.Val.{toZ, ofZ}
-use borrow.Author.Needs.{sfits-of}
+use borrow.Author.Needs.{sfits-of, needs}
 use borrow.Author.Tests.{eq-eqb, ne-eqb}
 use Rattle.integers.specs.Size.{read-back}
 use Rattle.network.specs.Limits.{isZero}
 use Rattle.folding.specs.Aligned.{level, mix}
 use Rattle.alignment.specs.Alignments.{alignedIn, Mixable}
 use Rattle.alignment.proofs.Combine.{mix-at, weight-mixable, level-mixable, Combined, combined-none, combined-few, combined-drop, combined-store, combined-all}
-use borrow.Author.Needs.{needs}
 use Rattle.alignment.proofs.unchecked.merged_gate.Statement.{statement}
 use Rattle.alignment.proofs.unchecked.merged_gate.Tie as tie
 

@@ -8,14 +8,13 @@ use lib.Dec.{leb}
 use lib.ListN.{length}
 use Rattle.network.specs.Threshold.{Net}
 use Rattle.network.specs.Record.{netOf}
-use Rattle.network.specs.RecordLaws.{netOf-layout}
+use Rattle.network.specs.RecordLaws.{netOf-layout, holds-layout}
 use Rattle.network.specs.declared.Network.{Network}
 use Rattle.format.specs.Format.{fileBytes}
 use Rattle.folding.specs.Calls.{calls}
 use Rattle.runs.specs.Runs.{callsIn}
 use Rattle.network.specs.Places.{Holds}
 use Rattle.runs.specs.RunLaws.{after-sound, longest}
-use Rattle.network.specs.RecordLaws.{holds-layout}
 use Rattle.runs.proofs.unchecked.has_room.Statement.{statement}
 use Rattle.runs.proofs.unchecked.has_room.Tie as tie
 

@@ -1,0 +1,42 @@
+-- The term is stored at the first spare place.
+use mathlib.Core.Path.{_≡_}
+use lib.ListN.{length}
+use mir.Facts.{toZ-ofZ}
+use borrow.Author.Needs.{needs}
+use Rattle.lines.specs.TermLaws.{stands-more}
+use Rattle.lines.proofs.unchecked.with_term.Statement.{statement}
+use Rattle.lines.proofs.unchecked.with_term.Tie as tie
+
+mul-result : tie.Need-mul-result
+mul-result c = search needs
+
+element-write-result : tie.Need-element-write-result
+element-write-result c = search needs
+
+mul-coefficient : tie.Need-mul-coefficient
+mul-coefficient c = search needs
+
+element-set-from-coefficient : tie.Need-element-set-from-coefficient
+element-set-from-coefficient c = search needs
+
+add-result : tie.Need-add-result
+add-result c = search needs
+
+returns : tie.Need-returns
+returns c =
+    let a = c .args in
+    let lv : length (a .line .variables) ≡ 17 = search needs in
+    let lc : length (a .line .coefficients) ≡ 17 = search needs in
+    rw (toZ-ofZ (c .fits .coefficient))
+    (stands-more (a .line .count) (a .line .variables) (a .line .coefficients) (a .line .right) (a .variable) (a .coefficient) (c .pre) lv lc)
+
+pub with-term-spec : {M : Type 1} → statement M
+with-term-spec =
+    tie.close
+    (tie.spec
+    mul-result
+    element-write-result
+    mul-coefficient
+    element-set-from-coefficient
+    add-result
+    returns)

@@ -1,0 +1,6 @@
+pub mod Lines
+pub mod FeedLaws
+pub mod TermLaws
+pub mod StretchLaws
+pub mod ComparableLaws
+pub mod NumberLaws

@@ -1,0 +1,64 @@
+-- The word, and the digits in the part after it.
+use Prim.Native.Nat.{_+_, _≤_}
+use native.Mathlib.Omega.{arith}
+use lib.ListN.{length}
+use borrow.Author.Needs.{needs}
+use Rattle.integers.specs.WriteLaws.{tail-length}
+use Rattle.question.proofs.PutLaws.{put-part, put-length}
+use Rattle.question.proofs.unchecked.put_number.Statement.{statement}
+use Rattle.question.proofs.unchecked.put_number.Tie as tie
+
+-- the word leaves room for the digits
+room : (c : tie.After-put-bytes) → c .put-bytes .result ≤ length (c .before .before .before .before .args .out .now)
+room c = omega (arith, c .put-bytes .ensures .long, c .before .before .before .before .pre)
+
+-- and the digits have room
+end : (c : tie.After-put-decimal) → c .before .before .before .before .put-bytes .result + c .put-decimal .result ≤ length (c .before .before .before .before .before .before .before .before .args .out .now)
+end c =
+    let first = c .before .before .before .before in
+    omega (arith, first .put-bytes .ensures .long, c .put-decimal .ensures .long, first .before .before .before .before .pre)
+
+put-bytes-requires : tie.Need-put-bytes-requires
+put-bytes-requires c κs = omega (arith, c .before .before .before .pre)
+
+sub-put-decimal : tie.Need-sub-put-decimal
+sub-put-decimal c = let done = c .before .before in omega (arith, room done, put-length (done .put-bytes .ensures) (room done))
+
+part-put-decimal-start : tie.Need-part-put-decimal-start
+part-put-decimal-start c = let done = c .before .before in omega (arith, room done, put-length (done .put-bytes .ensures) (room done))
+
+part-put-decimal-end : tie.Need-part-put-decimal-end
+part-put-decimal-end c = search needs
+
+put-decimal-requires : tie.Need-put-decimal-requires
+put-decimal-requires c κs =
+    let done = c .before .before .before in
+    omega (
+      arith,
+      tail-length (done .put-bytes .result) (done .put-bytes .last .0),
+      put-length (done .put-bytes .ensures) (room done),
+      done .put-bytes .ensures .long,
+      done .before .before .before .before .pre,
+    )
+
+add-result : tie.Need-add-result
+add-result c = record { fits = omega (arith, end (c .before .before), c .before .before .before .before .before .before .before .before .before .before .good .0 .0) }
+
+returns : tie.Need-returns
+returns c = let done = c .before .before in put-part (done .before .before .before .before .put-bytes .ensures) (end done) (done .put-decimal .ensures)
+
+same-length : tie.Need-same-length
+same-length c = put-length (returns c) (end (c .before .before))
+
+pub put-number-spec : {M : Type 1} → statement M
+put-number-spec =
+    tie.close
+    (tie.spec
+    put-bytes-requires
+    sub-put-decimal
+    part-put-decimal-start
+    part-put-decimal-end
+    put-decimal-requires
+    add-result
+    same-length
+    returns)
