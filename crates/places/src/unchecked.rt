@@ -92,7 +92,7 @@ pub fn replace_gate(network: Network, v: usize, gate: GateRecord) -> Network
 
 // The place that moves to place p when gap places from first on are taken out.
 fn origin_of(first: usize, gap: usize, p: usize) -> usize
-    requires { ⌜ p + gap ≤ 2048 ⌝ }
+    requires { ⌜ p + gap ≤ 4096 ⌝ }
     ensures { λ r. ⌜ r ≡ origin first gap p ⌝ }
 {
     if p < first { p } else { p + gap }
@@ -121,22 +121,6 @@ fn fanins_without(fanins: &[u8; 128], g: usize) -> [u8; 128]
     result
 }
 
-// The thresholds without gate g's.
-fn thresholds_without(thresholds: &[i32; 128], g: usize) -> [i32; 128]
-    requires { ⌜ (g ≤ 127) × (length (now thresholds) ≡ 128) ⌝ }
-    ensures { λ r. ⌜ r ≡ withoutPlaces (pos 0) 128 g 1 (now (thresholds .entry)) ⌝ }
-{
-    let mut result = [0i32; 128];
-    let mut h: usize = 0;
-    while h < 127 {
-        let from = origin_of(g, 1, h);
-        let threshold = thresholds[from];
-        result[h] = threshold;
-        h = h + 1;
-    }
-    result
-}
-
 // The signals without the 16 from place first on, each lowered for the gate with signal u.
 fn signals_without(signals: &[u8; 2048], first: usize, u: usize) -> [u8; 2048]
     requires { ⌜ (first ≤ 2032) × (length (now signals) ≡ 2048) ⌝ }
@@ -153,20 +137,23 @@ fn signals_without(signals: &[u8; 2048], first: usize, u: usize) -> [u8; 2048]
     result
 }
 
-// The weights without the 16 from place first on.
-fn weights_without(weights: &[i32; 2048], first: usize) -> [i32; 2048]
-    requires { ⌜ (first ≤ 2032) × (length (now weights) ≡ 2048) ⌝ }
-    ensures { λ r. ⌜ r ≡ withoutPlaces (pos 0) 2048 first 16 (now (weights .entry)) ⌝ }
+// The integer at a place; 0 past the end.
+fn integer_at(integers: &[i32], p: usize) -> i32
+    ensures { λ r. ⌜ r ≡ getD (now (integers .entry)) p (pos 0) ⌝ }
 {
-    let mut result = [0i32; 2048];
-    let mut p: usize = 0;
-    while p < 2032 {
-        let from = origin_of(first, 16, p);
-        let weight = weights[from];
-        result[p] = weight;
-        p = p + 1;
+    if p < integers.len() { integers[p] } else { 0 }
+}
+
+// The integers without the gap ones from place first on; 0 past their end.
+fn integers_without(integers: &[i32], first: usize, gap: usize, out: &mut [i32])
+    requires { ⌜ (length (now out) ≡ length (now integers)) × (length (now integers) + gap ≤ 4096) ⌝ }
+    ensures { λ _. ⌜ now (out .exit) ≡ withoutPlaces (pos 0) (length (now (integers .entry))) first gap (now (integers .entry)) ⌝ }
+{
+    for p in 0..out.len() {
+        let from = origin_of(first, gap, p);
+        let integer = integer_at(integers, from);
+        out[p] = integer;
     }
-    result
 }
 
 // The outputs' signals after the gate with signal u is gone.
@@ -194,8 +181,10 @@ pub fn remove_gate(network: Network, u: usize) -> Network
     let gates = network.gates - 1;
     let fanins = fanins_without(&network.fanins, g);
     let signals = signals_without(&network.signals, first, u);
-    let weights = weights_without(&network.weights, first);
-    let thresholds = thresholds_without(&network.thresholds, g);
+    let mut weights = [0i32; 2048];
+    integers_without(&network.weights, first, 16, &mut weights);
+    let mut thresholds = [0i32; 128];
+    integers_without(&network.thresholds, g, 1, &mut thresholds);
     let drivers = lowered_drivers(&network.drivers, u);
     let mut result = network;
     result.gates = gates;
