@@ -1,83 +1,69 @@
-// One line for each call: the network's name, the call with its numbers, and after the sign of equality the code, the numbers that the
-// call answered, and what it left.
+// The calls on records. Each prints the code, the numbers that the call answered, and what it left.
+use crate::script::Numbers;
 use crate::show::end;
 use crate::show::left;
 use crate::show::number;
-use crate::show::size;
-use crate::show::text;
 use folding::Call;
+use integers::wide;
+use merging::Changed;
+use merging::PairFound;
 use network::Network;
 use sweeping::Outcome;
 
-// The end of a line's call, and the code.
-fn answered(code: u8) {
-    text(b" =");
-    number(code as u64);
+// The answer of a merge, a drop or a collapse.
+fn changed(before: Network, r: Changed) {
+    number(wide(r.code));
+    left(r.code, before, r.network);
 }
 
-pub fn merge(name: &[u8], network: Network, u: usize, v: usize, k: usize, l: usize) {
-    let r = merging::merge(network, u, v, k, l);
-    text(name);
-    text(b" merge");
-    size(u);
-    size(v);
-    size(k);
-    size(l);
-    answered(r.code);
-    left(r.code, network, r.network);
+// The answer of a sweep or of a call of a list: the number is that of the collapses.
+fn counted(before: Network, r: Outcome) {
+    number(wide(r.code));
+    number(r.collapses);
+    left(r.code, before, r.network);
 }
 
-// The numbers are k and l.
-pub fn pair(name: &[u8], network: Network, u: usize, v: usize) {
-    let r = merging::pair(network, u, v);
-    text(name);
-    text(b" pair");
-    size(u);
-    size(v);
-    answered(r.code);
-    size(r.k);
-    size(r.l);
+// The answer of a pair: the numbers are k and l.
+fn found(r: PairFound) {
+    number(wide(r.code));
+    number(r.k);
+    number(r.l);
     end();
 }
 
-pub fn drop_gate(name: &[u8], network: Network, s: usize) {
-    let r = collapse::drop_gate(network, s);
-    text(name);
-    text(b" drop");
-    size(s);
-    answered(r.code);
-    left(r.code, network, r.network);
+// The call with a first letter and with numbers.
+pub fn call(letter: u8, network: Network, n: Numbers) {
+    match letter {
+        b'm' => changed(
+            network,
+            merging::merge(network, n.first, n.second, n.third, n.fourth),
+        ),
+        b'p' => found(merging::pair(network, n.first, n.second)),
+        b'd' => changed(network, collapse::drop_gate(network, n.first)),
+        b'c' => changed(network, collapse::collapse(network, n.first)),
+        b's' => counted(network, sweeping::sweep(network, n.first)),
+        _ => end(),
+    }
 }
 
-pub fn collapse(name: &[u8], network: Network, s: usize) {
-    let r = collapse::collapse(network, s);
-    text(name);
-    text(b" collapse");
-    size(s);
-    answered(r.code);
-    left(r.code, network, r.network);
+// A call of a list, by its first letter and its numbers.
+fn listed(letter: u8, n: Numbers) -> Call {
+    match letter {
+        b'm' => Call::Merge {
+            u: n.first,
+            v: n.second,
+            k: n.third,
+            l: n.fourth,
+        },
+        b'd' => Call::Drop { s: n.first },
+        b'c' => Call::Collapse { s: n.first },
+        _ => Call::Sweep { b: n.first },
+    }
 }
 
-// The number is that of the collapses.
-fn outcome(network: Network, r: Outcome) {
-    answered(r.code);
-    size(r.collapses);
-    left(r.code, network, r.network);
-}
-
-pub fn sweep(name: &[u8], network: Network, b: usize) {
-    let r = sweeping::sweep(network, b);
-    text(name);
-    text(b" sweep");
-    size(b);
-    outcome(network, r);
-}
-
-// A call of a list; the answer is the network that it leaves. The number is that of the collapses.
-pub fn apply(name: &[u8], network: Network, call: Call) -> Network {
-    let r = sweeping::apply(network, call);
-    text(name);
-    text(b" apply");
-    outcome(network, r);
+// A call of a list; the answer is the network that it leaves.
+pub fn apply(letter: u8, network: Network, n: Numbers) -> Network {
+    let r = sweeping::apply(network, listed(letter, n));
+    counted(network, r);
     r.network
 }

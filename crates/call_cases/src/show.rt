@@ -8,23 +8,35 @@ pub fn text(bytes: &[u8]) {
     io::write_all(STDOUT_FILENO, bytes);
 }
 
-// A space and a number.
-pub fn number(n: u64) {
-    text(b" ");
-    io::print_decimal(STDOUT_FILENO, n);
+// The bytes from a place on, up to an end.
+pub fn part(bytes: &[u8], from: usize, end: usize) {
+    if end < from {
+        return;
+    }
+    if bytes.len() < end {
+        return;
+    }
+    text(&bytes[from..end]);
 }
 
-// A space and a number of a call.
-pub fn size(n: usize) {
-    number(n as u64);
+// A space and a byte.
+fn mark(byte: u8) {
+    let bytes = [b' ', byte];
+    text(&bytes);
+}
+
+// A space and a number.
+pub fn number(n: usize) {
+    text(b" ");
+    io::print_decimal(STDOUT_FILENO, n as u64);
 }
 
 // A space, a sign and a size.
 fn signed(z: i32) {
     if z < 0 {
-        text(b" -");
+        mark(b'-');
     } else {
-        text(b" +");
+        mark(b'+');
     }
     io::print_decimal(STDOUT_FILENO, magnitude(z) as u64);
 }
@@ -33,134 +45,108 @@ pub fn end() {
     text(b"\n");
 }
 
-// The feeds from a place on, up to an end: each signal with its weight.
-fn feeds<'a>(signals: &'a [u8; 2048], weights: &'a [i32; 2048], first: usize, last: usize) {
+// What a record holds at a place of the feeds: a feed, the fan-in and the threshold of its gate, and an output. There are 16 places to
+// a gate and 128 to an output, so that the 2,048 places reach every number of the arrays.
+struct Held {
+    signal: u8,
+    weight: i32,
+    fanin: u8,
+    threshold: i32,
+    driver: u8,
+}
+
+fn held_at(network: Network, place: usize) -> Held {
+    let p = place % 2048;
+    let g = p / 16;
+    let j = p / 128;
+    Held {
+        signal: network.signals[p],
+        weight: network.weights[p],
+        fanin: network.fanins[g],
+        threshold: network.thresholds[g],
+        driver: network.drivers[j],
+    }
+}
+
+// The feeds in the places from one on, up to an end: each signal with its weight.
+fn feeds(network: Network, first: usize, last: usize) {
     let mut p = first;
     while p < last {
-        if 2048 <= p {
-            return;
-        }
-        size(wide(signals[p]));
-        signed(weights[p]);
+        let held = held_at(network, p);
+        number(wide(held.signal));
+        signed(held.weight);
         p = p + 1;
     }
 }
 
-// The gate with a signal: the signal, and in brackets its feeds and its threshold.
-fn gate<'a>(
-    fanins: &'a [u8; 128],
-    thresholds: &'a [i32; 128],
-    signals: &'a [u8; 2048],
-    weights: &'a [i32; 2048],
-    inputs: usize,
-    signal: usize,
-) {
-    if signal < inputs {
-        return;
-    }
-    let g = signal - inputs;
-    if 128 <= g {
-        return;
-    }
-    size(signal);
-    text(b" [");
-    let count = wide(fanins[g]);
-    feeds(signals, weights, 16 * g, 16 * g + count);
-    text(b" ;");
-    signed(thresholds[g]);
-    text(b" ]");
+// Gate g: in brackets its feeds and its threshold.
+fn gate(network: Network, g: usize) {
+    let first = 16 * (g % 128);
+    let held = held_at(network, first);
+    mark(b'[');
+    feeds(network, first, first + wide(held.fanin));
+    mark(b';');
+    signed(held.threshold);
+    mark(b']');
 }
 
-// The gates from a signal on, up to an end.
-fn gates<'a>(
-    fanins: &'a [u8; 128],
-    thresholds: &'a [i32; 128],
-    signals: &'a [u8; 2048],
-    weights: &'a [i32; 2048],
-    inputs: usize,
-    last: usize,
-) {
-    let mut signal = inputs;
-    while signal < last {
-        gate(fanins, thresholds, signals, weights, inputs, signal);
-        signal = signal + 1;
+// The gates, each after its signal.
+fn gates(network: Network) {
+    let mut g: usize = 0;
+    while g < 128 {
+        if network.gates <= g {
+            return;
+        }
+        number(std::num::wrapping_add_usize(network.inputs, g));
+        gate(network, g);
+        g = g + 1;
     }
 }
 
 // The outputs' signals.
-fn outputs(drivers: &[u8; 16], count: usize) {
+fn outputs(network: Network) {
     let mut j: usize = 0;
-    while j < count {
-        if 16 <= j {
+    while j < 16 {
+        if network.outputs <= j {
             return;
         }
-        size(wide(drivers[j]));
+        number(wide(held_at(network, 128 * j).driver));
         j = j + 1;
     }
 }
 
 // A network: its gates, its outputs, and whether it is sound.
-pub fn network(network: Network) {
-    let inputs = network.inputs;
-    let count = network.gates;
-    if 40 < inputs {
-        return;
-    }
-    if 128 < count {
-        return;
-    }
+fn network(network: Network) {
     text(b" gates");
-    gates(
-        &network.fanins,
-        &network.thresholds,
-        &network.signals,
-        &network.weights,
-        inputs,
-        inputs + count,
-    );
+    gates(network);
     text(b" outputs");
-    outputs(&network.drivers, network.outputs);
+    outputs(network);
     if network::soundness::is_sound(network) {
         text(b" sound");
     }
 }
 
-fn same_bytes(a: &[u8], b: &[u8]) -> bool {
-    let mut i: usize = 0;
-    while i < a.len() {
-        if b.len() <= i {
-            return false;
-        }
-        if a[i] != b[i] {
-            return false;
-        }
-        i = i + 1;
-    }
-    true
+fn same_held(a: Held, b: Held) -> bool {
+    (a.signal == b.signal)
+        & (a.weight == b.weight)
+        & (a.fanin == b.fanin)
+        & (a.threshold == b.threshold)
+        & (a.driver == b.driver)
 }
 
-fn same_numbers(a: &[i32], b: &[i32]) -> bool {
-    let mut i: usize = 0;
-    while i < a.len() {
-        if b.len() <= i {
-            return false;
-        }
-        if a[i] != b[i] {
-            return false;
-        }
-        i = i + 1;
-    }
-    true
-}
-
-// Whether two records have the same number at every place.
+// Whether two records have the same counts, and the same numbers at every place.
 fn same(a: Network, b: Network) -> bool {
-    let counts = (a.inputs == b.inputs) & (a.gates == b.gates) & (a.outputs == b.outputs);
-    let bytes = same_bytes(&a.fanins, &b.fanins)
-        & same_bytes(&a.signals, &b.signals)
-        & same_bytes(&a.drivers, &b.drivers);
-    let numbers = same_numbers(&a.weights, &b.weights) & same_numbers(&a.thresholds, &b.thresholds);
-    counts & bytes & numbers
+    if (a.inputs != b.inputs) | (a.gates != b.gates) | (a.outputs != b.outputs) {
+        return false;
+    }
+    let mut p: usize = 0;
+    while p < 2048 {
+        if !same_held(held_at(a, p), held_at(b, p)) {
+            return false;
+        }
+        p = p + 1;
+    }
+    true
 }
 
 // What a call left: the network where it was accepted; else whether the record is the one that came in.

@@ -1,14 +1,14 @@
--- Every index is in range, and the loop ends. Assumes nothing.
+-- The loop ends. Assumes nothing.
 use Prim.Native.Nat.{_≤_, _-_}
 use borrow.Author.Needs.{needs}
 use Rattle.call_cases.proofs.show.outputs.Statement.{statement}
 use Rattle.call_cases.proofs.show.outputs.Tie as tie
 
 abbrev Inv-loop : tie.InvT-loop
-Inv-loop drivers count j₀ j = j ≤ 16
+Inv-loop network j₀ j = j ≤ 16
 
 abbrev μ-loop : tie.MeasureT-loop
-μ-loop drivers count j₀ j = count - j
+μ-loop network j₀ j = 16 - j
 
 loop-holds : tie.Need-loop-holds Inv-loop μ-loop
 loop-holds c = search needs
@@ -16,14 +16,17 @@ loop-holds c = search needs
 returns : tie.Need-returns Inv-loop μ-loop
 returns c = search needs
 
-element-copy-out-wide : tie.Need-element-copy-out-wide Inv-loop μ-loop
-element-copy-out-wide c = search needs
+mul-held-at : tie.Need-mul-held-at Inv-loop μ-loop
+mul-held-at c = search needs
+
+held-at-requires : tie.Need-held-at-requires Inv-loop μ-loop
+held-at-requires c κs = search needs
 
 wide-requires : tie.Need-wide-requires Inv-loop μ-loop
 wide-requires c κs = search needs
 
-size-requires : tie.Need-size-requires Inv-loop μ-loop
-size-requires c κs = search needs
+number-requires : tie.Need-number-requires Inv-loop μ-loop
+number-requires c κs = search needs
 
 add-j : tie.Need-add-j Inv-loop μ-loop
 add-j c = search needs
@@ -45,9 +48,10 @@ outputs-spec =
     μ-loop
     loop-holds
     returns
-    element-copy-out-wide
+    mul-held-at
+    held-at-requires
     wide-requires
-    size-requires
+    number-requires
     add-j
     loop-less
     loop-again
