@@ -10,9 +10,9 @@ use lib.Seq.{length-take-le, getD-take}
 use mir.Syntax.{w32}
 use mir.Val.{SFits}
 use Rattle.integers.specs.Lists.{below, keep, range}
-use Rattle.integers.specs.Tests.{T-and}
+use Rattle.integers.specs.TestLaws.{T-and}
 use Rattle.integers.specs.ListLaws.{below-at, length-keep, length-range, range-more}
-use Rattle.integers.specs.Size.{size-sub, fits-size}
+use Rattle.integers.specs.SizeLaws.{size-sub, fits-size}
 use Rattle.network.specs.Threshold.{Feed}
 use Rattle.network.specs.Limits.{signalsOf, inScale, isZero}
 use Rattle.network.specs.Record.{gateRecord}

@@ -9,7 +9,7 @@ use lib.IntN.{ℤ, pos}
 use lib.ListN.{length, getD, set, replicate, length-append}
 use borrow.Author.Tests.{eqb-true}
 use Rattle.integers.specs.Lists.{keep, range, other}
-use Rattle.integers.specs.Tests.{T-is, test-same}
+use Rattle.integers.specs.TestLaws.{T-is, test-same}
 use Rattle.integers.specs.ListLaws.{length-keep, length-range, range-more, getD-tab}
 use Rattle.network.specs.Threshold.{Feed}
 use Rattle.network.specs.Limits.{isZero}

@@ -8,7 +8,7 @@ use lib.IntN.{ℤ, pos, natAbs, _*ℤ_}
 use mir.Syntax.{w32, w64}
 use mir.Val.{SFits, toZ}
 use mir.Facts.{toZ-pos}
-use Rattle.integers.specs.Size.{size-add, size-mul, size-fits}
+use Rattle.integers.specs.SizeLaws.{size-add, size-mul, size-fits}
 use Rattle.network.specs.Limits.{inScale}
 use Rattle.alignment.specs.Alignments.{mixOf, Mixable}
 

@@ -11,9 +11,9 @@ use lib.ListN.{length, drop}
 use lib.Seq.{sets, sets-eq}
 use Rattle.integers.specs.Refusals.{Answer, accepted, refused, Test, _else_, checks, bind, codeOf, stored}
 use Rattle.integers.specs.RefusalLaws.{checks-first, checks-next}
-use Rattle.integers.specs.Tests.{is-true}
+use Rattle.integers.specs.TestLaws.{is-true}
 use Rattle.network.specs.Threshold.{Net}
-use Rattle.network.specs.LimitLaws.{Sound}
+use Rattle.network.specs.Sound.{Sound}
 use Rattle.network.specs.Record.{layout, soundRecord}
 use Rattle.network.specs.RecordLaws.{sound-layout}
 use Rattle.network.specs.declared.Network.{Network}

@@ -10,10 +10,10 @@ use lib.Dec.{leb}
 use lib.ListN.{length, drop}
 use Rattle.integers.specs.Refusals.{Answer, accepted, refused, Test, _else_, checks, bind, codeOf, stored}
 use Rattle.integers.specs.RefusalLaws.{checks-first, checks-next, checks-none}
-use Rattle.integers.specs.Tests.{is-true, is-false, cond-case}
+use Rattle.integers.specs.TestLaws.{is-true, is-false, cond-case}
 use Rattle.network.specs.Threshold.{Net, frame, fitsFrame, outputBits, wordOf, onesOf}
 use Rattle.network.specs.Limits.{isGate, sound}
-use Rattle.network.specs.LimitLaws.{Sound}
+use Rattle.network.specs.Sound.{Sound}
 use Rattle.network.specs.Record.{netOf, layout, soundRecord}
 use Rattle.network.specs.RecordLaws.{netOf-layout, sound-layout}
 use Rattle.evaluation.specs.Reading.{frameAnswer, asReading, reading}

@@ -8,14 +8,14 @@ use lib.Dec.{leb}
 use lib.ListN.{length}
 use Rattle.integers.specs.Refusals.{Answer, accepted, refused, Test, _else_, checks, codeOf, stored}
 use Rattle.integers.specs.RefusalLaws.{checks-next}
-use Rattle.integers.specs.Tests.{is-true, both-true}
+use Rattle.integers.specs.TestLaws.{is-true, both-true}
 use Rattle.network.specs.Threshold.{Net}
-use Rattle.network.specs.LimitLaws.{Sound}
+use Rattle.network.specs.Sound.{Sound}
 use Rattle.network.specs.Record.{layout, soundRecord}
 use Rattle.network.specs.RecordLaws.{netOf-layout, sound-layout}
 use Rattle.network.specs.declared.Network.{Network}
 use Rattle.pmn.specs.OpenLaws.{Opened}
-use Rattle.folding.specs.RefusalMore.{NoneSays}
+use Rattle.folding.specs.RefusalLaws.{NoneSays}
 use Rattle.constraints.specs.Question.{question, alike}
 use Rattle.constraints.specs.Text.{questionText}
 use Rattle.collapse.specs.FuseLaws.{Numbered}

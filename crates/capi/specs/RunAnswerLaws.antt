@@ -10,7 +10,7 @@ use lib.ListN.{length, drop}
 use lib.Seq.{paste, take-length}
 use Rattle.integers.specs.Refusals.{Answer, accepted, refused, Test, _else_, checks, codeOf, stored}
 use Rattle.integers.specs.RefusalLaws.{checks-first, checks-next, checks-none}
-use Rattle.integers.specs.Tests.{both-true, and-false-left, and-false-right}
+use Rattle.integers.specs.TestLaws.{both-true, and-false-left, and-false-right}
 use Rattle.network.specs.Threshold.{Net}
 use Rattle.network.specs.Record.{netOf, layout}
 use Rattle.network.specs.RecordLaws.{netOf-layout, holds-layout}

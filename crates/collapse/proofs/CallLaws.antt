@@ -9,7 +9,7 @@ use lib.Dec.{leb, ltb, eqb}
 use lib.ListN.{length}
 use Rattle.integers.specs.Lists.{all, keep, other}
 use Rattle.integers.specs.Refusals.{accepted, refused, checks}
-use Rattle.integers.specs.Tests.{and-left}
+use Rattle.integers.specs.TestLaws.{and-left}
 use Rattle.network.specs.Threshold.{Gate}
 use Rattle.network.specs.Limits.{isGate, sound}
 use Rattle.network.specs.Record.{netOf, layout, spareClear, soundRecord}

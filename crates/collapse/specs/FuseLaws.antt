@@ -9,11 +9,11 @@ use native.Mathlib.Omega.{arith}
 use borrow.Author.Tests.{eq-eqb, ne-eqb}
 use lib.Dec.{T, not-T, leb→le}
 use Rattle.integers.specs.Lists.{range, tab}
-use Rattle.integers.specs.Tests.{is-true, T-isnt, not-not, cond-case}
-use Rattle.integers.specs.Refusals.{Answer, accepted, refused, checks, bind}
+use Rattle.integers.specs.TestLaws.{is-true, T-isnt, not-not, cond-case}
+use Rattle.integers.specs.Refusals.{Answer, accepted, refused, checks, bind, Refused}
 use Rattle.integers.specs.RefusalLaws.{accepted≢refused, accepted-inj}
 use Rattle.network.specs.Threshold.{Gate}
-use Rattle.network.specs.LimitLaws.{GateOk}
+use Rattle.network.specs.Sound.{GateOk}
 use Rattle.network.specs.Record.{gateOf, netOf}
 use Rattle.network.specs.Changes.{gateAt, without}
 use Rattle.network.specs.Places.{SoundGate}
@@ -22,7 +22,6 @@ use Rattle.network.specs.declared.Network.{Network}
 use Rattle.folding.specs.Merge.{Edge, silent, reads, merged, withGrain, narrow}
 use Rattle.folding.specs.Pair.{Pair, pairs, qualifies, first, pairOf}
 use Rattle.folding.specs.Collapse.{fuse, fuseAll, withGates}
-use Rattle.folding.specs.RefusalMore.{Refused}
 use Rattle.folding.specs.SoundLaws.{merged-ok, reader-above}
 use Rattle.folding.specs.PairLaws.{qualified-of, dial-of, pairOf-found}
 use Rattle.merging.specs.Answers.{asPair}

@@ -8,7 +8,7 @@ use Prim.Native.Nat.{ℕ, _+_, _-_, _<_}
 use lib.Dec.{eqb}
 use lib.ListN.{getD}
 use Rattle.integers.specs.Lists.{tab}
-use Rattle.integers.specs.Refusals.{Answer, accepted, refused, bind}
+use Rattle.integers.specs.Refusals.{Answer, accepted, refused, bind, Refused}
 use Rattle.network.specs.Threshold.{Gate, Net}
 use Rattle.network.specs.Record.{gateOf, netOf}
 use Rattle.network.specs.Changes.{gateAt, without}
@@ -16,7 +16,6 @@ use Rattle.network.specs.declared.Network.{Network}
 use Rattle.folding.specs.Merge.{Edge, silent, merged}
 use Rattle.folding.specs.Pair.{Pair, pairOf}
 use Rattle.folding.specs.Collapse.{fuseAll, withGates}
-use Rattle.folding.specs.RefusalMore.{Refused}
 use Rattle.collapse.specs.declared.Pairs.{Pairs}
 
 -- a collapse of u, once 20, 11 and 17 do not apply

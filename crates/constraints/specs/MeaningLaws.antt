@@ -9,14 +9,15 @@ use native.Mathlib.Omega.{arith}
 use lib.Dec.{T, ltb, ltb→lt}
 use lib.IntN.{ℤ, pos, negsuc, negℤ, natAbs}
 use lib.ListN.{length, getD}
-use Rattle.integers.specs.ListLaws.{Each, each-imp, each-getD}
-use Rattle.integers.specs.Tests.{eqb-no}
+use Rattle.integers.specs.Lists.{Each}
+use Rattle.integers.specs.ListLaws.{each-imp, each-getD}
+use Rattle.integers.specs.TestLaws.{eqb-no}
 use Rattle.network.specs.Threshold.{Feed, Net}
-use Rattle.network.specs.LimitLaws.{Sound}
+use Rattle.network.specs.Sound.{Sound}
 use Rattle.constraints.specs.Question.{Line, question}
 use Rattle.constraints.specs.Text.{digits, decimal, coefficient, rightSide, variableName, termText, termsText, lineText, noLine, questionText}
 use Rattle.constraints.specs.Meaning.{prepend, words, numberAfter, signedOf, variableOf, isRelation, withTerm, lineOfWords, lineOf}
-use Rattle.constraints.specs.ListMore.{each-append}
+use Rattle.constraints.specs.MemberLaws.{each-append}
 use Rattle.constraints.specs.TextLaws.{Within}
 use Rattle.constraints.specs.SizeLaws.{Narrow, question-narrow}
 

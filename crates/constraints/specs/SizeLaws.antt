@@ -8,17 +8,18 @@ use lib.Dec.{T, ltb, leb→le}
 use lib.IntN.{ℤ, pos, negsuc, natAbs, _+ℤ_, _-ℤ_}
 use lib.Signed.{nonNeg}
 use lib.ListN.{length, length-append, length-map}
-use Rattle.integers.specs.Lists.{all, range}
-use Rattle.integers.specs.ListLaws.{Each, each-of, each-imp, each-getD, length-range}
-use Rattle.integers.specs.Size.{size-neg, size-add, size-sub}
-use Rattle.integers.specs.Tests.{T-and}
+use Rattle.integers.specs.Lists.{all, range, Each}
+use Rattle.integers.specs.ListLaws.{each-of, each-imp, each-getD, length-range}
+use Rattle.integers.specs.SizeLaws.{size-neg, size-add, size-sub}
+use Rattle.integers.specs.TestLaws.{T-and}
 use Rattle.network.specs.Threshold.{Feed, Gate, Net}
 use Rattle.network.specs.Limits.{signalsOf, inScale, weightOk, scaleOk}
-use Rattle.network.specs.LimitLaws.{GateOk, Gates, Has, Sound, rise-below}
+use Rattle.network.specs.Sound.{GateOk, Gates, Has, Sound}
+use Rattle.network.specs.LimitLaws.{rise-below}
 use Rattle.constraints.specs.Question.{Line, most, least, term, negated, upper, lower, secondVariable, overGate, gateLines, someLine, notBothLine, outputLines, lastLine, firstDifference, question, variables}
 use Rattle.constraints.specs.Text.{termsText, lineText, noLine, variableWord, constraintWord, headerText, questionText}
 use Rattle.constraints.specs.Stretches.{secondOf, firstLines, secondLines, pairLines, lastOf}
-use Rattle.constraints.specs.ListMore.{each-append, each-both, each-map, map-each, each-range}
+use Rattle.constraints.specs.MemberLaws.{each-append, each-both, each-map, map-each, each-range}
 use Rattle.constraints.specs.LineLaws.{question-is, question-length}
 use Rattle.constraints.specs.TextLaws.{decimal-short, Within, terms-short, terms-append, right-short, line-length}
 

@@ -7,8 +7,8 @@ use native.Mathlib.Omega.{arith}
 use lib.Dec.{ltb, lt→ltb}
 use lib.IntN.{ℤ, pos, negsuc, natAbs}
 use lib.ListN.{length, length-append}
-use Rattle.integers.specs.ListLaws.{Each}
-use Rattle.integers.specs.Tests.{is-true}
+use Rattle.integers.specs.Lists.{Each}
+use Rattle.integers.specs.TestLaws.{is-true}
 use Rattle.network.specs.Threshold.{Feed}
 use Rattle.constraints.specs.Question.{Line}
 use Rattle.constraints.specs.Text.{digits, decimal, coefficient, rightSide, variableName, termText, termsText, lineText}

@@ -5,7 +5,7 @@ use mathlib.Core.Bool.{Bool}
 use mathlib.Core.List.{List, [], _∷_, map}
 use Prim.Native.Nat.{ℕ, suc, _+_, _<_}
 use lib.ListN.{length}
-use Rattle.integers.specs.ListLaws.{Each}
+use Rattle.integers.specs.Lists.{Each}
 use Rattle.network.specs.Threshold.{Gate, Net, Assignment, bit}
 use Rattle.network.specs.Limits.{signalsOf}
 

@@ -10,12 +10,14 @@ use native.Mathlib.Omega.{arith}
 use lib.Dec.{T, eqb, eqb→eq, eqb-refl}
 use lib.Signed.{leZ}
 use lib.ListN.{length, getD, length-map}
-use Rattle.integers.specs.Tests.{is-true, eqb-no}
-use Rattle.integers.specs.ListLaws.{Each, each-imp}
+use Rattle.integers.specs.TestLaws.{is-true, eqb-no}
+use Rattle.integers.specs.Lists.{Each}
+use Rattle.integers.specs.ListLaws.{each-imp}
 use Rattle.network.specs.Threshold.{Feed, Gate, Net, Assignment, sum, bit, assign, run, values, outputBits}
 use Rattle.network.specs.Limits.{signalsOf}
 use Rattle.network.specs.Changes.{gateAt}
-use Rattle.network.specs.LimitLaws.{Gates, Has, Sound, rise-below}
+use Rattle.network.specs.Sound.{Gates, Has, Sound}
+use Rattle.network.specs.LimitLaws.{rise-below}
 use Rattle.equivalence.specs.Consistent.{Vals, Fits, Agree, Ordered, Good, Carried, Sim}
 
 -- ---- a gate's bit depends only on the bits of its feeds

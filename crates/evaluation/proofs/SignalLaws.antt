@@ -12,7 +12,7 @@ use lib.ListN.{length, getD, set, replicate, length-set, length-replicate}
 use lib.Pow.{pow-pos, pow-mono}
 use lib.Seq.{getD-set-same, getD-set-other}
 use Rattle.integers.specs.Lists.{range, other}
-use Rattle.integers.specs.Tests.{T-is, cond-case, other-ne}
+use Rattle.integers.specs.TestLaws.{T-is, cond-case, other-ne}
 use Rattle.network.specs.Threshold.{Gate, Assignment, bit, assign, run, frame, fitsFrame}
 use Rattle.evaluation.specs.Evaluation.{bitsIn}
 

@@ -10,7 +10,7 @@ use lib.ListN.{getD}
 use mir.Syntax.{w64}
 use mir.Val.{SFits, boolByte, toZ}
 use Rattle.integers.specs.Lists.{range}
-use Rattle.integers.specs.Size.{size-add, size-fits}
+use Rattle.integers.specs.SizeLaws.{size-add, size-fits}
 use Rattle.network.specs.Threshold.{Assignment, sum}
 use Rattle.network.specs.Record.{feedAt, feedsFrom}
 use Rattle.evaluation.specs.Evaluation.{bitsIn}

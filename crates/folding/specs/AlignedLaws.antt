@@ -11,11 +11,12 @@ use lib.IntN.{ℤ, pos, natAbs, _+ℤ_, _*ℤ_, +ℤ-comm}
 use lib.Signed.{leZ}
 use lib.ListN.{length, getD, length-map}
 use Rattle.integers.specs.Lists.{all, below, every, keep, other}
-use Rattle.integers.specs.Tests.{is-true, not-not, T-and, and-true, and-assoc, ne-other}
+use Rattle.integers.specs.TestLaws.{is-true, not-not, T-and, and-true, and-assoc, ne-other}
 use Rattle.integers.specs.ListLaws.{of-each, has-each}
 use Rattle.network.specs.Threshold.{Feed, Gate, sum, bit, assign}
 use Rattle.network.specs.Limits.{signalsOf, inScale, isZero, weightOk, scaleOk}
-use Rattle.network.specs.LimitLaws.{Rise, GateOk, rise-below}
+use Rattle.network.specs.Sound.{Rise, GateOk}
+use Rattle.network.specs.LimitLaws.{rise-below}
 use Rattle.folding.specs.Merge.{silent, reads, weightOf, Edge, feedWeight, among, distinct, mergedFeed, stays, mergedThreshold, merged, composed, setting, agreesAt, agrees, onDial}
 use Rattle.folding.specs.Pair.{Pair, pairs, qualifies, first}
 use Rattle.folding.specs.Aligned.{Aligned, aligned, sumAt, composedBit, level, mergedBit, agreesOn, agreesAll, mix, scaleFits, qualifiesOn}

@@ -4,18 +4,18 @@ use mathlib.Core.Path.{_≡_, refl, sym, ap, subst}
 use mathlib.Core.List.{List, [], _∷_}
 use Prim.Native.Nat.{ℕ}
 use lib.Dec.{T}
-use Rattle.integers.specs.Refusals.{Answer, accepted, refused, bind}
-use Rattle.integers.specs.RefusalLaws.{Passed, accepted-inj, bind-accepted}
+use Rattle.integers.specs.Refusals.{Answer, accepted, refused, bind, Passed, Refused}
+use Rattle.integers.specs.RefusalLaws.{accepted-inj, bind-accepted}
 use Rattle.network.specs.Threshold.{Net, Assignment, frame, outputBits}
 use Rattle.network.specs.Limits.{sound}
-use Rattle.network.specs.LimitLaws.{Sound, sound-of, of-sound}
+use Rattle.network.specs.Sound.{Sound}
+use Rattle.network.specs.LimitLaws.{sound-of, of-sound}
 use Rattle.equivalence.specs.ConsistentLaws.{sound-good, sim-outputs, outputs-many}
 use Rattle.folding.specs.Merge.{limits, merge}
 use Rattle.folding.specs.Collapse.{drop, collapse}
 use Rattle.folding.specs.Sweep.{Swept}
 use Rattle.folding.specs.Calls.{uncounted, answer, leaves, calls}
 use Rattle.folding.specs.Guarantee.{Kept, Exact, Tried, Claim, Claims, PairClaim, Preserved}
-use Rattle.folding.specs.RefusalMore.{Refused}
 use Rattle.folding.specs.PairLaws.{pair-least, pair-none, pair-merge}
 use Rattle.folding.specs.CollapseLaws.{collapse-tried, collapse-only}
 use Rattle.folding.specs.StepLaws.{merge-kept, merge-exact, merge-net, drop-kept, collapse-kept}

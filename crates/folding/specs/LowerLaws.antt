@@ -11,12 +11,13 @@ use lib.Dec.{T, ltb, lt→ltb}
 use lib.Arith.{le→nltb}
 use lib.Signed.{leZ}
 use lib.ListN.{length}
-use Rattle.integers.specs.Tests.{is-true, is-false}
-use Rattle.integers.specs.ListLaws.{Each, all-other}
+use Rattle.integers.specs.TestLaws.{is-true, is-false}
+use Rattle.integers.specs.Lists.{Each}
+use Rattle.integers.specs.ListLaws.{all-other}
 use Rattle.network.specs.Threshold.{Feed, Gate, Net, Assignment, sum, bit}
 use Rattle.network.specs.Limits.{signalsOf}
 use Rattle.network.specs.Changes.{lowered, loweredFeed, loweredGate, removeAt, without}
-use Rattle.network.specs.LimitLaws.{Has}
+use Rattle.network.specs.Sound.{Has}
 use Rattle.equivalence.specs.Consistent.{Vals, Sim}
 use Rattle.folding.specs.Merge.{silent}
 

@@ -8,13 +8,14 @@ use native.Mathlib.Decide.{decLt}
 use native.Mathlib.Omega.{arith}
 use lib.Dec.{T}
 use lib.ListN.{length, set, length-set, length-map}
-use Rattle.integers.specs.Lists.{all, keep, range}
-use Rattle.integers.specs.Tests.{T-and, and-T, cond-case}
-use Rattle.integers.specs.ListLaws.{Each, each-imp, length-keep, has-each}
+use Rattle.integers.specs.Lists.{all, keep, range, Each}
+use Rattle.integers.specs.TestLaws.{T-and, and-T, cond-case}
+use Rattle.integers.specs.ListLaws.{each-imp, length-keep, has-each}
 use Rattle.network.specs.Threshold.{Feed, Gate, Net}
 use Rattle.network.specs.Limits.{signalsOf, inScale, weightOk, scaleOk}
 use Rattle.network.specs.Changes.{withGate, lowered, loweredFeed, loweredGate, removeAt, without}
-use Rattle.network.specs.LimitLaws.{Rise, GateOk, Gates, Has, Sound, rise-below}
+use Rattle.network.specs.Sound.{Rise, GateOk, Gates, Has, Sound}
+use Rattle.network.specs.LimitLaws.{rise-below}
 use Rattle.folding.specs.Merge.{silent, reads, Edge, among, distinct, mergedFeed, stays, merged}
 use Rattle.folding.specs.LowerLaws.{Free, lowered-le, lowered-gt}
 use Rattle.folding.specs.AgreeLaws.{Low}

@@ -8,16 +8,17 @@ use native.Mathlib.Omega.{arith}
 use lib.Dec.{T, leb→le}
 use lib.ListN.{length}
 use lib.Seq.{map-set-same}
-use Rattle.integers.specs.Lists.{all, range, other}
-use Rattle.integers.specs.Tests.{T-and, cond-case, or-case, other-ne}
-use Rattle.integers.specs.ListLaws.{Each, each-of, each-imp, kept, all-other}
-use Rattle.integers.specs.Refusals.{accepted, _else_}
-use Rattle.integers.specs.RefusalLaws.{Passed, accepted-inj, checks-accepted, passed-checks, bind-accepted}
+use Rattle.integers.specs.Lists.{all, range, other, Each}
+use Rattle.integers.specs.TestLaws.{T-and, cond-case, or-case, other-ne}
+use Rattle.integers.specs.ListLaws.{each-of, each-imp, kept, all-other}
+use Rattle.integers.specs.Refusals.{accepted, _else_, Passed}
+use Rattle.integers.specs.RefusalLaws.{accepted-inj, checks-accepted, passed-checks, bind-accepted}
 use Rattle.network.specs.Threshold.{Gate, Net, Assignment, bit}
 use Rattle.network.specs.Limits.{isGate, sound}
 use Rattle.network.specs.Record.{noGate}
 use Rattle.network.specs.Changes.{gateAt, withGate}
-use Rattle.network.specs.LimitLaws.{GateOk, Gates, Has, has-of, sound-of, gate-ok}
+use Rattle.network.specs.Sound.{GateOk, Gates, Has}
+use Rattle.network.specs.LimitLaws.{has-of, sound-of, gate-ok}
 use Rattle.equivalence.specs.ConsistentLaws.{own-bit, sim-trans, replaced}
 use Rattle.folding.specs.Merge.{Edge, edge, silent, reads, among, distinct, merged, narrow, agrees, limits, merge}
 use Rattle.folding.specs.Pair.{pairOf}

@@ -9,12 +9,12 @@ use native.Mathlib.Omega.{arith}
 use lib.Dec.{T, eqb, eqb→eq, eqb-refl, leb→le}
 use lib.IntN.{ℤ, pos, negsuc, natAbs, _+ℤ_, _*ℤ_, +ℤ-idl}
 use Rattle.integers.specs.Lists.{all, keep, range, other}
-use Rattle.integers.specs.Tests.{is-true, is-false, T-and, eqb-no, cond-case}
-use Rattle.integers.specs.Integer.{#, nat, _⊕_, _⊙_, eq-of}
+use Rattle.integers.specs.TestLaws.{is-true, is-false, T-and, eqb-no, cond-case}
+use Rattle.integers.specs.IntegerLaws.{#, nat, _⊕_, _⊙_, eq-of}
 use Rattle.equivalence.specs.ConsistentLaws.{assign-same, assign-other}
 use Rattle.network.specs.Threshold.{Feed, Assignment, sum, assign}
 use Rattle.network.specs.Limits.{signalsOf, inScale, isZero, weightOk}
-use Rattle.network.specs.LimitLaws.{Rise}
+use Rattle.network.specs.Sound.{Rise}
 use Rattle.folding.specs.Merge.{weightOf, stays, setting}
 use Rattle.folding.specs.Aligned.{sumAt}
 

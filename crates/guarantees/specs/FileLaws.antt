@@ -4,10 +4,10 @@ use mathlib.Core.Bool.{Bool, true}
 use mathlib.Core.List.{List}
 use Prim.Native.Nat.{ℕ}
 use lib.Dec.{T}
-use Rattle.integers.specs.Tests.{T-is, is-true}
+use Rattle.integers.specs.TestLaws.{T-is, is-true}
 use Rattle.network.specs.Threshold.{Net}
 use Rattle.network.specs.Record.{netOf, layout, soundRecord}
-use Rattle.network.specs.LimitLaws.{Sound}
+use Rattle.network.specs.Sound.{Sound}
 use Rattle.network.specs.RecordLaws.{Shaped, netOf-layout, layout-netOf, sound-net, sound-layout}
 use Rattle.network.specs.declared.Network.{Network}
 use Rattle.format.specs.Format.{Bytes, fileBytes}

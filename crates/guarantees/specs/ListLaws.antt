@@ -6,11 +6,12 @@ use Prim.Native.Nat.{ℕ}
 use lib.Dec.{T}
 use lib.ListN.{length}
 use Rattle.integers.specs.Refusals.{Answer, accepted, refused, checks}
-use Rattle.integers.specs.Tests.{T-is, is-true}
+use Rattle.integers.specs.TestLaws.{T-is, is-true}
 use Rattle.network.specs.Threshold.{Net, Assignment, frame, fitsFrame, outputBits}
 use Rattle.network.specs.Record.{netOf, layout, soundRecord}
 use Rattle.evaluation.specs.Reading.{frameAnswer, asReading, reading}
-use Rattle.network.specs.LimitLaws.{Sound, of-sound}
+use Rattle.network.specs.Sound.{Sound}
+use Rattle.network.specs.LimitLaws.{of-sound}
 use Rattle.network.specs.Places.{Holds}
 use Rattle.network.specs.RecordLaws.{netOf-layout, holds-layout, holds-sound}
 use Rattle.network.specs.declared.Network.{Network}

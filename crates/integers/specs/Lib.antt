@@ -1,12 +1,12 @@
 pub mod Lists
-pub mod Tests
+pub mod TestLaws
 pub mod ListLaws
 pub mod RangeLaws
 pub mod TableLaws
 pub mod Refusals
 pub mod RefusalLaws
-pub mod Integer
-pub mod Size
+pub mod IntegerLaws
+pub mod SizeLaws
 pub mod Word
 pub mod WordLaws
 pub mod WriteLaws

@@ -10,8 +10,8 @@ use native.Mathlib.Omega.{arith}
 use lib.Dec.{T, T-not, eqb, eqb→eq, eqb-refl}
 use lib.ListN.{length, getD, replicate, length-map, length-replicate, getD-replicate}
 use lib.Seq.{ext-getD}
-use Rattle.integers.specs.Lists.{all, below, keep, range, tab, other}
-use Rattle.integers.specs.Tests.{is-true, T-and, and-T, and-left, and-right, cond-case, other-ne}
+use Rattle.integers.specs.Lists.{all, below, keep, range, tab, other, Each}
+use Rattle.integers.specs.TestLaws.{is-true, T-and, and-T, and-left, and-right, cond-case, other-ne}
 
 -- ---- below: a test at each number
 pub below-none : (p : ℕ → Bool) → below 0 p ≡ true
@@ -36,10 +36,6 @@ at-below zero p h = tt
 at-below (suc n) p h = and-T (below n p) (p n) (at-below n p λ s k. h s (omega arith)) (h n (omega arith))
 
 -- ---- each member
-abbrev pub Each : {A : Type 0} → (A → Type 0) → List A → Type 0
-Each P [] = Unit {0}
-Each P (x ∷ xs) = P x × Each P xs
-
 module _ {A : Type 0} where
   pub each-of : (p : A → Bool) (P : A → Type 0) → ((x : A) → T (p x) → P x) → (xs : List A) → T (all p xs) → Each P xs
   unfolding all

@@ -45,3 +45,8 @@ between a b n = leb a n && leb n b
 -- s is not u
 unfoldable pub other : ℕ → ℕ → Bool
 other u s = not (eqb s u)
+
+-- P holds of each member
+abbrev pub Each : {A : Type 0} → (A → Type 0) → List A → Type 0
+Each P [] = Unit {0}
+Each P (x ∷ xs) = P x × Each P xs

@@ -5,12 +5,7 @@ use mathlib.Core.List.{List, [], _∷_}
 use Prim.Native.Nat.{ℕ}
 use native.Mathlib.Omega.{arith}
 use lib.Dec.{T}
-use Rattle.integers.specs.Refusals.{Answer, accepted, refused, Test, _else_, checks, bind}
-
--- every test of the list holds
-abbrev pub Passed : List Test → Type 0
-Passed [] = Unit {0}
-Passed ((b else c) ∷ ts) = T b × Passed ts
+use Rattle.integers.specs.Refusals.{Answer, accepted, refused, Test, _else_, checks, bind, Passed}
 
 pub accepted≢refused : {A X : Type 0} {a : A} {c : ℕ} → accepted a ≡ refused c → X
 accepted≢refused e = let z : _≡_ {A = ℕ} 0 1 = cc in absurd (omega arith)

@@ -3,6 +3,7 @@
 use mathlib.Core.Bool.{Bool, cond}
 use mathlib.Core.List.{List, [], _∷_, _++_}
 use Prim.Native.Nat.{ℕ}
+use lib.Dec.{T}
 use lib.ListN.{length, drop}
 
 -- "accepted", with what the call gives, or the number of a refusal
@@ -34,3 +35,13 @@ checks ((b else c) ∷ ts) r = cond b (checks ts r) (refused c)
 unfoldable pub bind : {A B : Type 0} → Answer A → (A → Answer B) → Answer B
 bind (accepted a) f = f a
 bind (refused c) f = refused c
+
+-- every test of the list holds
+abbrev pub Passed : List Test → Type 0
+Passed [] = Unit {0}
+Passed ((b else c) ∷ ts) = T b × Passed ts
+
+-- an answer that is a refusal
+abbrev pub Refused : {A : Type 0} → Answer A → Type 0
+Refused (accepted a) = ⊥
+Refused (refused c) = Unit {0}

@@ -6,7 +6,7 @@ use lib.IntN.{ℤ, pos, natAbs, _+ℤ_, _-ℤ_}
 use mir.Syntax.{w32}
 use mir.Facts.{toZ-ofZ}
 use mir.Val.{SFits, toZ, ofZ}
-use Rattle.integers.specs.Size.{size-add, size-sub, size-fits}
+use Rattle.integers.specs.SizeLaws.{size-add, size-sub, size-fits}
 use Rattle.network.specs.Record.{gateIn}
 use Rattle.network.specs.declared.GateRecord.{GateRecord}
 use Rattle.constraints.specs.Question.{most, least}

@@ -6,7 +6,7 @@ use lib.IntN.{ℤ, pos, natAbs, _+ℤ_, +ℤ-idr}
 use mir.Syntax.{w32}
 use mir.Facts.{toZ-ofZ}
 use mir.Val.{SFits, toZ, ofZ}
-use Rattle.integers.specs.Size.{size-add, size-fits}
+use Rattle.integers.specs.SizeLaws.{size-add, size-fits}
 
 -- a small number is read back as it is
 pub small-back : (z : ℤ) → natAbs z ≤ 1000000 → toZ w32 (ofZ w32 z) ≡ z

@@ -8,12 +8,14 @@ use borrow.Author.Tests.{eqb-true}
 use lib.Dec.{eqb}
 use lib.IntN.{natAbs}
 use lib.ListN.{length, getD}
-use Rattle.integers.specs.Tests.{T-is, and-left, and-right}
-use Rattle.integers.specs.ListLaws.{Each, each-getD}
+use Rattle.integers.specs.TestLaws.{T-is, and-left, and-right}
+use Rattle.integers.specs.Lists.{Each}
+use Rattle.integers.specs.ListLaws.{each-getD}
 use Rattle.network.specs.Threshold.{Gate, Net}
 use Rattle.network.specs.Record.{netOf, soundRecord, gateIn, gateRecord, nthGate, noGate}
 use Rattle.network.specs.Places.{rowAt}
-use Rattle.network.specs.LimitLaws.{Sound, GateOk, gates-at}
+use Rattle.network.specs.Sound.{Sound, GateOk}
+use Rattle.network.specs.LimitLaws.{gates-at}
 use Rattle.network.specs.PlaceLaws.{gateIn-gateRecord}
 use Rattle.network.specs.RecordLaws.{count-gates, count-outputs, gate-within, sound-net, row-gate}
 use Rattle.network.specs.SoundLaws.{sized-of}

@@ -8,7 +8,7 @@ use lib.Dec.{eqb}
 use lib.IntN.{ℤ, pos, natAbs, negℤ, negsuc, _+ℤ_}
 use lib.ListN.{length, getD}
 use lib.Signed.{nonNeg}
-use Rattle.integers.specs.ListLaws.{Each}
+use Rattle.integers.specs.Lists.{Each}
 use Rattle.network.specs.Threshold.{Feed, Gate, Net}
 use Rattle.network.specs.Record.{feedsFrom, gateIn, netOf, soundRecord, nthGate}
 use Rattle.network.specs.declared.GateRecord.{GateRecord}

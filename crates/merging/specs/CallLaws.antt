@@ -4,9 +4,9 @@ use mathlib.Core.Bool.{true, false}
 use Prim.Native.Nat.{ℕ}
 use native.Mathlib.Omega.{arith}
 use lib.Dec.{T}
-use Rattle.integers.specs.Refusals.{accepted, refused, checks}
-use Rattle.integers.specs.RefusalLaws.{Passed, passed-checks}
-use Rattle.integers.specs.Tests.{is-true, T-and, and-left}
+use Rattle.integers.specs.Refusals.{accepted, refused, checks, Passed}
+use Rattle.integers.specs.RefusalLaws.{passed-checks}
+use Rattle.integers.specs.TestLaws.{is-true, T-and, and-left}
 use Rattle.network.specs.Limits.{sound, isGate}
 use Rattle.network.specs.Changes.{withGate}
 use Rattle.network.specs.Record.{netOf, soundRecord, spareClear, gateIn, gateRecord}

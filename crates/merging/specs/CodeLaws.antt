@@ -2,9 +2,8 @@
 use mathlib.Core.Path.{_≡_, refl}
 use mathlib.Core.Bool.{true, false}
 use mathlib.Core.List.{List, [], _∷_}
-use Rattle.integers.specs.Refusals.{Answer, refused, Test, _else_, checks}
-use Rattle.integers.specs.RefusalLaws.{Passed}
-use Rattle.folding.specs.RefusalMore.{NoneSays}
+use Rattle.integers.specs.Refusals.{Answer, refused, Test, _else_, checks, Passed}
+use Rattle.folding.specs.RefusalLaws.{NoneSays}
 use Rattle.merging.specs.Codes.{firstFailing}
 
 -- 0 is no test's number: so it says that every test holds

@@ -7,12 +7,11 @@ use Prim.Native.Nat.{ℕ, _+_, _-_, _<_}
 use native.Mathlib.Omega.{arith}
 use lib.Dec.{T, leb, ltb, leb→le, ltb→lt}
 use lib.IntN.{ℤ}
-use Rattle.integers.specs.Refusals.{_else_}
-use Rattle.integers.specs.RefusalLaws.{Passed}
-use Rattle.integers.specs.Tests.{T-and}
+use Rattle.integers.specs.Refusals.{_else_, Passed}
+use Rattle.integers.specs.TestLaws.{T-and}
 use Rattle.network.specs.Threshold.{Gate}
 use Rattle.network.specs.Limits.{isGate}
-use Rattle.network.specs.LimitLaws.{GateOk}
+use Rattle.network.specs.Sound.{GateOk}
 use Rattle.network.specs.Changes.{gateAt}
 use Rattle.network.specs.Record.{gateFrom, gateIn, netOf}
 use Rattle.network.specs.RecordTests.{gateSignal}

@@ -11,7 +11,7 @@ use lib.IntN.{ℤ, pos, natAbs}
 use lib.Signed.{nonNeg}
 use lib.ListN.{length, getD, List·getD-eq-default}
 use Rattle.integers.specs.Refusals.{_else_}
-use Rattle.integers.specs.Tests.{T-is}
+use Rattle.integers.specs.TestLaws.{T-is}
 use Rattle.network.specs.Limits.{scaleOk}
 use Rattle.network.specs.Record.{gateRecord}
 use Rattle.folding.specs.Merge.{Edge, distinct, merged, agrees, withGrain, narrow}

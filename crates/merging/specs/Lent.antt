@@ -10,7 +10,7 @@ use Rattle.integers.specs.Lists.{tab}
 use Rattle.network.specs.Threshold.{Gate}
 use Rattle.network.specs.Record.{gateFrom, gateRecord}
 use Rattle.network.specs.Places.{rowAt}
-use Rattle.network.specs.LimitLaws.{Gates}
+use Rattle.network.specs.Sound.{Gates}
 use Rattle.folding.specs.Merge.{Edge, silent, reads, merged}
 
 -- the gates

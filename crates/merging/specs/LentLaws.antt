@@ -7,7 +7,8 @@ use lib.Dec.{T}
 use lib.IntN.{ℤ}
 use lib.ListN.{getD}
 use Rattle.integers.specs.ListLaws.{length-tab, getD-tab}
-use Rattle.network.specs.LimitLaws.{GateOk, gates-at}
+use Rattle.network.specs.Sound.{GateOk}
+use Rattle.network.specs.LimitLaws.{gates-at}
 use Rattle.network.specs.Record.{gateFrom, netOf, noGate, soundRecord}
 use Rattle.network.specs.PlaceLaws.{length-feeds}
 use Rattle.network.specs.RecordLaws.{count-gates, sound-net, row-gate}

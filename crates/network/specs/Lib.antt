@@ -1,5 +1,6 @@
 pub mod Threshold
 pub mod Limits
+pub mod Sound
 pub mod Record
 pub mod Changes
 pub mod WordLaws

@@ -6,19 +6,15 @@ use Prim.Native.Nat.{ℕ, zero, suc, _+_, _-_, _≤_, _<_}
 use native.Mathlib.Omega.{arith}
 use lib.Dec.{T, leb, ltb, leb→le, le→leb, ltb→lt, lt→ltb}
 use lib.ListN.{length, getD}
-use Rattle.integers.specs.Lists.{all, allFrom, every, between}
-use Rattle.integers.specs.Tests.{T-and, and-T, every-of, of-every, between-of, of-between}
-use Rattle.integers.specs.ListLaws.{Each, each-of, of-each}
+use Rattle.integers.specs.Lists.{all, allFrom, every, between, Each}
+use Rattle.integers.specs.TestLaws.{T-and, and-T, every-of, of-every, between-of, of-between}
+use Rattle.integers.specs.ListLaws.{each-of, of-each}
 use Rattle.network.specs.Threshold.{Feed, Gate, Net}
 use Rattle.network.specs.Limits.{signalsOf, rising, scaleOk, gateOk, isGate, soundTests, sound}
+use Rattle.network.specs.Sound.{Rise, GateOk, Gates, Has, Sound}
 use Rattle.network.specs.Changes.{gateAt}
 
 -- ---- the tests as facts, both ways
-
--- the signals rise strictly from low on, below own
-abbrev pub Rise : ℕ → ℕ → List ℕ → Type 0
-Rise low own [] = Unit {0}
-Rise low own (s ∷ ss) = (low ≤ s) × (s < own) × Rise (suc s) own ss
 
 pub rise-of : (low own : ℕ) (ss : List ℕ) → T (rising low own ss) → Rise low own ss
 unfolding rising
@@ -31,12 +27,6 @@ unfolding rising
 of-rise low own [] t = tt
 of-rise low own (s ∷ ss) t = of-every (leb low s ∷ ltb s own ∷ rising (suc s) own ss ∷ []) (le→leb low s (t .0), (lt→ltb s own (t .1), (of-rise (suc s) own ss (t .2), tt)))
 
--- a gate with signal own is within the limits
-pub record GateOk (own : ℕ) (g : Gate) : Type 0 where
-  pub few : length (g .feeds) ≤ 16
-  pub rise : Rise 0 own (signalsOf (g .feeds))
-  pub scaled : T (scaleOk g)
-
 pub gateOk-of : (own : ℕ) (g : Gate) → T (gateOk own g) → GateOk own g
 unfolding gateOk
 gateOk-of own g t =
@@ -48,11 +38,6 @@ unfolding gateOk
 of-gateOk own g o = of-every (leb (length (g .feeds)) 16 ∷ rising 0 own (signalsOf (g .feeds)) ∷ scaleOk g ∷ [])
     (le→leb (length (g .feeds)) 16 (o .few), (of-rise 0 own (signalsOf (g .feeds)) (o .rise), (o .scaled, tt)))
 
--- each gate, the first with signal n
-abbrev pub Gates : ℕ → List Gate → Type 0
-Gates n [] = Unit {0}
-Gates n (g ∷ gs) = GateOk n g × Gates (suc n) gs
-
 pub gates-of : (n : ℕ) (gs : List Gate) → T (allFrom gateOk n gs) → Gates n gs
 unfolding allFrom
 gates-of n [] t = tt
@@ -63,10 +48,6 @@ unfolding allFrom
 of-gates n [] t = tt
 of-gates n (g ∷ gs) t = and-T (gateOk n g) (allFrom gateOk (suc n) gs) (of-gateOk n g (t .0)) (of-gates (suc n) gs (t .1))
 
--- s is a gate's signal
-abbrev pub Has : Net → ℕ → Type 0
-Has N s = (N .inputs ≤ s) × (s < N .inputs + length (N .gates))
-
 pub has-of : (N : Net) (s : ℕ) → T (isGate N s) → Has N s
 unfolding isGate
 has-of N s t = let h = T-and (leb (N .inputs) s) (ltb s (N .inputs + length (N .gates))) t in
@@ -75,14 +56,6 @@ has-of N s t = let h = T-and (leb (N .inputs) s) (ltb s (N .inputs + length (N .
 pub of-has : (N : Net) (s : ℕ) → Has N s → T (isGate N s)
 unfolding isGate
 of-has N s h = and-T (leb (N .inputs) s) (ltb s (N .inputs + length (N .gates))) (le→leb (N .inputs) s (h .0)) (lt→ltb s (N .inputs + length (N .gates)) (h .1))
-
--- a network that a PMN file describes
-pub record Sound (N : Net) : Type 0 where
-  pub few-inputs : (1 ≤ N .inputs) × (N .inputs ≤ 40)
-  pub few-gates : (1 ≤ length (N .gates)) × (length (N .gates) ≤ 128)
-  pub few-outputs : (1 ≤ length (N .outputs)) × (length (N .outputs) ≤ 16)
-  pub all-gates : Gates (N .inputs) (N .gates)
-  pub all-outputs : Each (Has N) (N .outputs)
 
 pub sound-of : (N : Net) → T (sound N) → Sound N
 unfolding sound soundTests

@@ -8,7 +8,7 @@ use lib.Dec.{T, ltb, eqb, eqb→eq, lt→ltb}
 use lib.IntN.{ℤ, pos, negsuc}
 use lib.ListN.{getD}
 use Rattle.integers.specs.Lists.{below}
-use Rattle.integers.specs.Tests.{T-and, and-T, T-or, or-T, or-second, not-below}
+use Rattle.integers.specs.TestLaws.{T-and, and-T, T-or, or-T, or-second, not-below}
 use Rattle.integers.specs.ListLaws.{below-at, at-below}
 use Rattle.network.specs.declared.Network.{Network}
 use Rattle.network.specs.Threshold.{Feed}

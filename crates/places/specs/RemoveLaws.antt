@@ -9,7 +9,7 @@ use borrow.Author.Tests.{lt-ltb, le-ltb}
 use lib.IntN.{pos}
 use lib.ListN.{length, getD, replicate, length-map, length-replicate, getD-replicate, List·getD-map, List·getD-eq-default}
 use Rattle.integers.specs.Lists.{tab}
-use Rattle.integers.specs.Tests.{T-is}
+use Rattle.integers.specs.TestLaws.{T-is}
 use Rattle.integers.specs.ListLaws.{tab-of, tab-same}
 use Rattle.network.specs.declared.Network.{Network}
 use Rattle.network.specs.Threshold.{Feed, Gate}

@@ -8,10 +8,11 @@ use native.Mathlib.Omega.{arith}
 use lib.Dec.{T}
 use lib.ListN.{length, getD}
 use Rattle.integers.specs.Refusals.{Answer, accepted, codeOf}
-use Rattle.integers.specs.Tests.{T-is}
+use Rattle.integers.specs.TestLaws.{T-is}
 use Rattle.network.specs.Threshold.{Net}
 use Rattle.network.specs.Limits.{isGate}
-use Rattle.network.specs.LimitLaws.{Has, has-of}
+use Rattle.network.specs.Sound.{Has}
+use Rattle.network.specs.LimitLaws.{has-of}
 use Rattle.network.specs.Record.{layout}
 use Rattle.network.specs.Changes.{gateAt}
 use Rattle.format.specs.Format.{Read, refused, done, gateBytes, fileBytes, parseFile, Bytes}

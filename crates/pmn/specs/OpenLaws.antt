@@ -5,7 +5,7 @@ use Prim.Native.Nat.{ℕ, _<_}
 use native.Mathlib.Omega.{arith}
 use Rattle.network.specs.Threshold.{Net}
 use Rattle.network.specs.Record.{layout}
-use Rattle.network.specs.LimitLaws.{Sound}
+use Rattle.network.specs.Sound.{Sound}
 use Rattle.format.specs.Format.{Read, refused, done, Bytes, fileBytes, parseFile}
 use Rattle.format.specs.CodeLaws.{refused-positive}
 use Rattle.format.specs.ReadWriteLaws.{file-of}

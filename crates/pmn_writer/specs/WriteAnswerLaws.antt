@@ -9,7 +9,7 @@ use lib.Dec.{leb}
 use lib.ListN.{length, drop, getD}
 use Rattle.integers.specs.Refusals.{Answer, accepted, refused, stored}
 use Rattle.integers.specs.RefusalLaws.{checks-first, checks-next, checks-none}
-use Rattle.integers.specs.Tests.{T-is}
+use Rattle.integers.specs.TestLaws.{T-is}
 use Rattle.network.specs.declared.Network.{Network}
 use Rattle.network.specs.Threshold.{Gate}
 use Rattle.network.specs.Record.{gateFrom, netOf, noGate, soundRecord}

@@ -4,7 +4,7 @@ use mathlib.Core.List.{List, [], _∷_, _++_}
 use Prim.Native.Nat.{ℕ, _≤_}
 use lib.IntN.{ℤ}
 use lib.ListN.{length, drop}
-use Rattle.integers.specs.ListLaws.{Each}
+use Rattle.integers.specs.Lists.{Each}
 use Rattle.network.specs.Threshold.{Feed}
 use Rattle.constraints.specs.Text.{rightSide, termsText}
 use Rattle.constraints.specs.TextLaws.{Within}

@@ -10,7 +10,7 @@ use mir.Syntax.{w32}
 use mir.Val.{SFits, toZ, ofZ}
 use mir.Facts.{toZ-ofZ}
 use Rattle.integers.specs.Lists.{range, tab}
-use Rattle.integers.specs.Size.{fits-size}
+use Rattle.integers.specs.SizeLaws.{fits-size}
 use Rattle.network.specs.Threshold.{Gate}
 use Rattle.network.specs.Record.{feedAt, feedsFrom, gateFrom}
 use Rattle.report.specs.Size.{weightsCost, gateCost, cost}

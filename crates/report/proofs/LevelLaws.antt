@@ -8,7 +8,7 @@ use lib.Dec.{eqb}
 use lib.IntN.{ℤ}
 use lib.ListN.{length, getD, set, replicate, length-set, length-replicate}
 use Rattle.integers.specs.Lists.{range, tab}
-use Rattle.integers.specs.Tests.{cond-case}
+use Rattle.integers.specs.TestLaws.{cond-case}
 use Rattle.network.specs.Threshold.{Feed, Gate}
 use Rattle.network.specs.Record.{feedAt, feedsFrom, gateFrom}
 use Rattle.report.specs.Size.{highest, gateLevel, withLevel, levelsFrom}

@@ -7,7 +7,7 @@ use lib.Dec.{eqb, eqb→eq}
 use lib.ListN.{length, getD, set, replicate}
 use lib.Seq.{getD-set-same, getD-set-other}
 use Rattle.integers.specs.Lists.{other}
-use Rattle.integers.specs.Tests.{cond-case, other-ne}
+use Rattle.integers.specs.TestLaws.{cond-case, other-ne}
 
 module _ {A : Type 0} where
   pub getD-repeated : (n s : ℕ) (d : A) → getD (replicate n d) s d ≡ d

@@ -10,9 +10,9 @@ use lib.Dec.{leb}
 use lib.ListN.{length, getD, drop, set, length-append, length-drop}
 use lib.Seq.{drop-drop, getD-drop, paste, paste-suc}
 use Rattle.integers.specs.Refusals.{Answer, accepted, refused, codeOf}
-use Rattle.integers.specs.Tests.{and-right}
+use Rattle.integers.specs.TestLaws.{and-right}
 use Rattle.network.specs.Threshold.{Net, Gate}
-use Rattle.network.specs.LimitLaws.{Gates, Sound}
+use Rattle.network.specs.Sound.{Gates, Sound}
 use Rattle.network.specs.Record.{netOf, layout}
 use Rattle.network.specs.Places.{Holds}
 use Rattle.network.specs.RecordLaws.{netOf-layout, holds-layout, holds-sound}

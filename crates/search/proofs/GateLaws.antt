@@ -10,7 +10,7 @@ use lib.IntN.{ℤ, pos, _+ℤ_, _*ℤ_}
 use lib.ListN.{length, getD}
 use lib.Seq.{getD-take, length-take-le}
 use Rattle.integers.specs.Lists.{below, every}
-use Rattle.integers.specs.Tests.{is-true, T-is, and-true, and-false-right, between-of, of-between, every-of, of-every}
+use Rattle.integers.specs.TestLaws.{is-true, T-is, and-true, and-false-right, between-of, of-between, every-of, of-every}
 use Rattle.integers.specs.ListLaws.{below-at}
 use Rattle.network.specs.Limits.{inScale}
 use Rattle.folding.specs.Merge.{onDial}

@@ -8,7 +8,7 @@ use lib.ListN.{getD}
 use mir.Syntax.{w32, w64}
 use mir.Val.{toZ, ofZ}
 use mir.Facts.{toZ-ofZ}
-use Rattle.integers.specs.Size.{size-fits}
+use Rattle.integers.specs.SizeLaws.{size-fits}
 use Rattle.search.specs.Search.{Small}
 
 -- no number of the search is above sixteen million in size before it is multiplied

@@ -8,7 +8,7 @@ use lib.Bits.{bitXor}
 use lib.IntN.{ℤ}
 use borrow.Author.Tests.{not-true, not-false}
 use Rattle.integers.specs.Lists.{below}
-use Rattle.integers.specs.Tests.{both-true}
+use Rattle.integers.specs.TestLaws.{both-true}
 use Rattle.integers.specs.ListLaws.{below-none, below-more}
 use Rattle.folding.specs.Pair.{Pair, pairs, first}
 use Rattle.folding.specs.Aligned.{agreesOn, scaleFits, qualifiesOn}

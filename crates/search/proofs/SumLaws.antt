@@ -13,8 +13,8 @@ use lib.ListN.{getD, take, drop, set, replicate, length-set, length-replicate}
 use lib.Seq.{getD-drop, getD-set-same, getD-set-other}
 use borrow.Author.Count.{below-more}
 use lib.Pow.{pow-mono, field, mod-mod-pow}
-use Rattle.integers.specs.Integer.{#, nat, _⊕_, eq-of}
-use Rattle.integers.specs.Size.{size-add}
+use Rattle.integers.specs.IntegerLaws.{#, nat, _⊕_, eq-of}
+use Rattle.integers.specs.SizeLaws.{size-add}
 use Rattle.folding.specs.Aligned.{sumAt}
 use Rattle.search.specs.Search.{Small}
 use Rattle.search.specs.Tables.{Sums, sumFrom, Summable}

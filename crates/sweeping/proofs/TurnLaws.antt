@@ -7,11 +7,11 @@ use native.Mathlib.Numerals.{add-one}
 use native.Mathlib.Omega.{arith}
 use borrow.Author.Tests.{ltb-false, lt-ltb, le-leb, lt-leb}
 use lib.Dec.{leb, ltb, ltb→lt}
-use Rattle.integers.specs.Refusals.{Answer, accepted, refused, _else_, checks}
-use Rattle.integers.specs.Tests.{is-true, T-is, both-true, or-case}
+use Rattle.integers.specs.Refusals.{Answer, accepted, refused, _else_, checks, Refused}
+use Rattle.integers.specs.TestLaws.{is-true, T-is, both-true, or-case}
 use Rattle.integers.specs.ListLaws.{length-tab}
 use Rattle.network.specs.Threshold.{Net}
-use Rattle.network.specs.LimitLaws.{Sound}
+use Rattle.network.specs.Sound.{Sound}
 use Rattle.network.specs.Record.{gateOf, netOf, layout, soundRecord}
 use Rattle.network.specs.Places.{SoundGate}
 use Rattle.network.specs.RecordTests.{gateSignal}
@@ -19,7 +19,6 @@ use Rattle.network.specs.RecordLaws.{Shaped, shaped-layout, netOf-layout, layou
 use Rattle.network.specs.declared.Network.{Network}
 use Rattle.folding.specs.Collapse.{collapse}
 use Rattle.folding.specs.Sweep.{readers, orElse, sweepFrom, goOn, sweepOnce, Swept, sweeping}
-use Rattle.folding.specs.RefusalMore.{Refused}
 use Rattle.folding.specs.StepLaws.{collapse-kept}
 use Rattle.sweeping.specs.declared.Outcome.{Outcome}
 use Rattle.collapse.specs.declared.Pairs.{Pairs}

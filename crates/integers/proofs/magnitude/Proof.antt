@@ -3,7 +3,7 @@ use lib.IntN.{ℤ, pos, natAbs}
 use mir.Syntax.{w32, w64}
 use mir.Val.{toZ, ofZ}
 use mir.Facts.{toZ-ofZ, fits-natAbs}
-use Rattle.integers.specs.Size.{read-back, minus-fits, size-minus, minus-nonNeg, plus-nonNeg}
+use Rattle.integers.specs.SizeLaws.{read-back, minus-fits, size-minus, minus-nonNeg, plus-nonNeg}
 use borrow.Author.Needs.{needs}
 use Rattle.integers.proofs.magnitude.Statement.{statement}
 use Rattle.integers.proofs.magnitude.Tie as tie

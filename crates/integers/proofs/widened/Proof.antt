@@ -1,6 +1,6 @@
 -- `integers::widened` meets its contract: an i32 is an i64. Assumes nothing.
 use borrow.Author.Needs.{needs}
-use Rattle.integers.specs.Size.{wider}
+use Rattle.integers.specs.SizeLaws.{wider}
 use Rattle.integers.proofs.widened.Statement.{statement}
 use Rattle.integers.proofs.widened.Tie as tie
 

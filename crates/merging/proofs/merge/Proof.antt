@@ -2,8 +2,8 @@
 use mathlib.Core.Path.{_≡_, sym, ap, _∙_}
 use mathlib.Core.Bool.{true}
 use borrow.Author.Tests.{not-true, not-false}
-use Rattle.integers.specs.RefusalLaws.{Passed}
-use Rattle.integers.specs.Tests.{T-is}
+use Rattle.integers.specs.Refusals.{Passed}
+use Rattle.integers.specs.TestLaws.{T-is}
 use Rattle.network.specs.Threshold.{Gate}
 use Rattle.network.specs.Changes.{withGate}
 use Rattle.network.specs.Record.{netOf, layout, soundRecord, gateIn, gateRecord}

@@ -2,7 +2,7 @@
 use mathlib.Core.Path.{_≡_, sym, _∙_}
 use mathlib.Core.Bool.{true}
 use borrow.Author.Tests.{not-true, not-false}
-use Rattle.integers.specs.Tests.{T-is}
+use Rattle.integers.specs.TestLaws.{T-is}
 use Rattle.network.specs.Record.{soundRecord}
 use Rattle.merging.specs.Lent.{Lent}
 use Rattle.merging.specs.LentLaws.{lent-of}

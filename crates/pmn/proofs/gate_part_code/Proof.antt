@@ -3,7 +3,7 @@ use borrow.Author.Needs.{needs}
 use native.Mathlib.Omega.{arith}
 use mathlib.Core.Path.{sym, ap}
 use Rattle.integers.specs.Refusals.{codeOf}
-use Rattle.integers.specs.Tests.{is-true}
+use Rattle.integers.specs.TestLaws.{is-true}
 use Rattle.network.specs.Limits.{isGate}
 use Rattle.network.specs.LimitLaws.{of-has}
 use Rattle.format.specs.PartLaws.{part-refused, part-stray, part-found}

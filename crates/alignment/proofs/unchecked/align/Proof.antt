@@ -7,7 +7,7 @@ use lib.IntN.{pos}
 use lib.ListN.{getD, set}
 use mir.Syntax.{w32}
 use mir.Val.{toZ, ofZ}
-use Rattle.integers.specs.Size.{read-back}
+use Rattle.integers.specs.SizeLaws.{read-back}
 use Rattle.network.specs.Record.{gateIn}
 use Rattle.folding.specs.Merge.{Edge, among}
 use Rattle.folding.specs.AlignedLaws.{edge-rises}

@@ -9,7 +9,7 @@ use mir.Syntax.{w32}
 use mir.Val.{toZ, ofZ}
 use borrow.Author.Needs.{sfits-of, needs}
 use borrow.Author.Tests.{eq-eqb, ne-eqb}
-use Rattle.integers.specs.Size.{read-back}
+use Rattle.integers.specs.SizeLaws.{read-back}
 use Rattle.network.specs.Limits.{isZero}
 use Rattle.folding.specs.Aligned.{level, mix}
 use Rattle.alignment.specs.Alignments.{alignedIn, Mixable}

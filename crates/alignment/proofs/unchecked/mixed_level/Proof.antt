@@ -5,7 +5,7 @@ use lib.IntN.{_-ℤ_}
 use mir.Syntax.{w32, w64}
 use mir.Val.{SFits, toZ, ofZ}
 use mir.Facts.{toZ-ofZ}
-use Rattle.integers.specs.Size.{size-sub, size-fits, fits-size, read-back}
+use Rattle.integers.specs.SizeLaws.{size-sub, size-fits, fits-size, read-back}
 use borrow.Author.Needs.{needs}
 use Rattle.alignment.proofs.unchecked.mixed_level.Statement.{statement}
 use Rattle.alignment.proofs.unchecked.mixed_level.Tie as tie

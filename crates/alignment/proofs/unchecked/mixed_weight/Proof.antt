@@ -3,7 +3,7 @@ use mathlib.Core.Path.{_≡_, _∙_}
 use mir.Syntax.{w32, w64}
 use mir.Val.{toZ, ofZ}
 use mir.Facts.{toZ-ofZ}
-use Rattle.integers.specs.Size.{read-back}
+use Rattle.integers.specs.SizeLaws.{read-back}
 use borrow.Author.Needs.{needs}
 use Rattle.alignment.proofs.unchecked.mixed_weight.Statement.{statement}
 use Rattle.alignment.proofs.unchecked.mixed_weight.Tie as tie

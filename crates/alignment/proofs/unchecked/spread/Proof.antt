@@ -5,7 +5,7 @@ use native.Mathlib.Omega.{arith}
 use lib.IntN.{pos}
 use lib.ListN.{getD}
 use mir.Syntax.{w32}
-use Rattle.integers.specs.Size.{read-back}
+use Rattle.integers.specs.SizeLaws.{read-back}
 use Rattle.network.specs.Record.{feedsFrom, gateIn}
 use Rattle.alignment.specs.Alignments.{weightTable}
 use Rattle.alignment.proofs.Store.{store-none, store-more}

@@ -4,7 +4,7 @@ use native.Mathlib.Omega.{arith}
 use lib.IntN.{pos, _-ℤ_}
 use mir.Syntax.{w32}
 use mir.Facts.{toZ-pos}
-use Rattle.integers.specs.Size.{size-fits, size-minus}
+use Rattle.integers.specs.SizeLaws.{size-fits, size-minus}
 use borrow.Author.Needs.{needs}
 use Rattle.call_cases.proofs.script.signed_from.Statement.{statement}
 use Rattle.call_cases.proofs.script.signed_from.Tie as tie

@@ -7,7 +7,7 @@ use lib.Signed.{leZ}
 use mir.Syntax.{w32, w64}
 use mir.Val.{SFits}
 use mir.Facts.{toZ-ofZ}
-use Rattle.integers.specs.Size.{read-back}
+use Rattle.integers.specs.SizeLaws.{read-back}
 use Rattle.network.specs.Threshold.{bit, sum}
 use Rattle.network.specs.Record.{feedsFrom, gateFrom}
 use Rattle.evaluation.specs.Evaluation.{bitsIn}

@@ -11,7 +11,7 @@ use mir.Syntax.{w32, w64}
 use mir.Val.{SFits, boolByte, toZ, ofZ}
 use mir.Facts.{toZ-ofZ}
 use borrow.Author.Needs.{needs}
-use Rattle.integers.specs.Size.{fits-size, read-back}
+use Rattle.integers.specs.SizeLaws.{fits-size, read-back}
 use Rattle.evaluation.specs.Evaluation.{bitsIn}
 use Rattle.evaluation.proofs.SumLaws.{share, share-is, share-fits, Added, added-none, added-fits, added-next, added-all}
 use Rattle.evaluation.proofs.unchecked.gate_sum.Statement.{statement}

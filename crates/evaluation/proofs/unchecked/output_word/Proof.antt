@@ -5,7 +5,7 @@ use lib.ListN.{getD}
 use borrow.Author.Needs.{needs}
 use Rattle.evaluation.specs.Evaluation.{bitsIn}
 use Rattle.evaluation.proofs.OutputLaws.{WordFrom, word-none, word-next, word-fits, word-all}
-use Rattle.integers.specs.Tests.{byte-below}
+use Rattle.integers.specs.TestLaws.{byte-below}
 use Rattle.evaluation.proofs.unchecked.output_word.Statement.{statement}
 use Rattle.evaluation.proofs.unchecked.output_word.Tie as tie
 

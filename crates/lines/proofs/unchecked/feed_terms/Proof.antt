@@ -9,7 +9,7 @@ use mir.Syntax.{w32}
 use mir.Facts.{toZ-ofZ}
 use mir.Val.{toZ, ofZ}
 use borrow.Author.Needs.{needs}
-use Rattle.integers.specs.Size.{read-back}
+use Rattle.integers.specs.SizeLaws.{read-back}
 use Rattle.constraints.specs.Question.{secondVariable}
 use Rattle.lines.specs.Lines.{Stands}
 use Rattle.lines.specs.TermLaws.{firstTerms, first-none, first-step, first-all, first-count, stands-is, stands-count, scaled-at}

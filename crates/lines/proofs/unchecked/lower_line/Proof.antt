@@ -4,7 +4,7 @@ use native.Mathlib.Omega.{arith}
 use mathlib.Core.Bool.{false}
 use mir.Syntax.{w32}
 use mir.Val.{toZ, ofZ}
-use Rattle.integers.specs.Size.{read-back}
+use Rattle.integers.specs.SizeLaws.{read-back}
 use Rattle.network.specs.Record.{gateIn}
 use Rattle.constraints.specs.Question.{least, secondVariable}
 use Rattle.lines.specs.Lines.{feedTerms}

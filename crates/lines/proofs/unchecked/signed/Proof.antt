@@ -6,7 +6,7 @@ use lib.IntN.{ℤ, pos, negℤ, _-ℤ_, +ℤ-idl}
 use mir.Syntax.{w32}
 use mir.Facts.{toZ-ofZ}
 use mir.Val.{SFits, toZ, ofZ}
-use Rattle.integers.specs.Size.{size-fits, size-minus}
+use Rattle.integers.specs.SizeLaws.{size-fits, size-minus}
 use Rattle.lines.proofs.unchecked.signed.Statement.{statement}
 use Rattle.lines.proofs.unchecked.signed.Tie as tie
 

@@ -5,7 +5,7 @@ use mathlib.Core.Bool.{true}
 use lib.IntN.{pos, _-ℤ_}
 use mir.Syntax.{w32}
 use mir.Val.{toZ, ofZ}
-use Rattle.integers.specs.Size.{read-back}
+use Rattle.integers.specs.SizeLaws.{read-back}
 use Rattle.network.specs.Record.{gateIn}
 use Rattle.constraints.specs.Question.{most, secondVariable}
 use Rattle.lines.specs.Lines.{feedTerms}

@@ -7,7 +7,7 @@ use lib.IntN.{pos}
 use lib.ListN.{getD, length}
 use denote.Ref.{now}
 use mir.Syntax.{w32}
-use Rattle.integers.specs.Size.{read-back}
+use Rattle.integers.specs.SizeLaws.{read-back}
 use Rattle.network.specs.Places.{Pasted, origin, withoutPlaces}
 use Rattle.places.specs.PasteLaws.{pasted-none, pasted-more, pasted-tab}
 use Rattle.places.proofs.unchecked.integers_without.Statement.{statement}

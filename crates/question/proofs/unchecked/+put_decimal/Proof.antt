@@ -5,7 +5,7 @@ use Prim.Native.Nat.{ℕ, _+_, _/_, _%_, _<_}
 use native.Mathlib.Omega.{arith}
 use lib.ListN.{length, length-append, length-set}
 use Rattle.constraints.specs.Text.{decimal}
-use Rattle.question.specs.TextParts.{decimal-one, decimal-more}
+use Rattle.question.specs.TextPartLaws.{decimal-one, decimal-more}
 use Rattle.question.proofs.PutLaws.{put-none, put-text, put-length, put-byte}
 use borrow.Fn.Kinds.{In}
 use borrow.Fn.PlainCycle.{Measures, is, falls, and}

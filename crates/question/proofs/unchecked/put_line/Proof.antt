@@ -7,13 +7,13 @@ use mir.Syntax.{w32}
 use mir.Facts.{toZ-ofZ}
 use mir.Val.{toZ, ofZ}
 use borrow.Author.Needs.{needs}
-use Rattle.integers.specs.Size.{size-fits}
+use Rattle.integers.specs.SizeLaws.{size-fits}
 use Rattle.integers.specs.WriteLaws.{tail-length}
 use Rattle.network.specs.Record.{feedsFrom}
 use Rattle.constraints.specs.Text.{termsText}
 use Rattle.lines.specs.Lines.{lineIn}
 use Rattle.question.specs.Writes.{relationText}
-use Rattle.question.specs.TextParts.{line-parts}
+use Rattle.question.specs.TextPartLaws.{line-parts}
 use Rattle.question.proofs.PutLaws.{put-text, put-part, put-length}
 use Rattle.question.proofs.unchecked.put_line.Statement.{statement}
 use Rattle.question.proofs.unchecked.put_line.Tie as tie

@@ -8,7 +8,7 @@ use lib.ListN.{length}
 use mir.Facts.{toZ-ofZ}
 use borrow.Author.Needs.{needs}
 use Rattle.constraints.specs.Text.{decimal, rightSide}
-use Rattle.question.specs.TextParts.{right-below, right-above}
+use Rattle.question.specs.TextPartLaws.{right-below, right-above}
 use Rattle.question.proofs.PutLaws.{put-text}
 use Rattle.lines.proofs.SignLaws.{below-sign, above-sign}
 use Rattle.question.proofs.unchecked.put_right.Statement.{statement}

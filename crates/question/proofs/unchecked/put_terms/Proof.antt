@@ -8,7 +8,7 @@ use mir.Syntax.{w32}
 use mir.Facts.{toZ-ofZ}
 use mir.Val.{toZ, ofZ}
 use borrow.Author.Needs.{needs}
-use Rattle.integers.specs.Size.{size-fits}
+use Rattle.integers.specs.SizeLaws.{size-fits}
 use Rattle.integers.specs.ListLaws.{each-getD}
 use Rattle.integers.specs.WriteLaws.{tail-length}
 use Rattle.network.specs.Threshold.{Feed}
@@ -19,7 +19,7 @@ use Rattle.constraints.specs.Text.{termText, termsText}
 use Rattle.constraints.specs.TextLaws.{Within}
 use Rattle.question.specs.Writes.{Put}
 use Rattle.lines.specs.FeedLaws.{feeds-none}
-use Rattle.question.specs.TextParts.{terms-more, terms-room}
+use Rattle.question.specs.TextPartLaws.{terms-more, terms-room}
 use Rattle.question.proofs.PutLaws.{put-none, put-text, put-part, put-length}
 use Rattle.question.proofs.unchecked.put_terms.Statement.{statement}
 use Rattle.question.proofs.unchecked.put_terms.Tie as tie

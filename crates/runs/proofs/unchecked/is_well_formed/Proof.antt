@@ -6,7 +6,7 @@ use Prim.Native.Nat.{_+_, _-_, _≤_, zero-le}
 use native.Mathlib.Omega.{arith}
 use borrow.Author.Tests.{le-leb, lt-leb}
 use lib.ListN.{length, drop, getD, length-drop, drop-of-length-le}
-use Rattle.integers.specs.Tests.{and-false-left}
+use Rattle.integers.specs.TestLaws.{and-false-left}
 use Rattle.runs.specs.Runs.{wellFormed}
 use Rattle.runs.specs.RunLaws.{formed-short, formed-next}
 use Rattle.runs.proofs.unchecked.is_well_formed.Statement.{statement}

@@ -1,6 +1,6 @@
 -- `search::unchecked::agrees_at` meets its contract: both bits are made of the two sums. Assumes nothing.
 use mir.Syntax.{w64}
-use Rattle.integers.specs.Size.{read-back}
+use Rattle.integers.specs.SizeLaws.{read-back}
 use Rattle.search.specs.Tables.{sameBits}
 use Rattle.search.proofs.SumLaws.{from-small}
 use Rattle.search.proofs.unchecked.agrees_at.Statement.{statement}

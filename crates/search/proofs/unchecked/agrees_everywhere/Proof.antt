@@ -5,7 +5,7 @@ use Prim.Native.Nat.{ℕ, _-_, _^_, _≤_, _<_}
 use native.Mathlib.Omega.{arith}
 use borrow.Author.Tests.{not-true, not-false}
 use Rattle.integers.specs.Lists.{below}
-use Rattle.integers.specs.Tests.{both-true}
+use Rattle.integers.specs.TestLaws.{both-true}
 use Rattle.integers.specs.ListLaws.{below-none, below-more}
 use Rattle.folding.specs.Aligned.{Aligned, agreesOn}
 use Rattle.search.specs.Search.{alignedBy}

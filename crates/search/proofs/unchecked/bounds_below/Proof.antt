@@ -1,6 +1,6 @@
 -- `search::unchecked::bounds_below` is safe: the two sums can be made. It promises nothing. Assumes nothing.
 use mir.Syntax.{w64}
-use Rattle.integers.specs.Size.{read-back}
+use Rattle.integers.specs.SizeLaws.{read-back}
 use Rattle.search.proofs.SumLaws.{from-small}
 use borrow.Author.Needs.{needs}
 use Rattle.search.proofs.unchecked.bounds_below.Statement.{statement}

@@ -7,7 +7,7 @@ use lib.Signed.{leZ}
 use mir.Syntax.{w64}
 use mir.Val.{SFits}
 use mir.Facts.{toZ-ofZ}
-use Rattle.integers.specs.Size.{size-add, size-fits}
+use Rattle.integers.specs.SizeLaws.{size-add, size-fits}
 use Rattle.folding.specs.Aligned.{composedBit}
 use Rattle.search.specs.Search.{alignedBy}
 use Rattle.search.specs.Tables.{bare}

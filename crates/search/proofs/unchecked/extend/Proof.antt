@@ -10,7 +10,7 @@ use lib.ListN.{getD}
 use lib.Pow.{pow-mono}
 use mir.Syntax.{w64}
 use mir.Val.{toZ, ofZ}
-use Rattle.integers.specs.Size.{size-add, size-fits, read-back}
+use Rattle.integers.specs.SizeLaws.{size-add, size-fits, read-back}
 use Rattle.search.specs.Tables.{Sums}
 use Rattle.search.proofs.Held.{held, weight-held}
 use Rattle.search.proofs.SumLaws.{Next, next, sums-more}

@@ -7,7 +7,7 @@ use lib.Dec.{leb, leb→le, le→leb}
 use lib.IntN.{ℤ, pos, negsuc}
 use lib.Signed.{leZ}
 use mir.Facts.{toZ-ofZ}
-use Rattle.integers.specs.Tests.{and-true, test-same}
+use Rattle.integers.specs.TestLaws.{and-true, test-same}
 use Rattle.network.specs.Limits.{inScale}
 use Rattle.search.proofs.unchecked.in_scale.Statement.{statement}
 use Rattle.search.proofs.unchecked.in_scale.Tie as tie

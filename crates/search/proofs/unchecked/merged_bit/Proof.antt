@@ -2,7 +2,7 @@
 use native.Mathlib.Omega.{arith}
 use mir.Syntax.{w64}
 use mir.Facts.{toZ-ofZ}
-use Rattle.integers.specs.Size.{read-back}
+use Rattle.integers.specs.SizeLaws.{read-back}
 use Rattle.folding.specs.Aligned.{mergedBit}
 use Rattle.search.proofs.unchecked.merged_bit.Statement.{statement}
 use Rattle.search.proofs.unchecked.merged_bit.Tie as tie

@@ -3,7 +3,7 @@ use Prim.Native.Nat.{_≤_}
 use native.Mathlib.Omega.{arith}
 use lib.IntN.{natAbs, _-ℤ_}
 use mir.Syntax.{w64}
-use Rattle.integers.specs.Size.{size-sub, size-fits, read-back}
+use Rattle.integers.specs.SizeLaws.{size-sub, size-fits, read-back}
 use Rattle.folding.specs.Aligned.{level}
 use Rattle.search.specs.Search.{alignedBy}
 use Rattle.search.specs.Tables.{bare}

@@ -5,7 +5,7 @@ use lib.IntN.{pos}
 use lib.ListN.{getD}
 use mir.Syntax.{w64}
 use mir.Val.{toZ, ofZ}
-use Rattle.integers.specs.Size.{read-back}
+use Rattle.integers.specs.SizeLaws.{read-back}
 use Rattle.search.proofs.Held.{weight-held}
 use borrow.Author.Needs.{needs}
 use Rattle.search.proofs.unchecked.merged_weight.Statement.{statement}

@@ -7,7 +7,7 @@ use lib.IntN.{ℤ, pos, natAbs, _+ℤ_, _*ℤ_}
 use mir.Syntax.{w64}
 use mir.Val.{SFits, toZ}
 use mir.Facts.{toZ-ofZ}
-use Rattle.integers.specs.Size.{size-add, size-mul, size-fits}
+use Rattle.integers.specs.SizeLaws.{size-add, size-mul, size-fits}
 use borrow.Author.Needs.{needs}
 use Rattle.search.proofs.unchecked.mixed.Statement.{statement}
 use Rattle.search.proofs.unchecked.mixed.Tie as tie

@@ -6,9 +6,9 @@ use native.Mathlib.Omega.{arith}
 use mir.Syntax.{w64}
 use borrow.Author.Tests.{not-true, not-false}
 use Rattle.integers.specs.Lists.{below}
-use Rattle.integers.specs.Tests.{both-true}
+use Rattle.integers.specs.TestLaws.{both-true}
 use Rattle.integers.specs.ListLaws.{below-none, below-more}
-use Rattle.integers.specs.Size.{read-back}
+use Rattle.integers.specs.SizeLaws.{read-back}
 use Rattle.network.specs.Limits.{inScale}
 use Rattle.folding.specs.Aligned.{Aligned, mix}
 use Rattle.search.specs.Search.{alignedBy}

@@ -6,7 +6,7 @@ use lib.ListN.{getD}
 use mir.Syntax.{w64}
 use mir.Val.{SFits}
 use mir.Facts.{toZ-ofZ}
-use Rattle.integers.specs.Size.{size-add, size-fits}
+use Rattle.integers.specs.SizeLaws.{size-add, size-fits}
 use Rattle.search.specs.Tables.{sumFrom}
 use borrow.Author.Needs.{needs}
 use Rattle.search.proofs.unchecked.sum_at.Statement.{statement}

@@ -5,11 +5,11 @@ use mathlib.Core.Bool.{_||_, true≢false, false≢true}
 use Prim.Native.Nat.{_+_, _-_, _≤_, _<_}
 use native.Mathlib.Omega.{arith}
 use lib.Dec.{ltb}
-use Rattle.integers.specs.Tests.{T-is}
+use Rattle.integers.specs.TestLaws.{T-is}
 use Rattle.network.specs.Record.{netOf, soundRecord}
 use Rattle.network.specs.SoundLaws.{sized-of}
 use Rattle.folding.specs.Sweep.{readers, sweepFrom, sweepOnce}
-use Rattle.folding.specs.RefusalMore.{Refused}
+use Rattle.integers.specs.Refusals.{Refused}
 use Rattle.merging.specs.Readers.{occurs}
 use Rattle.merging.specs.LentLaws.{lent-of, lent-counted}
 use Rattle.sweeping.proofs.TurnLaws.{turn-end, sweep-start, pass-barred, pass-refused, taken}

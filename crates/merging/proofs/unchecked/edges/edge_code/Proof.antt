@@ -4,7 +4,7 @@ use mathlib.Core.Bool.{true, _&&_}
 use native.Mathlib.Omega.{arith}
 use borrow.Author.Tests.{not-true, not-false}
 use denote.Ref.{now}
-use Rattle.integers.specs.Tests.{T-is, T-and}
+use Rattle.integers.specs.TestLaws.{T-is, T-and}
 use Rattle.network.specs.RecordTests.{gateSignal}
 use Rattle.merging.specs.Lent.{Within}
 use Rattle.merging.specs.LentLaws.{lent-counted}

@@ -2,7 +2,7 @@
 use mathlib.Core.Path.{_≡_, _∙_}
 use mir.Syntax.{w32, w64}
 use mir.Val.{toZ, ofZ}
-use Rattle.integers.specs.Size.{read-back}
+use Rattle.integers.specs.SizeLaws.{read-back}
 use Rattle.merging.specs.Fitted.{levelsIn}
 use borrow.Author.Needs.{needs}
 use Rattle.merging.proofs.unchecked.edges.levels_of.Statement.{statement}

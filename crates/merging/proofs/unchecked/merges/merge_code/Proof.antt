@@ -7,7 +7,7 @@ use lib.ListN.{length}
 use lib.Signed.{nonNeg}
 use mir.Syntax.{w32}
 use mir.Val.{toZ, ofZ}
-use Rattle.integers.specs.Tests.{T-is, T-and}
+use Rattle.integers.specs.TestLaws.{T-is, T-and}
 use Rattle.folding.specs.Merge.{Edge, distinct, onDial, withGrain}
 use Rattle.folding.specs.PairLaws.{dial-of}
 use Rattle.alignment.specs.Alignments.{alignedIn}

@@ -10,7 +10,7 @@ use lib.IntN.{ℤ}
 use lib.ListN.{length}
 use Rattle.integers.specs.Lists.{keep, range}
 use Rattle.network.specs.Record.{gateFrom}
-use Rattle.integers.specs.Tests.{byte-below}
+use Rattle.integers.specs.TestLaws.{byte-below}
 use Rattle.folding.specs.Merge.{reads}
 use Rattle.merging.specs.Lent.{gatesIn}
 use Rattle.merging.proofs.ReaderLaws.{kept-step, kept-end}

@@ -8,7 +8,7 @@ use native.Mathlib.Omega.{arith}
 use lib.Dec.{T, ltb, leb, ltb→lt, nltb→le, leb→le, nleb→lt}
 use lib.IntN.{ℤ, pos, negsuc, negℤ, _+ℤ_, _-ℤ_, _*ℤ_, subℕ}
 use lib.Signed.{leZ}
-use Rattle.integers.specs.Tests.{T-is, T-isnt, is-true, is-false}
+use Rattle.integers.specs.TestLaws.{T-is, T-isnt, is-true, is-false}
 
 unfoldable pub hi : ℤ → ℕ
 hi (pos n) = n

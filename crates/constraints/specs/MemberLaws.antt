@@ -6,8 +6,7 @@ use Prim.Native.Nat.{ℕ, zero, suc, _+_, _<_}
 use native.Mathlib.Omega.{arith}
 use lib.ListN.{length, getD}
 use lib.Seq.{getD-append-add}
-use Rattle.integers.specs.Lists.{range}
-use Rattle.integers.specs.ListLaws.{Each}
+use Rattle.integers.specs.Lists.{range, Each}
 pub use Rattle.integers.specs.ListLaws.{each-append, append-left, append-right}
 
 module _ {A : Type 0} where
