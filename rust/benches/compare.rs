@@ -5,7 +5,8 @@ use yovrenik_tests as library;
 use yovrenik_tests::generate::{folding_chain, largest, last_setting_only, mixed_chain, standing_chain, Random};
 use yovrenik_tests::reference::{self, Net};
 
-/// The least mean time of one call over several runs; a call that takes long is made once.
+/// The least mean time of one call over many short runs, so that other work of the machine counts little; a call that takes long is made
+/// once.
 fn time(mut call: impl FnMut()) -> Duration {
     let began = Instant::now();
     call();
@@ -13,13 +14,14 @@ fn time(mut call: impl FnMut()) -> Duration {
     if once > Duration::from_millis(200) {
         return once;
     }
-    let calls = (Duration::from_millis(40).as_nanos() / once.as_nanos().max(20)).max(1) as u32;
+    let calls = (Duration::from_millis(2).as_nanos() / once.as_nanos().max(20)).max(1) as u32;
+    let runs = (Duration::from_millis(500).as_nanos() / (once * calls).as_nanos().max(1)).clamp(3, 200);
     let run = |call: &mut dyn FnMut()| {
         let began = Instant::now();
         (0..calls).for_each(|_| call());
         began.elapsed() / calls
     };
-    (0..5).map(|_| run(&mut call)).min().unwrap()
+    (0..runs).map(|_| run(&mut call)).min().unwrap()
 }
 
 fn text(t: Duration) -> String {
@@ -62,9 +64,9 @@ fn file_rows() {
         black_box(reference::frame(black_box(&net), 0x5A_5A5A_5A5A).unwrap());
     });
     row("read of the largest file", read, read_too);
-    row("write of it, soundness tested (the call less the read)", write.saturating_sub(read), write_too);
-    row("frame on a full network, soundness tested (the call less the read)", frame.saturating_sub(read), frame_too);
-    row("read and frame", frame, read_too + frame_too);
+    row("write of it (the call less the read)", write.saturating_sub(read), write_too);
+    row("frame on a full network (the call less the read)", frame.saturating_sub(read), frame_too);
+    row("soundness and frame on a full network (read and frame)", frame, read_too + frame_too);
 }
 
 fn pair_row(n: usize) {
