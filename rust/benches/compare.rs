@@ -2,7 +2,7 @@
 use std::hint::black_box;
 use std::time::{Duration, Instant};
 use yovrenik_tests as library;
-use yovrenik_tests::generate::{folding_chain, largest, last_setting_only, mixed_chain, standing_chain, Random};
+use yovrenik_tests::generate::{folding_chain, full_folding, full_standing, largest, last_setting_only, mixed_chain, standing_chain, Random};
 use yovrenik_tests::reference::{self, Net};
 
 /// The least mean time of one call over many short runs, so that other work of the machine counts little; a call that takes long is made
@@ -108,6 +108,8 @@ fn main() {
     for n in [8, 10, 12, 14, 16] {
         pair_row(n);
     }
+    sweep_row("sweep of a full network, nothing folds", &full_standing(&mut Random::new(5)), 0);
+    sweep_row("sweep of a full network that folds into one gate", &full_folding(), 127);
     for gates in [16, 32, 64, 128] {
         sweep_row(&format!("sweep, {gates} gates that fold into one"), &folding_chain(gates), gates as u64 - 1);
     }

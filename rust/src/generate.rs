@@ -154,6 +154,37 @@ pub fn standing_chain(gates: usize, n: usize) -> Net {
     Net { inputs, gates: (0..gates).map(gate).collect(), outputs: vec![inputs + gates - 1] }
 }
 
+/// A full network in which no gate folds: 128 gates, each with 15 inputs and the gate before it (the first with 16 inputs), and weights at
+/// random.
+pub fn full_standing(r: &mut Random) -> Net {
+    let inputs = 16;
+    let mut net = Net { inputs, gates: vec![], outputs: vec![inputs + 127] };
+    for g in 0..128 {
+        let mut signals: Vec<usize> = (0..inputs).collect();
+        if g > 0 {
+            signals[15] = inputs + g - 1;
+        }
+        let feeds: Vec<(usize, i64)> = signals.into_iter().map(|s| (s, r.between(1, 1000))).collect();
+        let threshold = feeds.iter().map(|f| f.1).sum::<i64>() / 2;
+        net.gates.push(Gate { feeds, threshold });
+    }
+    net
+}
+
+/// A full network that folds into one gate: 128 gates, each 1 if all of its 16 feeds are, 15 inputs and the gate before it (the first 16
+/// inputs).
+pub fn full_folding() -> Net {
+    let inputs = 16;
+    let gate = |g: usize| {
+        let mut feeds: Vec<(usize, i64)> = (0..inputs).map(|s| (s, 1)).collect();
+        if g > 0 {
+            feeds[15] = (inputs + g - 1, 1);
+        }
+        Gate { feeds, threshold: 16 }
+    };
+    Net { inputs, gates: (0..128).map(gate).collect(), outputs: vec![inputs + 127] }
+}
+
 /// A chain that folds into one gate: each is 1 if an input or the gate before it is, with 16 inputs in turn.
 pub fn folding_chain(gates: usize) -> Net {
     let inputs = 16;
