@@ -12,7 +12,7 @@ use mir.Val.{boolByte}
 use Rattle.integers.specs.Lists.{range}
 use Rattle.integers.specs.ListLaws.{length-range}
 use Rattle.network.specs.Threshold.{Assignment, digit, wordOf}
-use Rattle.network.specs.WordLaws.{digit-below, word-below}
+use Rattle.network.specs.WordLaws.{word-below}
 
 -- a bool as a number, in the code and in the definitions
 byte-digit : (b : Bool) → boolByte b ≡ digit b

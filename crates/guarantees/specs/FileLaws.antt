@@ -1,9 +1,7 @@
 -- The claims of files and records hold. Assumes nothing.
 use mathlib.Core.Path.{_≡_, sym, ap, _∙_}
-use mathlib.Core.Bool.{Bool, true}
 use mathlib.Core.List.{List}
 use Prim.Native.Nat.{ℕ}
-use lib.Dec.{T}
 use Rattle.integers.specs.TestLaws.{T-is, is-true}
 use Rattle.network.specs.Threshold.{Net}
 use Rattle.network.specs.Record.{netOf, layout, soundRecord}
@@ -16,7 +14,7 @@ use Rattle.format.specs.LengthLaws.{file-bytes}
 use Rattle.pmn.specs.Answers.{asLoaded, loaded}
 use Rattle.pmn.specs.OpenLaws.{opened, loaded-net, opened-sound, opened-bytes}
 use Rattle.pmn.specs.declared.Loaded.{Loaded}
-use Rattle.guarantees.specs.Files.{Accepted, Gives, fileOf, Described, SoundIsDescribed, WrittenIsRead, ReadIsWritten}
+use Rattle.guarantees.specs.Files.{Gives, fileOf, SoundIsDescribed, WrittenIsRead, ReadIsWritten}
 
 -- ---- what a read gives
 

@@ -1,26 +1,22 @@
 -- The claim of lists of calls holds. Assumes nothing.
 use mathlib.Core.Path.{_≡_, refl, sym, ap, _∙_, subst}
-use mathlib.Core.Bool.{Bool, true, false}
+use mathlib.Core.Bool.{true}
 use mathlib.Core.List.{List, [], _∷_}
 use Prim.Native.Nat.{ℕ}
-use lib.Dec.{T}
 use lib.ListN.{length}
-use Rattle.integers.specs.Refusals.{Answer, accepted, refused, checks}
-use Rattle.integers.specs.TestLaws.{T-is, is-true}
-use Rattle.network.specs.Threshold.{Net, Assignment, frame, fitsFrame, outputBits}
+use Rattle.integers.specs.Refusals.{checks}
+use Rattle.network.specs.Threshold.{Net, Assignment, frame, outputBits}
 use Rattle.network.specs.Record.{netOf, layout, soundRecord}
-use Rattle.evaluation.specs.Reading.{frameAnswer, asReading, reading}
+use Rattle.evaluation.specs.Reading.{frameAnswer, reading}
 use Rattle.network.specs.Sound.{Sound}
 use Rattle.network.specs.LimitLaws.{of-sound}
 use Rattle.network.specs.Places.{Holds}
 use Rattle.network.specs.RecordLaws.{netOf-layout, holds-layout, holds-sound}
 use Rattle.network.specs.declared.Network.{Network}
-use Rattle.folding.specs.Sweep.{Swept}
 use Rattle.folding.specs.Calls.{answer, leaves, calls}
-use Rattle.folding.specs.Guarantee.{Kept, Claim, Preserved}
+use Rattle.folding.specs.Guarantee.{Claim}
 use Rattle.folding.specs.GuaranteeLaws.{step-sound, calls-agree, list-kept}
 use Rattle.folding.specs.declared.Call.{Call}
-use Rattle.constraints.specs.Question.{Solves, question}
 use Rattle.constraints.specs.SolutionLaws.{agree-unsolvable}
 use Rattle.sweeping.specs.ApplyLaws.{call-exact, call-record}
 use Rattle.format.specs.Format.{Bytes}

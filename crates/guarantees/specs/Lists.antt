@@ -3,7 +3,6 @@
 use mathlib.Core.Path.{_≡_}
 use mathlib.Core.Bool.{true}
 use mathlib.Core.List.{List, [], _∷_}
-use mathlib.Core.Logic.{_≢_}
 use Prim.Native.Nat.{ℕ}
 use Rattle.network.specs.Threshold.{Assignment, frame, fitsFrame, outputBits}
 use Rattle.network.specs.Record.{netOf, soundRecord}

@@ -1,11 +1,8 @@
 -- The claims of the question hold. Assumes nothing.
-use mathlib.Core.Path.{_≡_}
-use mathlib.Core.Bool.{Bool, true, _&&_}
 use borrow.Author.Tests.{eqb-true}
 use lib.Dec.{eqb}
 use lib.ListN.{length}
 use Rattle.integers.specs.TestLaws.{T-is, and-left, and-right}
-use Rattle.network.specs.Threshold.{Net}
 use Rattle.network.specs.Record.{netOf, soundRecord}
 use Rattle.network.specs.RecordLaws.{sound-net}
 use Rattle.network.specs.declared.Network.{Network}
@@ -13,7 +10,7 @@ use Rattle.constraints.specs.SolutionLaws.{question-decides}
 use Rattle.constraints.specs.SizeLaws.{line-short}
 use Rattle.constraints.specs.MeaningLaws.{question-text-says}
 use Rattle.constraints.specs.Question.{alike}
-use Rattle.guarantees.specs.Questions.{QuestionClaim, Questions}
+use Rattle.guarantees.specs.Questions.{Questions}
 
 pub questions : (a b : Network) → Questions a b
 unfolding alike

@@ -1,16 +1,16 @@
 -- Facts on signed 32-bit numbers for the two casts by hand. Assumes nothing.
 use mathlib.Core.Path.{_≡_, refl, sym, ap, _∙_, subst}
-use Prim.Native.Nat.{ℕ, zero, suc, _+_, _-_, _<_, _≤_, _^_}
+use Prim.Native.Nat.{ℕ, zero, suc, _-_, _<_, _≤_, _^_}
 use native.Mathlib.Nat.{zero-add}
 use native.Mathlib.Omega.{arith}
-use lib.IntN.{ℤ, pos, negsuc, _-ℤ_, natAbs, negℤ, subℕ}
-use lib.Signed.{mag, leZ, nonNeg}
-use lib.Dec.{T, ltb, leb·zero}
-use mathlib.Core.Bool.{Bool, true, false}
-use borrow.Author.Tests.{le-ltb, lt-ltb}
+use lib.IntN.{ℤ, pos, negsuc, _-ℤ_, natAbs}
+use lib.Signed.{leZ, nonNeg}
+use lib.Dec.{T, leb·zero}
+use mathlib.Core.Bool.{true, false}
+use borrow.Author.Tests.{le-ltb}
 use mir.Syntax.{w32}
 use mir.Val.{Fits, SFits, toZ, ofZ}
-use mir.Facts.{toZ-ofZ, toZ-pos}
+use mir.Facts.{toZ-pos}
 
 pub minus-pos : (m : ℕ) → negsuc 0 -ℤ pos m ≡ negsuc m
 minus-pos zero = refl

@@ -1,11 +1,11 @@
 -- Integers for omega: every integer z is hi z - lo z, two naturals of which one is 0, so that a sum, an order or an equation of integers
 -- is a linear fact of naturals. Assumes nothing.
-use mathlib.Core.Path.{_≡_, refl, sym, ap, _∙_}
+use mathlib.Core.Path.{_≡_, refl, ap, _∙_}
 use mathlib.Core.Bool.{Bool, true, false, not, cond, true≢false, false≢true}
 use mathlib.Core.Logic.{_↔_}
 use Prim.Native.Nat.{ℕ, zero, suc, _+_, _*_, _-_, _≤_, _<_}
 use native.Mathlib.Omega.{arith}
-use lib.Dec.{T, ltb, leb, ltb→lt, nltb→le, leb→le, nleb→lt}
+use lib.Dec.{T, ltb, ltb→lt, nltb→le, leb→le, nleb→lt}
 use lib.IntN.{ℤ, pos, negsuc, negℤ, _+ℤ_, _-ℤ_, _*ℤ_, subℕ}
 use lib.Signed.{leZ}
 use Rattle.integers.specs.TestLaws.{T-is, T-isnt, is-true, is-false}

@@ -1,5 +1,5 @@
 -- Laws of lists, ranges and tests over them. Assumes nothing.
-use mathlib.Core.Path.{_≡_, refl, sym, ap, _∙_, subst}
+use mathlib.Core.Path.{_≡_, refl, sym, ap, _∙_}
 use mathlib.Core.Bool.{Bool, true, false, not, cond, _&&_}
 use mathlib.Core.List.{List, [], _∷_, _++_, map}
 use mathlib.Core.Logic.{_≢_}
@@ -11,7 +11,7 @@ use lib.Dec.{T, T-not, eqb, eqb→eq, eqb-refl}
 use lib.ListN.{length, getD, replicate, length-map, length-replicate, getD-replicate}
 use lib.Seq.{ext-getD}
 use Rattle.integers.specs.Lists.{all, below, keep, range, tab, other, Each}
-use Rattle.integers.specs.TestLaws.{is-true, T-and, and-T, and-left, and-right, cond-case, other-ne}
+use Rattle.integers.specs.TestLaws.{is-true, T-and, and-T, cond-case, other-ne}
 
 -- ---- below: a test at each number
 pub below-none : (p : ℕ → Bool) → below 0 p ≡ true

@@ -1,10 +1,9 @@
 -- Laws of answers and refusals. Assumes nothing.
-use mathlib.Core.Path.{_≡_, refl, sym, ap, _∙_, subst}
+use mathlib.Core.Path.{_≡_, refl, sym}
 use mathlib.Core.Bool.{Bool, true, false}
 use mathlib.Core.List.{List, [], _∷_}
 use Prim.Native.Nat.{ℕ}
 use native.Mathlib.Omega.{arith}
-use lib.Dec.{T}
 use Rattle.integers.specs.Refusals.{Answer, accepted, refused, Test, _else_, checks, bind, Passed}
 
 pub accepted≢refused : {A X : Type 0} {a : A} {c : ℕ} → accepted a ≡ refused c → X

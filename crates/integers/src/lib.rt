@@ -1,11 +1,7 @@
 // Leaf conversions: bytes, signed 32-bit little-endian integers, and the size of a number.
 ghost use mathlib.Core.Path.{_≡_};
-ghost use mathlib.Core.List.{_++_};
-ghost use Prim.Native.Nat.{_+_, _≤_, _<_};
+ghost use Prim.Native.Nat.{_<_};
 ghost use lib.IntN.{natAbs};
-ghost use lib.ListN.{length, take, drop};
-ghost use mir.Syntax.{w32};
-ghost use mir.Val.{toZ, ofZ};
 
 // A byte as an index or a count.
 pub fn wide(x: u8) -> usize

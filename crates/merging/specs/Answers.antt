@@ -1,6 +1,6 @@
 -- What merge and pair on records answer. A call on a record tests the record first (20); then it is the call of document 01 on the
 -- network that the record stands for. "A refusal hands the record back unchanged, with 0 for every other number." Nothing is proved here.
-use mathlib.Core.List.{List, [], _∷_}
+use mathlib.Core.List.{[], _∷_}
 use Prim.Native.Nat.{ℕ}
 use Rattle.integers.specs.Refusals.{Answer, accepted, refused, _else_, checks}
 use Rattle.network.specs.Threshold.{Net}

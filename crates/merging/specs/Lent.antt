@@ -1,17 +1,15 @@
 -- The gates in the lent arrays of a sound record, and the pairs of a collapse. Nothing is proved here.
 use mathlib.Core.Path.{_≡_}
-use mathlib.Core.Bool.{cond}
 use mathlib.Core.List.{List}
 use Prim.Native.Nat.{ℕ, _-_, _≤_, _<_}
 use lib.Dec.{T}
 use lib.IntN.{ℤ}
-use lib.ListN.{getD}
 use Rattle.integers.specs.Lists.{tab}
 use Rattle.network.specs.Threshold.{Gate}
 use Rattle.network.specs.Record.{gateFrom, gateRecord}
 use Rattle.network.specs.Places.{rowAt}
 use Rattle.network.specs.Sound.{Gates}
-use Rattle.folding.specs.Merge.{Edge, silent, reads, merged}
+use Rattle.folding.specs.Merge.{Edge, reads}
 
 -- the gates
 abbrev pub gatesIn : List ℕ → List ℤ → List ℕ → List ℤ → ℕ → List Gate

@@ -1,15 +1,14 @@
 -- Soundness of a network as facts, both ways, and what a sound network's gates have. Assumes nothing.
-use mathlib.Core.Path.{_≡_, refl, sym, ap, _∙_, subst}
-use mathlib.Core.Bool.{Bool, true, false, not, cond, _&&_}
-use mathlib.Core.List.{List, [], _∷_, map}
-use Prim.Native.Nat.{ℕ, zero, suc, _+_, _-_, _≤_, _<_}
+use mathlib.Core.Path.{_≡_, subst}
+use mathlib.Core.List.{List, [], _∷_}
+use Prim.Native.Nat.{ℕ, zero, suc, _+_, _-_, _<_}
 use native.Mathlib.Omega.{arith}
 use lib.Dec.{T, leb, ltb, leb→le, le→leb, ltb→lt, lt→ltb}
 use lib.ListN.{length, getD}
-use Rattle.integers.specs.Lists.{all, allFrom, every, between, Each}
+use Rattle.integers.specs.Lists.{allFrom, Each}
 use Rattle.integers.specs.TestLaws.{T-and, and-T, every-of, of-every, between-of, of-between}
 use Rattle.integers.specs.ListLaws.{each-of, of-each}
-use Rattle.network.specs.Threshold.{Feed, Gate, Net}
+use Rattle.network.specs.Threshold.{Gate, Net}
 use Rattle.network.specs.Limits.{signalsOf, rising, scaleOk, gateOk, isGate, soundTests, sound}
 use Rattle.network.specs.Sound.{Rise, GateOk, Gates, Has, Sound}
 use Rattle.network.specs.Changes.{gateAt}

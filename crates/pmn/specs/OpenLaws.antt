@@ -1,7 +1,7 @@
 -- An accepted file: its network, and the record that a read gives. Assumes nothing.
 use mathlib.Core.Path.{_≡_, refl, ap}
 use mathlib.Core.List.{List}
-use Prim.Native.Nat.{ℕ, _<_}
+use Prim.Native.Nat.{ℕ}
 use native.Mathlib.Omega.{arith}
 use Rattle.network.specs.Threshold.{Net}
 use Rattle.network.specs.Record.{layout}

@@ -1,6 +1,6 @@
 use mathlib.Core.Path.{_≡_, _∙_, ap}
-use lib.IntN.{ℤ, pos, natAbs}
-use mir.Syntax.{w32, w64}
+use lib.IntN.{natAbs}
+use mir.Syntax.{w64}
 use mir.Val.{toZ, ofZ}
 use mir.Facts.{toZ-ofZ, fits-natAbs}
 use Rattle.integers.specs.SizeLaws.{read-back, minus-fits, size-minus, minus-nonNeg, plus-nonNeg}

@@ -8,7 +8,6 @@ use network::soundness::is_gate;
 use places::unchecked::gate_at;
 use search::Levels;
 ghost use mathlib.Core.Path.{_≡_};
-ghost use Prim.Native.Nat.{_≤_};
 ghost use lib.Signed.{nonNeg};
 ghost use Rattle.folding.specs.Merge.{onDial};
 ghost use Rattle.alignment.specs.Alignments.{alignmentOf};

@@ -7,7 +7,6 @@ use native.Mathlib.Omega.{arith}
 use lib.ListN.{length, drop, length-append}
 use borrow.Rule.Slice.PartMut.{putMid}
 use borrow.Author.Needs.{needs}
-use Rattle.integers.specs.Refusals.{accepted}
 use Rattle.integers.specs.WriteLaws.{tail-length, write-on}
 use Rattle.network.specs.Record.{netOf}
 use Rattle.format.specs.Format.{fileBytes}
