@@ -23,8 +23,8 @@ unfoldable pub places : {A : Type 0} → A → List A → List A
 places d xs = tab 16 (λ i. getD xs i d)
 
 -- two gate records as an edge
-abbrev pub edgeIn : GateRecord → GateRecord → ℕ → ℕ → Edge
-edgeIn gateU gateV u v = record { u = u; v = v; gateU = gateIn gateU; gateV = gateIn gateV }
+abbrev pub edgeBetween : GateRecord → GateRecord → ℕ → ℕ → Edge
+edgeBetween gateU gateV u v = record { u = u; v = v; gateU = gateIn gateU; gateV = gateIn gateV }
 
 -- an edge within the limits whose signals are bytes
 pub record Alignable (e : Edge) : Type 0 where

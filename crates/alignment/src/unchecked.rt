@@ -10,7 +10,7 @@ ghost use Prim.Native.Nat.{_≤_};
 ghost use lib.IntN.{_-ℤ_};
 ghost use Rattle.network.specs.Limits.{isZero};
 ghost use Rattle.network.specs.Record.{gateIn, gateRecord};
-ghost use Rattle.alignment.specs.Alignments.{weightTable, edgeIn, Alignable, alignmentOf, mixOf, Mixable, mergedOf, Mergeable};
+ghost use Rattle.alignment.specs.Alignments.{weightTable, edgeBetween, Alignable, alignmentOf, mixOf, Mixable, mergedOf, Mergeable};
 
 // The weight of each signal, 0 where it is no feed. The last feed is stored first.
 fn spread(gate: GateRecord) -> [i32; 256]
@@ -37,8 +37,8 @@ fn either(x: i32, y: i32) -> bool
 // Two gates by their distinct feeds: all are counted, and the first 16 listed. u is none of them, so its weight in v is taken out
 // before.
 pub fn align(gate_u: GateRecord, gate_v: GateRecord, u: usize, v: usize) -> Alignment
-    requires { ⌜ Alignable (edgeIn «gate_u» «gate_v» u v) ⌝ }
-    ensures { λ r. ⌜ r ≡ alignmentOf (edgeIn «gate_u» «gate_v» u v) ⌝ }
+    requires { ⌜ Alignable (edgeBetween «gate_u» «gate_v» u v) ⌝ }
+    ensures { λ r. ⌜ r ≡ alignmentOf (edgeBetween «gate_u» «gate_v» u v) ⌝ }
 {
     let in_u = spread(gate_u);
     let mut in_v = spread(gate_v);

@@ -17,18 +17,12 @@ use Rattle.integers.specs.ListLaws.{all-other}
 use Rattle.network.specs.Threshold.{Feed, Gate, Net, Assignment, sum, bit}
 use Rattle.network.specs.Limits.{signalsOf}
 use Rattle.network.specs.Changes.{lowered, loweredFeed, loweredGate, removeAt, without}
+use Rattle.network.specs.ChangeLaws.{lowered-low, lowered-high}
 use Rattle.network.specs.Sound.{Has}
 use Rattle.equivalence.specs.Consistent.{Vals, Sim}
 use Rattle.folding.specs.Merge.{silent}
 
 -- ---- signals that fall by one
-pub lowered-le : (u s : ℕ) → s ≤ u → lowered u s ≡ s
-unfolding lowered
-lowered-le u s h = rw (is-false (ltb u s) (le→nltb u s h))
-
-pub lowered-gt : (u s : ℕ) → u < s → lowered u s ≡ s - 1
-unfolding lowered
-lowered-gt u s h = rw (is-true (ltb u s) (lt→ltb u s h))
 
 -- the signal that falls to s
 raised : ℕ → ℕ → ℕ
@@ -44,8 +38,8 @@ raised-ge u s h = rw (is-false (ltb s u) (le→nltb s u h))
 
 raised-lowered : (u s : ℕ) → s ≢ u → raised u (lowered u s) ≡ s
 raised-lowered u s h = elim (decLt u s) as (λ d. raised u (lowered u s) ≡ s) [
-  | yes k ↦ rw (lowered-gt u s k) (raised-ge u (s - 1) (omega arith) ∙ omega arith)
-  | no k ↦ rw (lowered-le u s (omega arith)) (raised-lt u s (omega arith))
+  | yes k ↦ rw (lowered-high u s k) (raised-ge u (s - 1) (omega arith) ∙ omega arith)
+  | no k ↦ rw (lowered-low u s (omega arith)) (raised-lt u s (omega arith))
 ]
 
 -- ---- gates that do not read u

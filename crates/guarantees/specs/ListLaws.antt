@@ -8,14 +8,12 @@ use Rattle.integers.specs.Refusals.{checks}
 use Rattle.network.specs.Threshold.{Net, Assignment, frame, outputBits}
 use Rattle.network.specs.Record.{netOf, layout, soundRecord}
 use Rattle.evaluation.specs.Reading.{frameAnswer, reading}
-use Rattle.network.specs.Sound.{Sound}
 use Rattle.network.specs.LimitLaws.{of-sound}
 use Rattle.network.specs.Places.{Holds}
 use Rattle.network.specs.RecordLaws.{netOf-layout, holds-layout, holds-sound}
 use Rattle.network.specs.declared.Network.{Network}
 use Rattle.folding.specs.Calls.{answer, leaves, calls}
-use Rattle.folding.specs.Guarantee.{Claim}
-use Rattle.folding.specs.GuaranteeLaws.{step-sound, calls-agree, list-kept}
+use Rattle.folding.specs.GuaranteeLaws.{step-sound, calls-agree, claim, list-kept}
 use Rattle.folding.specs.declared.Call.{Call}
 use Rattle.constraints.specs.SolutionLaws.{agree-unsolvable}
 use Rattle.sweeping.specs.ApplyLaws.{call-exact, call-record}
@@ -27,9 +25,6 @@ use Rattle.guarantees.specs.Files.{Accepted}
 use Rattle.guarantees.specs.Lists.{callsOn, CallClaim, CallClaims, ListClaim}
 
 -- ---- every list
-
-claim-of : (N : Net) (c : Call) → Sound N → Claim N c
-claim-of N c s = list-kept N (of-sound N s) (c ∷ []) .each-call .0
 
 -- what a list leaves
 record Left (r : Network) (cs : List Call) : Type 0 where
@@ -47,7 +42,7 @@ list-left r (c ∷ cs) s =
     let m = step-sound N c n in
     let e = call-record r c s in
     let next = list-left (layout M) cs (holds-layout M m) in
-    let here : CallClaim r c = record { exact = call-exact r c (holds-sound r s); claim = claim-of N c n } in
+    let here : CallClaim r c = record { exact = call-exact r c (holds-sound r s); claim = claim N c n } in
     record {
       holds = subst (λ (x : Network). Holds (callsOn x cs)) (sym e) (next .holds);
       network = ap (λ (x : Network). netOf (callsOn x cs)) e ∙ next .network ∙ ap (λ (x : Net). calls x cs) (netOf-layout M m);

@@ -7,6 +7,7 @@ pub mod Refusals
 pub mod RefusalLaws
 pub mod IntegerLaws
 pub mod SizeLaws
+pub mod SignLaws
 pub mod Word
 pub mod WordLaws
 pub mod WriteLaws

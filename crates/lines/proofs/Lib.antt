@@ -1,3 +1,2 @@
-pub mod SignLaws
 pub mod SumLaws
 pub mod GateNumbers

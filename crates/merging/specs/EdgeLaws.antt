@@ -62,7 +62,7 @@ module _ {fanins : List ℕ} {thresholds : List ℤ} {signals : List ℕ} {weigh
 
     -- their places stand for them
     pub joined-rows : (gateU gateV : GateRecord) → gateU ≡ rowAt fanins thresholds signals weights (u - inputs) → gateV ≡ rowAt fanins thresholds signals weights (v - inputs)
-        → alignments.edgeIn gateU gateV u v ≡ edgeIn fanins thresholds signals weights inputs u v
+        → alignments.edgeBetween gateU gateV u v ≡ edgeIn fanins thresholds signals weights inputs u v
     joined-rows gateU gateV x y =
         ap₂ (λ (g h : Gate). record { u = u; v = v; gateU = g; gateV = h }) (ap gateIn x ∙ signal-row u (j .u-gate)) (ap gateIn y ∙ signal-row v (j .v-gate))
 

@@ -11,7 +11,7 @@ use Rattle.integers.specs.SizeLaws.{read-back}
 use Rattle.network.specs.Record.{gateIn}
 use Rattle.folding.specs.Merge.{Edge, among}
 use Rattle.folding.specs.AlignedLaws.{edge-rises}
-use Rattle.alignment.specs.Alignments.{edgeIn}
+use Rattle.alignment.specs.Alignments.{edgeBetween}
 use Rattle.alignment.proofs.Store.{fanin-is}
 use Rattle.alignment.proofs.Gather.{inU, inOther, table-at, other-at, among-is, other-is, Listed, listed-none, listed-few, listed-skip, listed-store, listed-full, listed-all}
 use borrow.Author.Needs.{needs}
@@ -20,14 +20,14 @@ use Rattle.alignment.proofs.unchecked.align.Tie as tie
 
 abbrev Inv-loop : tie.InvT-loop
 Inv-loop gate-u gate-v u v in-u in-v b signals₀ us₀ vs₀ count₀ s₀ signals us vs count s =
-    (s ≤ v) × Listed (edgeIn gate-u gate-v u v) s count signals us vs
+    (s ≤ v) × Listed (edgeBetween gate-u gate-v u v) s count signals us vs
 
 abbrev μ-loop : tie.MeasureT-loop
 μ-loop gate-u gate-v u v in-u in-v b signals₀ us₀ vs₀ count₀ s₀ signals us vs count s = v - s
 
 -- the edge, and the bounds of its signals
 abbrev edge : tie.Start Inv-loop μ-loop → Edge
-edge c = edgeIn (c .args .gate-u) (c .args .gate-v) (c .args .u) (c .args .v)
+edge c = edgeBetween (c .args .gate-u) (c .args .gate-v) (c .args .u) (c .args .v)
 
 u-low : (c : tie.Start Inv-loop μ-loop) → c .args .u < 256
 u-low c = omega (arith, edge-rises (edge c) (c .pre .ok), c .pre .low)

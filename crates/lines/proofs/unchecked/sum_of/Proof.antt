@@ -10,7 +10,7 @@ use borrow.Author.Needs.{needs}
 use Rattle.network.specs.Record.{gateIn}
 use Rattle.lines.specs.Lines.{sidePart}
 use Rattle.lines.specs.TermLaws.{sidedOf, sided-none, sided-more, scaled-at}
-use Rattle.lines.proofs.SignLaws.{from-sign}
+use Rattle.integers.specs.SignLaws.{from-sign}
 use Rattle.lines.proofs.SumLaws.{small-back, Summed, summed-is, add-fits, summed-more, summed-same}
 use Rattle.lines.proofs.unchecked.sum_of.Statement.{statement}
 use Rattle.lines.proofs.unchecked.sum_of.Tie as tie

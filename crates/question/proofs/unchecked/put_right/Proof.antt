@@ -10,7 +10,7 @@ use borrow.Author.Needs.{needs}
 use Rattle.constraints.specs.Text.{decimal, rightSide}
 use Rattle.question.specs.TextPartLaws.{right-below, right-above}
 use Rattle.question.proofs.PutLaws.{put-text}
-use Rattle.lines.proofs.SignLaws.{below-sign, above-sign}
+use Rattle.integers.specs.SignLaws.{below-sign, above-sign}
 use Rattle.question.proofs.unchecked.put_right.Statement.{statement}
 use Rattle.question.proofs.unchecked.put_right.Tie as tie
 

@@ -22,7 +22,7 @@ gate-at-requires-2 c κs = signal-place (c .before .pre .0) (c .before .args .v)
 
 -- the two gates taken out are those of the arrays
 same : (c : tie.After-gate-at2) → let a = c .before .before .args in
-    alignments.edgeIn (c .before .gate-at .result) (c .gate-at2 .result) (a .u) (a .v)
+    alignments.edgeBetween (c .before .gate-at .result) (c .gate-at2 .result) (a .u) (a .v)
     ≡ edgeIn (a .fanins .now) (a .thresholds .now) (a .signals .now) (a .weights .now) (a .inputs) (a .u) (a .v)
 same c =
     let s = c .before .before in
