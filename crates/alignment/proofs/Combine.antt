@@ -4,87 +4,81 @@ use mathlib.Core.Bool.{true, false, not, cond}
 use mathlib.Core.List.{List, [], _∷_, _++_, map}
 use Prim.Native.Nat.{ℕ, _+_, _≤_, _<_}
 use native.Mathlib.Omega.{arith}
-use lib.IntN.{ℤ, pos, _-ℤ_}
+use lib.Dec.{T}
+use lib.IntN.{ℤ, pos}
 use lib.ListN.{length, getD, set, replicate, length-append, length-map}
 use lib.Seq.{length-take-le, getD-take}
-use mir.Syntax.{w32}
-use mir.Val.{SFits}
-use Rattle.integers.specs.Lists.{below, keep, range}
+use Rattle.integers.specs.Lists.{below, keep, range, places}
 use Rattle.integers.specs.TestLaws.{T-and}
 use Rattle.integers.specs.ListLaws.{below-at, length-keep, length-range, range-more}
-use Rattle.integers.specs.SizeLaws.{size-sub, fits-size}
 use Rattle.network.specs.Threshold.{Feed}
 use Rattle.network.specs.Limits.{signalsOf, inScale, isZero}
 use Rattle.network.specs.Record.{gateRecord}
 use Rattle.network.specs.declared.GateRecord.{GateRecord}
 use Rattle.folding.specs.Merge.{stays}
-use Rattle.folding.specs.Aligned.{level, mix, scaleFits}
-use Rattle.alignment.specs.Alignments.{places, alignedIn, mixFeed, mergedOf, mixOf, Mixable, Mergeable}
+use Rattle.folding.specs.Aligned.{mix, mixedThreshold, mixedWeight, scaleFits}
+use Rattle.alignment.specs.Alignments.{alignedIn, mixedFeed, mergedOf, Mixable, Mergeable}
 use Rattle.alignment.specs.AlignmentLaws.{gate-places}
-use Rattle.alignment.specs.PlaceLaws.{keep-last, map-last, places-none, placed-last}
+use Rattle.integers.specs.PlaceLaws.{keep-last, map-last, places-none, placed-last}
 use Rattle.alignment.specs.declared.Alignment.{Alignment}
+
+-- a mix can be made, and is on the scale
+abbrev pub OnScale : ℕ → ℕ → ℤ → ℤ → Type 0
+OnScale k l x y = Mixable k l x y × T (inScale (mix k l x y))
 
 module _ (a : Alignment) (k l : ℕ) where
   -- the merged gate's feeds among the first i distinct feeds
   abbrev pub feedsTo : ℕ → List Feed
-  feedsTo i = keep stays (map (mixFeed a k l) (range 0 i))
+  feedsTo i = keep stays (map (mixedFeed a k l) (range 0 i))
 
   -- ---- the mixes are on the scale
 
   -- a mix is made of the two weights listed
-  pub mix-at : (i : ℕ) → i < a .count → mix (alignedIn a) k l i ≡ mixOf (getD (a .us) i (pos 0)) (getD (a .vs) i (pos 0)) k l
-  unfolding mix alignedIn
+  pub mix-at : (i : ℕ) → i < a .count → mixedWeight (alignedIn a) k l i ≡ mix k l (getD (a .us) i (pos 0)) (getD (a .vs) i (pos 0))
+  unfolding mixedWeight alignedIn
   mix-at i h = rw (getD-take (a .count) (a .us) i (pos 0) h, getD-take (a .count) (a .vs) i (pos 0) h)
 
   -- each weight, and the threshold, as the mix that the code makes
-  pub weight-mixable : Mergeable a k l → length (a .us) ≡ 16 → (i : ℕ) → i < a .count → SFits w32 (getD (a .us) i (pos 0)) → SFits w32 (getD (a .vs) i (pos 0))
-      → Mixable (getD (a .us) i (pos 0)) (getD (a .vs) i (pos 0)) k l
+  pub weight-mixable : Mergeable a k l → (i : ℕ) → i < a .count → OnScale k l (getD (a .us) i (pos 0)) (getD (a .vs) i (pos 0))
   unfolding scaleFits alignedIn
-  weight-mixable m n i h fx fy =
-      let t = T-and (inScale (level (alignedIn a) k l)) (below (length (alignedIn a .us)) (λ i. inScale (mix (alignedIn a) k l i))) (m .fits) .1 in
-      let c = length-take-le (a .count) (a .us) (omega (arith, m .few)) in
-      record {
-        small-x = omega (arith, fits-size fx);
-        small-y = omega (arith, fits-size fy);
-        small-k = m .small-k;
-        small-l = m .small-l;
-        fits = rw (mix-at i h) at (below-at (length (alignedIn a .us)) (λ i. inScale (mix (alignedIn a) k l i)) t i (omega (arith, c)));
-      }
+  weight-mixable m i h =
+      let t = T-and (inScale (mixedThreshold (a .thresholds) k l)) (below (length (alignedIn a .us)) (λ i. inScale (mixedWeight (alignedIn a) k l i))) (m .fits) .1 in
+      let c = length-take-le (a .count) (a .us) (omega (arith, m .searchable .few, m .searchable .fair .placed)) in (
+        record { dial = m .dial; x-small = omega (arith, m .searchable .fair .us-small i); y-small = omega (arith, m .searchable .fair .vs-small i) },
+        rw (mix-at i h) at (below-at (length (alignedIn a .us)) (λ i. inScale (mixedWeight (alignedIn a) k l i)) t i (omega (arith, c))),
+      )
 
-  pub level-mixable : Mergeable a k l → SFits w32 (a .tu) → SFits w32 (a .tv) → SFits w32 (a .b) → Mixable (a .tu) (a .tv -ℤ a .b) k l
-  unfolding scaleFits level alignedIn
-  level-mixable m fu fv fb = record {
-    small-x = omega (arith, fits-size fu);
-    small-y = omega (arith, size-sub (a .tv) (a .b), fits-size fv, fits-size fb);
-    small-k = m .small-k;
-    small-l = m .small-l;
-    fits = T-and (inScale (level (alignedIn a) k l)) (below (length (alignedIn a .us)) (λ i. inScale (mix (alignedIn a) k l i))) (m .fits) .0;
-  }
+  pub threshold-mixable : Mergeable a k l → OnScale k l (a .thresholds .own) (a .thresholds .on)
+  unfolding scaleFits mixedThreshold alignedIn
+  threshold-mixable m = (
+    record { dial = m .dial; x-small = omega (arith, m .searchable .fair .near .own-small); y-small = omega (arith, m .searchable .fair .near .on-small) },
+    T-and (inScale (mixedThreshold (a .thresholds) k l)) (below (length (alignedIn a .us)) (λ i. inScale (mixedWeight (alignedIn a) k l i))) (m .fits) .0,
+  )
 
   -- ---- the lists
 
   -- the merged gate's feeds among the first i distinct feeds: their number, signals and weights
   pub record Combined (i fanin : ℕ) (signals : List ℕ) (weights : List ℤ) : Type 0 where
     pub counted : fanin ≡ length (feedsTo i)
-    pub named : signals ≡ places 0 (map (λ f. f .signal) (feedsTo i))
-    pub weighed : weights ≡ places (pos 0) (map (λ f. f .weight) (feedsTo i))
+    pub named : signals ≡ places 16 0 (map (λ f. f .signal) (feedsTo i))
+    pub weighed : weights ≡ places 16 (pos 0) (map (λ f. f .weight) (feedsTo i))
 
   -- among none there are none
   pub combined-none : Combined 0 0 (replicate 16 0) (replicate 16 (pos 0))
   unfolding keep range
-  combined-none = record { counted = refl; named = places-none 0; weighed = places-none (pos 0) }
+  combined-none = record { counted = refl; named = places-none 16 0; weighed = places-none 16 (pos 0) }
 
   -- among i there are at most i
   pub combined-few : (i fanin : ℕ) (signals : List ℕ) (weights : List ℤ) → Combined i fanin signals weights → fanin ≤ i
-  combined-few i fanin signals weights c = omega (arith, c .counted, length-keep stays (map (mixFeed a k l) (range 0 i)), length-map (range 0 i) (mixFeed a k l), length-range 0 i)
+  combined-few i fanin signals weights c = omega (arith, c .counted, length-keep stays (map (mixedFeed a k l) (range 0 i)), length-map (range 0 i) (mixedFeed a k l), length-range 0 i)
 
   -- whether distinct feed i gives one more
-  feeds-more : (i : ℕ) → feedsTo (i + 1) ≡ cond (stays (mixFeed a k l i)) (feedsTo i ++ (mixFeed a k l i ∷ [])) (feedsTo i)
-  feeds-more i = rw (range-more 0 i, let q : 0 + i ≡ i = omega arith in q, map-last (mixFeed a k l) (range 0 i) i) (keep-last stays (map (mixFeed a k l) (range 0 i)) (mixFeed a k l i))
+  feeds-more : (i : ℕ) → feedsTo (i + 1) ≡ cond (stays (mixedFeed a k l i)) (feedsTo i ++ (mixedFeed a k l i ∷ [])) (feedsTo i)
+  feeds-more i = rw (range-more 0 i, let q : 0 + i ≡ i = omega arith in q, map-last (mixedFeed a k l) (range 0 i) i) (keep-last stays (map (mixedFeed a k l) (range 0 i)) (mixedFeed a k l i))
 
-  module _ (i fanin : ℕ) (signals : List ℕ) (weights : List ℤ) (c : Combined i fanin signals weights) (w : ℤ) (w-is : w ≡ mix (alignedIn a) k l i) where
-    stay-is : stays (mixFeed a k l i) ≡ not (isZero w)
-    unfolding stays mixFeed
+  module _ (i fanin : ℕ) (signals : List ℕ) (weights : List ℤ) (c : Combined i fanin signals weights) (w : ℤ) (w-is : w ≡ mixedWeight (alignedIn a) k l i) where
+    stay-is : stays (mixedFeed a k l i) ≡ not (isZero w)
+    unfolding stays mixedFeed
     stay-is = rw w-is
 
     -- a sum of 0 drops the feed
@@ -96,15 +90,15 @@ module _ (a : Alignment) (k l : ℕ) where
     -- any other is stored
     pub combined-store : isZero w ≡ false → Combined (i + 1) (fanin + 1) (set signals fanin (getD (a .signals) i 0)) (set weights fanin w)
     combined-store h =
-        let q : feedsTo (i + 1) ≡ feedsTo i ++ (mixFeed a k l i ∷ []) = feeds-more i ∙ rw (stay-is, h) in
+        let q : feedsTo (i + 1) ≡ feedsTo i ++ (mixedFeed a k l i ∷ []) = feeds-more i ∙ rw (stay-is, h) in
         record {
-          counted = rw q (omega (arith, c .counted, length-append (feedsTo i) (mixFeed a k l i ∷ [])));
-          named = rw q (placed-last 0 (λ f. f .signal) (feedsTo i) (mixFeed a k l i) fanin signals (c .named) (c .counted) (getD (a .signals) i 0) (unfold mixFeed in refl));
-          weighed = rw q (placed-last (pos 0) (λ f. f .weight) (feedsTo i) (mixFeed a k l i) fanin weights (c .weighed) (c .counted) w (unfold mixFeed in w-is));
+          counted = rw q (omega (arith, c .counted, length-append (feedsTo i) (mixedFeed a k l i ∷ [])));
+          named = rw q (placed-last 16 0 (λ f. f .signal) (feedsTo i) (mixedFeed a k l i) fanin signals (c .named) (c .counted) (getD (a .signals) i 0) (unfold mixedFeed in refl));
+          weighed = rw q (placed-last 16 (pos 0) (λ f. f .weight) (feedsTo i) (mixedFeed a k l i) fanin weights (c .weighed) (c .counted) w (unfold mixedFeed in w-is));
         }
 
   -- among all: the merged gate
   pub combined-all : (fanin : ℕ) (signals : List ℕ) (weights : List ℤ) → Combined (a .count) fanin signals weights
-      → _≡_ {A = GateRecord} (record { fanin = fanin; threshold = level (alignedIn a) k l; signals = signals; weights = weights }) (gateRecord (mergedOf a k l))
+      → _≡_ {A = GateRecord} (record { fanin = fanin; threshold = mixedThreshold (a .thresholds) k l; signals = signals; weights = weights }) (gateRecord (mergedOf a k l))
   unfolding mergedOf signalsOf
-  combined-all fanin signals weights c = (λ j. record { fanin = c .counted j; threshold = level (alignedIn a) k l; signals = c .named j; weights = c .weighed j }) ∙ sym (gate-places (mergedOf a k l))
+  combined-all fanin signals weights c = (λ j. record { fanin = c .counted j; threshold = mixedThreshold (a .thresholds) k l; signals = c .named j; weights = c .weighed j }) ∙ sym (gate-places (mergedOf a k l))

@@ -8,16 +8,16 @@ use lib.Dec.{T, T-not, eqb, eqb→eq, eqb-refl}
 use lib.IntN.{ℤ, pos}
 use lib.ListN.{length, getD, set, replicate, length-append}
 use borrow.Author.Tests.{eqb-true}
-use Rattle.integers.specs.Lists.{keep, range, other}
+use Rattle.integers.specs.Lists.{keep, range, other, places}
 use Rattle.integers.specs.TestLaws.{T-is, test-same}
 use Rattle.integers.specs.ListLaws.{length-keep, length-range, range-more, getD-tab}
 use Rattle.network.specs.Threshold.{Feed}
 use Rattle.network.specs.Limits.{isZero}
 use Rattle.folding.specs.Merge.{Edge, weightOf, among, distinct}
-use Rattle.folding.specs.Aligned.{aligned}
+use Rattle.folding.specs.Aligned.{edgeThresholds, aligned}
 use Rattle.folding.specs.AlignedLaws.{EdgeOk, reads-weight, u-apart}
-use Rattle.alignment.specs.Alignments.{weightTable, places, alignmentOf}
-use Rattle.alignment.specs.PlaceLaws.{set-tab, keep-last, places-none, places-last, places-full, placed-last, placed-full}
+use Rattle.alignment.specs.Alignments.{weightTable, alignmentOf}
+use Rattle.integers.specs.PlaceLaws.{set-tab, keep-last, places-none, places-last, places-full, placed-last, placed-full}
 use Rattle.alignment.specs.declared.Alignment.{Alignment}
 
 -- the distinct feeds below s
@@ -74,15 +74,15 @@ other-is e ok s h = elim (eqb (e .u) s) as (λ b. eqb (e .u) s ≡ b → cond b 
 -- the distinct feeds below s: their number, and the first 16 of them with their weights
 pub record Listed (e : Edge) (s count : ℕ) (signals : List ℕ) (us vs : List ℤ) : Type 0 where
   pub counted : count ≡ length (found e s)
-  pub named : signals ≡ places 0 (found e s)
-  pub in-u : us ≡ places (pos 0) (map (inU e) (found e s))
-  pub in-v : vs ≡ places (pos 0) (map (inV e) (found e s))
+  pub named : signals ≡ places 16 0 (found e s)
+  pub in-u : us ≡ places 16 (pos 0) (map (inU e) (found e s))
+  pub in-v : vs ≡ places 16 (pos 0) (map (inV e) (found e s))
 
 module _ (e : Edge) where
   -- below 0 there are none
   pub listed-none : Listed e 0 0 (replicate 16 0) (replicate 16 (pos 0)) (replicate 16 (pos 0))
   unfolding keep range
-  listed-none = record { counted = refl; named = places-none 0; in-u = places-none (pos 0); in-v = places-none (pos 0) }
+  listed-none = record { counted = refl; named = places-none 16 0; in-u = places-none 16 (pos 0); in-v = places-none 16 (pos 0) }
 
   -- below s there are at most s
   pub listed-few : (s count : ℕ) {signals : List ℕ} {us vs : List ℤ} → Listed e s count signals us vs → count ≤ s
@@ -105,9 +105,9 @@ module _ (e : Edge) where
         let q : found e (s + 1) ≡ found e s ++ (s ∷ []) = found-more s ∙ rw h in
         record {
           counted = rw q (omega (arith, l .counted, length-append (found e s) (s ∷ [])));
-          named = rw (q, l .named, l .counted) (places-last 0 (found e s) s);
-          in-u = rw q (placed-last (pos 0) (inU e) (found e s) s count us (l .in-u) (l .counted) x ex);
-          in-v = rw q (placed-last (pos 0) (inV e) (found e s) s count vs (l .in-v) (l .counted) y ey);
+          named = rw (q, l .named, l .counted) (places-last 16 0 (found e s) s);
+          in-u = rw q (placed-last 16 (pos 0) (inU e) (found e s) s count us (l .in-u) (l .counted) x ex);
+          in-v = rw q (placed-last 16 (pos 0) (inV e) (found e s) s count vs (l .in-v) (l .counted) y ey);
         }
 
     -- s is one, and the 16 places are taken
@@ -116,13 +116,13 @@ module _ (e : Edge) where
         let q : found e (s + 1) ≡ found e s ++ (s ∷ []) = found-more s ∙ rw h in
         record {
           counted = rw q (omega (arith, l .counted, length-append (found e s) (s ∷ [])));
-          named = rw (q, l .named) (places-full 0 (found e s) s (omega (arith, l .counted)));
-          in-u = rw q (placed-full (pos 0) (inU e) (found e s) s count us (l .in-u) (l .counted) k);
-          in-v = rw q (placed-full (pos 0) (inV e) (found e s) s count vs (l .in-v) (l .counted) k);
+          named = rw (q, l .named) (places-full 16 0 (found e s) s (omega (arith, l .counted)));
+          in-u = rw q (placed-full 16 (pos 0) (inU e) (found e s) s count us (l .in-u) (l .counted) k);
+          in-v = rw q (placed-full 16 (pos 0) (inV e) (found e s) s count vs (l .in-v) (l .counted) k);
         }
 
   -- below v there are all
   pub listed-all : (count : ℕ) (signals : List ℕ) (us vs : List ℤ) → Listed e (e .v) count signals us vs
-      → _≡_ {A = Alignment} (record { count = count; signals = signals; us = us; vs = vs; tu = e .gateU .threshold; tv = e .gateV .threshold; b = inV e (e .u) }) (alignmentOf e)
+      → _≡_ {A = Alignment} (record { count = count; signals = signals; us = us; vs = vs; thresholds = edgeThresholds e }) (alignmentOf e)
   unfolding alignmentOf aligned distinct
-  listed-all count signals us vs l = λ j. record { count = l .counted j; signals = l .named j; us = l .in-u j; vs = l .in-v j; tu = e .gateU .threshold; tv = e .gateV .threshold; b = inV e (e .u) }
+  listed-all count signals us vs l = λ j. record { count = l .counted j; signals = l .named j; us = l .in-u j; vs = l .in-v j; thresholds = edgeThresholds e }

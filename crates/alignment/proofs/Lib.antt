@@ -1,4 +1,3 @@
 pub mod Combine
 pub mod Gather
-pub mod Mix
 pub mod Store

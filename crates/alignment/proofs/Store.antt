@@ -12,7 +12,7 @@ use Rattle.network.specs.Record.{feedsFrom, feedAt, gateIn}
 use Rattle.network.specs.declared.GateRecord.{GateRecord}
 use Rattle.folding.specs.Merge.{weightOf}
 use Rattle.alignment.specs.Alignments.{weightTable}
-use Rattle.alignment.specs.PlaceLaws.{set-tab}
+use Rattle.integers.specs.PlaceLaws.{set-tab}
 
 -- no feed, and one feed more in front
 table-none : replicate 256 (pos 0) ≡ weightTable []

@@ -1,63 +1,91 @@
 -- Laws of the record of two gates by their distinct feeds: what it stands for, and that its merged gate is that of document 01.
 -- Assumes nothing.
-use mathlib.Core.Path.{_≡_, sym, ap, ap₂, _∙_}
-use mathlib.Core.List.{map}
+use mathlib.Core.Path.{_≡_, sym, ap, ap₂, _∙_, subst}
+use mathlib.Core.List.{List, map}
 use Prim.Native.Nat.{ℕ, _≤_, _<_}
+use native.Mathlib.Decide.{decLt}
 use native.Mathlib.Omega.{arith}
 use lib.Dec.{T}
-use lib.IntN.{ℤ, pos, _+ℤ_, _*ℤ_}
-use lib.ListN.{length, getD, take, length-map, List·getD-map}
-use Rattle.integers.specs.Lists.{keep}
+use lib.IntN.{ℤ, pos, natAbs}
+use lib.ListN.{length, getD, take, length-map, List·getD-map, List·getD-eq-default}
+use Rattle.integers.specs.Lists.{keep, places}
 use Rattle.integers.specs.ListLaws.{tab-of, tab-same}
 use Rattle.network.specs.Threshold.{Gate}
-use Rattle.network.specs.Limits.{signalsOf}
+use Rattle.network.specs.Limits.{signalsOf, scaleOk}
 use Rattle.network.specs.Record.{noFeed, gateRecord}
 use Rattle.folding.specs.Merge.{Edge, weightOf, distinct, mergedFeed, stays, mergedThreshold, merged}
-use Rattle.folding.specs.Aligned.{Aligned, aligned, level, mix, scaleFits}
-use Rattle.folding.specs.AlignedLaws.{us-length, vs-length}
-use Rattle.alignment.specs.Alignments.{places, alignmentOf, alignedIn, mixFeed, mergedOf, Mergeable}
+use Rattle.folding.specs.Aligned.{Aligned, edgeThresholds, aligned, mix, mixedThreshold, mixedWeight}
+use Rattle.folding.specs.AlignedLaws.{EdgeOk, scaleOk-fits, us-length, vs-length, aligned-small}
+use Rattle.alignment.specs.Alignments.{alignmentOf, alignedIn, mixedFeed, mergedOf, Small, Fair, Searchable, Mergeable}
 use Rattle.integers.specs.TableLaws.{getD-map}
-use Rattle.alignment.specs.PlaceLaws.{getD-places, take-places}
+use Rattle.integers.specs.PlaceLaws.{length-places, getD-places, take-places}
 
 -- the record of an edge with at most 16 distinct feeds stands for its two gates
 pub aligned-in : (e : Edge) → length (distinct e) ≤ 16 → alignedIn (alignmentOf e) ≡ aligned e
 unfolding alignedIn alignmentOf
 aligned-in e h =
-    let u = ap (λ (n : ℕ). take n (places (pos 0) (aligned e .us))) (sym (us-length e)) ∙ take-places (pos 0) (aligned e .us) (omega (arith, us-length e)) in
-    let v = ap (λ (n : ℕ). take n (places (pos 0) (aligned e .vs))) (sym (vs-length e)) ∙ take-places (pos 0) (aligned e .vs) (omega (arith, vs-length e)) in
-    λ j. record { us = u j; vs = v j; tu = aligned e .tu; tv = aligned e .tv; b = aligned e .b }
+    let u = ap (λ (n : ℕ). take n (places 16 (pos 0) (aligned e .us))) (sym (us-length e)) ∙ take-places 16 (pos 0) (aligned e .us) (omega (arith, us-length e)) in
+    let v = ap (λ (n : ℕ). take n (places 16 (pos 0) (aligned e .vs))) (sym (vs-length e)) ∙ take-places 16 (pos 0) (aligned e .vs) (omega (arith, vs-length e)) in
+    λ j. record { us = u j; vs = v j; thresholds = aligned e .thresholds }
 
-mix-feed : (e : Edge) (k l : ℕ) → length (distinct e) ≤ 16 → (i : ℕ) → i < length (distinct e)
-    → mixFeed (alignmentOf e) k l i ≡ getD (map (mergedFeed e k l) (distinct e)) i noFeed
-unfolding mixFeed mergedFeed mix aligned alignmentOf
-mix-feed e k l h i n =
-    let s = getD-places 0 (distinct e) i (omega arith) in
-    let m = ap (λ (a : Aligned). mix a k l i) (aligned-in e h) in
+feed-is : (e : Edge) (k l : ℕ) → length (distinct e) ≤ 16 → (i : ℕ) → i < length (distinct e)
+    → mixedFeed (alignmentOf e) k l i ≡ getD (map (mergedFeed e k l) (distinct e)) i noFeed
+unfolding mixedFeed mergedFeed mixedWeight aligned alignmentOf
+feed-is e k l h i n =
+    let s = getD-places 16 0 (distinct e) i (omega arith) in
+    let m = ap (λ (a : Aligned). mixedWeight a k l i) (aligned-in e h) in
     let f = getD-map (λ x. weightOf x (e .gateU .feeds)) (distinct e) i 0 (pos 0) n in
     let g = getD-map (λ x. weightOf x (e .gateV .feeds)) (distinct e) i 0 (pos 0) n in
-    let w = m ∙ ap₂ (λ (x y : ℤ). pos k *ℤ x +ℤ pos l *ℤ y) f g in
+    let w = m ∙ ap₂ (mix k l) f g in
     (λ j. record { signal = s j; weight = w j }) ∙ sym (getD-map (mergedFeed e k l) (distinct e) i 0 noFeed n)
 
 -- its merged gate is the edge's
 pub merged-is : (e : Edge) (k l : ℕ) → length (distinct e) ≤ 16 → mergedOf (alignmentOf e) k l ≡ merged e k l
-unfolding mergedOf merged mergedThreshold level aligned alignmentOf
+unfolding mergedOf merged mergedThreshold mixedThreshold aligned edgeThresholds alignmentOf
 merged-is e k l h =
-    let feeds = tab-of noFeed (length (distinct e)) (mixFeed (alignmentOf e) k l) (map (mergedFeed e k l) (distinct e)) (sym (length-map (distinct e) (mergedFeed e k l)))
-    (λ i n. mix-feed e k l h i (omega (arith, n, length-map (distinct e) (mergedFeed e k l)))) in
-    let t = ap (λ (a : Aligned). level a k l) (aligned-in e h) in
-    λ j. record { feeds = keep stays (feeds j); threshold = t j }
+    let feeds = tab-of noFeed (length (distinct e)) (mixedFeed (alignmentOf e) k l) (map (mergedFeed e k l) (distinct e)) (sym (length-map (distinct e) (mergedFeed e k l)))
+    (λ i n. feed-is e k l h i (omega (arith, n, length-map (distinct e) (mergedFeed e k l)))) in
+    λ j. record { feeds = keep stays (feeds j); threshold = mixedThreshold (aligned e .thresholds) k l }
+
+-- ---- what callers have tested
+
+-- a spare place holds 0, so no place holds more than the list
+places-small : (n : ℕ) (xs : List ℤ) → Small n xs → Small n (places 16 (pos 0) xs)
+places-small n xs h i = elim (decLt i 16) as (λ d. natAbs (getD (places 16 (pos 0) xs) i (pos 0)) ≤ n) [
+  | yes k ↦ rw (getD-places 16 (pos 0) xs i k) (h i)
+  | no k ↦ rw (List·getD-eq-default (places 16 (pos 0) xs) (pos 0) {n = i} (omega (arith, length-places 16 (pos 0) xs))) (omega arith)
+]
+
+-- two gates within the limits have numbers that can be added
+pub aligned-fair : (e : Edge) → EdgeOk e → Fair (alignmentOf e)
+unfolding alignmentOf
+aligned-fair e ok =
+    let s = aligned-small e ok in
+    record {
+      placed = omega (arith, length-places 16 (pos 0) (aligned e .us));
+      us-small = places-small 1000000 (aligned e .us) (s .us);
+      vs-small = places-small 1000000 (aligned e .vs) (s .vs);
+      near = record { own-small = s .own; on-small = s .on; off-small = s .off };
+    }
+
+pub aligned-searchable : (e : Edge) → EdgeOk e → length (distinct e) ≤ 16 → Searchable (alignmentOf e)
+unfolding alignmentOf
+aligned-searchable e ok h = record { few = h; fair = aligned-fair e ok }
 
 -- what the merged gate's code asks for, from the tests of a merge
-pub mergeable : (e : Edge) (k l : ℕ) → length (distinct e) ≤ 16 → k ≤ 32 → l ≤ 32 → T (scaleFits (aligned e) k l) → Mergeable (alignmentOf e) k l
-unfolding alignmentOf
-mergeable e k l h hk hl t = record { few = h; small-k = hk; small-l = hl; fits = rw (aligned-in e h) t }
+pub mergeable : (e : Edge) (k l : ℕ) → EdgeOk e → length (distinct e) ≤ 16 → k ≤ 32 → l ≤ 32 → T (scaleOk (merged e k l)) → Mergeable (alignmentOf e) k l
+mergeable e k l ok h hk hl t = record {
+  searchable = aligned-searchable e ok h;
+  dial = record { k-high = hk; l-high = hl };
+  fits = rw (aligned-in e h) (subst T (scaleOk-fits e k l) t);
+}
 
 -- a gate's 16 places, by the lists of its signals and its weights
 pub gate-places : (g : Gate) → gateRecord g ≡ record {
   fanin = length (g .feeds);
   threshold = g .threshold;
-  signals = places 0 (signalsOf (g .feeds));
-  weights = places (pos 0) (map (λ f. f .weight) (g .feeds));
+  signals = places 16 0 (signalsOf (g .feeds));
+  weights = places 16 (pos 0) (map (λ f. f .weight) (g .feeds));
 }
 unfolding gateRecord places signalsOf
 gate-places g =

@@ -1,30 +1,26 @@
 -- The record of two gates by their distinct feeds, what it stands for, and the merged gate that it gives. Nothing is proved here.
 use mathlib.Core.List.{List, map}
-use Prim.Native.Nat.{ℕ, _≤_, _^_}
+use Prim.Native.Nat.{ℕ, _≤_}
 use lib.Dec.{T}
-use lib.IntN.{ℤ, pos, natAbs, _+ℤ_, _*ℤ_}
+use lib.IntN.{ℤ, pos, natAbs}
 use lib.ListN.{length, getD, take}
-use Rattle.integers.specs.Lists.{keep, range, tab}
+use Rattle.integers.specs.Lists.{keep, range, tab, places}
 use Rattle.network.specs.Threshold.{Feed, Gate}
-use Rattle.network.specs.Limits.{inScale}
 use Rattle.network.specs.Record.{gateIn}
 use Rattle.network.specs.declared.GateRecord.{GateRecord}
-use Rattle.folding.specs.Merge.{Edge, weightOf, distinct, stays}
-use Rattle.folding.specs.Aligned.{Aligned, aligned, level, mix, scaleFits}
+use Rattle.folding.specs.Merge.{Edge, edgeOf, weightOf, distinct, stays}
+use Rattle.folding.specs.Aligned.{Aligned, aligned, mixedThreshold, mixedWeight, scaleFits}
 use Rattle.folding.specs.AlignedLaws.{EdgeOk}
+use Rattle.folding.specs.declared.Thresholds.{Thresholds}
 use Rattle.alignment.specs.declared.Alignment.{Alignment}
 
 -- the weight of each signal that a byte can name
 unfoldable pub weightTable : List Feed → List ℤ
 weightTable fs = tab 256 (λ s. weightOf s fs)
 
--- the 16 places of a list, spare ones d
-unfoldable pub places : {A : Type 0} → A → List A → List A
-places d xs = tab 16 (λ i. getD xs i d)
-
 -- two gate records as an edge
 abbrev pub edgeBetween : GateRecord → GateRecord → ℕ → ℕ → Edge
-edgeBetween gateU gateV u v = record { u = u; v = v; gateU = gateIn gateU; gateV = gateIn gateV }
+edgeBetween gateU gateV u v = edgeOf u v (gateIn gateU) (gateIn gateV)
 
 -- an edge within the limits whose signals are bytes
 pub record Alignable (e : Edge) : Type 0 where
@@ -35,41 +31,62 @@ pub record Alignable (e : Edge) : Type 0 where
 unfoldable pub alignmentOf : Edge → Alignment
 alignmentOf e = record {
   count = length (distinct e);
-  signals = places 0 (distinct e);
-  us = places (pos 0) (aligned e .us);
-  vs = places (pos 0) (aligned e .vs);
-  tu = aligned e .tu;
-  tv = aligned e .tv;
-  b = aligned e .b;
+  signals = places 16 0 (distinct e);
+  us = places 16 (pos 0) (aligned e .us);
+  vs = places 16 (pos 0) (aligned e .vs);
+  thresholds = aligned e .thresholds;
 }
 
 -- what a record stands for
 unfoldable pub alignedIn : Alignment → Aligned
-alignedIn a = record { us = take (a .count) (a .us); vs = take (a .count) (a .vs); tu = a .tu; tv = a .tv; b = a .b }
+alignedIn a = record { us = take (a .count) (a .us); vs = take (a .count) (a .vs); thresholds = a .thresholds }
 
--- the merged gate's feed at distinct feed i
-unfoldable pub mixFeed : Alignment → ℕ → ℕ → ℕ → Feed
-mixFeed a k l i = record { signal = getD (a .signals) i 0; weight = mix (alignedIn a) k l i }
+-- ---- the merged gate
 
--- the merged gate
+-- its feed at distinct feed i
+unfoldable pub mixedFeed : Alignment → ℕ → ℕ → ℕ → Feed
+mixedFeed a k l i = record { signal = getD (a .signals) i 0; weight = mixedWeight (alignedIn a) k l i }
+
 unfoldable pub mergedOf : Alignment → ℕ → ℕ → Gate
-mergedOf a k l = record { feeds = keep stays (map (mixFeed a k l) (range 0 (a .count))); threshold = level (alignedIn a) k l }
+mergedOf a k l = record { feeds = keep stays (map (mixedFeed a k l) (range 0 (a .count))); threshold = mixedThreshold (a .thresholds) k l }
 
--- k times x plus l times y
-abbrev pub mixOf : ℤ → ℤ → ℕ → ℕ → ℤ
-mixOf x y k l = pos k *ℤ x +ℤ pos l *ℤ y
+-- ---- what callers have tested
 
--- numbers of 32 bits or a difference of two, multipliers on the dial, and a mix on the scale
-pub record Mixable (x y : ℤ) (k l : ℕ) : Type 0 where
-  pub small-x : natAbs x ≤ 2 ^ 32
-  pub small-y : natAbs y ≤ 2 ^ 32
-  pub small-k : k ≤ 32
-  pub small-l : l ≤ 32
-  pub fits : T (inScale (mixOf x y k l))
+-- no number of the list is above n in size
+abbrev pub Small : ℕ → List ℤ → Type 0
+Small n zs = (i : ℕ) → natAbs (getD zs i (pos 0)) ≤ n
 
--- at most 16 distinct feeds, multipliers on the dial, and a merged gate on the scale
-pub record Mergeable (a : Alignment) (k l : ℕ) : Type 0 where
+-- the thresholds are at most twice the scale
+pub record Near (t : Thresholds) : Type 0 where
+  pub own-small : natAbs (t .own) ≤ 2000000
+  pub on-small : natAbs (t .on) ≤ 2000000
+  pub off-small : natAbs (t .off) ≤ 2000000
+
+-- the weights, each with its place, are on the scale
+pub record Fair (a : Alignment) : Type 0 where
+  pub placed : 16 ≤ length (a .us)
+  pub us-small : Small 1000000 (a .us)
+  pub vs-small : Small 1000000 (a .vs)
+  pub near : Near (a .thresholds)
+
+-- at most 16 distinct feeds, whose numbers can be added
+pub record Searchable (a : Alignment) : Type 0 where
   pub few : a .count ≤ 16
-  pub small-k : k ≤ 32
-  pub small-l : l ≤ 32
+  pub fair : Fair a
+
+-- k and l are no more than the dial has
+pub record Dial (k l : ℕ) : Type 0 where
+  pub k-high : k ≤ 32
+  pub l-high : l ≤ 32
+
+-- numbers no larger than a sum of 16 weights, and multipliers on the dial
+pub record Mixable (k l : ℕ) (x y : ℤ) : Type 0 where
+  pub dial : Dial k l
+  pub x-small : natAbs x ≤ 16000000
+  pub y-small : natAbs y ≤ 16000000
+
+-- multipliers on the dial, and a merged gate on the scale
+pub record Mergeable (a : Alignment) (k l : ℕ) : Type 0 where
+  pub searchable : Searchable a
+  pub dial : Dial k l
   pub fits : T (scaleFits (alignedIn a) k l)

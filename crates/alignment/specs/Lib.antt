@@ -1,3 +1,2 @@
 pub mod Alignments
-pub mod PlaceLaws
 pub mod AlignmentLaws

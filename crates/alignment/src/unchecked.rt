@@ -1,5 +1,6 @@
 // Two gates aligned by their distinct feeds, and merged. The caller has tested the gates, the edge and the limits.
 use crate::Alignment;
+use folding::Thresholds;
 use integers::magnitude;
 use integers::wide;
 use integers::widened;
@@ -7,10 +8,11 @@ use network::GateRecord;
 ghost use mathlib.Core.Path.{_≡_};
 ghost use mathlib.Core.Bool.{not, _||_};
 ghost use Prim.Native.Nat.{_≤_};
-ghost use lib.IntN.{_-ℤ_};
-ghost use Rattle.network.specs.Limits.{isZero};
+ghost use lib.Dec.{T};
+ghost use Rattle.network.specs.Limits.{isZero, inScale};
 ghost use Rattle.network.specs.Record.{gateIn, gateRecord};
-ghost use Rattle.alignment.specs.Alignments.{weightTable, edgeBetween, Alignable, alignmentOf, mixOf, Mixable, mergedOf, Mergeable};
+ghost use Rattle.folding.specs.Aligned.{mix};
+ghost use Rattle.alignment.specs.Alignments.{weightTable, edgeBetween, Alignable, alignmentOf, Mixable, mergedOf, Mergeable};
 
 // The weight of each signal, 0 where it is no feed. The last feed is stored first.
 fn spread(gate: GateRecord) -> [i32; 256]
@@ -60,43 +62,33 @@ pub fn align(gate_u: GateRecord, gate_v: GateRecord, u: usize, v: usize) -> Alig
             count += 1;
         }
     }
-    let tu = gate_u.threshold;
-    let tv = gate_v.threshold;
+    let own = gate_u.threshold;
+    let off = gate_v.threshold;
+    let on = off - b;
+    let thresholds = Thresholds { own, on, off };
     Alignment {
         count,
         signals,
         us,
         vs,
-        tu,
-        tv,
-        b,
+        thresholds,
     }
 }
 
-// k times x plus l times y, which is on the scale.
-fn mixed(x: i64, y: i64, k: usize, l: usize) -> i32
-    requires { ⌜ Mixable x y k l ⌝ }
-    ensures { λ r. ⌜ r ≡ mixOf x y k l ⌝ }
+// k times x plus l times y.
+pub fn mixed(k: usize, l: usize, x: i64, y: i64) -> i64
+    requires { ⌜ Mixable k l x y ⌝ }
+    ensures { λ r. ⌜ r ≡ mix k l x y ⌝ }
 {
-    let m = k as i64;
-    let n = l as i64;
-    (m * x + n * y) as i32
+    (k as i64) * x + (l as i64) * y
 }
 
-// The merged gate's weight at a distinct feed, from u's and v's.
-fn mixed_weight(x: i32, y: i32, k: usize, l: usize) -> i32
-    requires { ⌜ Mixable x y k l ⌝ }
-    ensures { λ r. ⌜ r ≡ mixOf x y k l ⌝ }
+// The same of 32-bit numbers, where it is on the scale.
+fn mixed_on_scale(k: usize, l: usize, x: i32, y: i32) -> i32
+    requires { ⌜ Mixable k l x y × T (inScale (mix k l x y)) ⌝ }
+    ensures { λ r. ⌜ r ≡ mix k l x y ⌝ }
 {
-    mixed(widened(x), widened(y), k, l)
-}
-
-// The merged gate's threshold, from u's and v's and the weight with which u feeds v.
-fn mixed_level(tu: i32, tv: i32, b: i32, k: usize, l: usize) -> i32
-    requires { ⌜ Mixable tu (tv -ℤ b) k l ⌝ }
-    ensures { λ r. ⌜ r ≡ mixOf tu (tv -ℤ b) k l ⌝ }
-{
-    mixed(widened(tu), widened(tv) - widened(b), k, l)
+    mixed(k, l, widened(x), widened(y)) as i32
 }
 
 // The gate of two aligned gates merged with k and l.
@@ -109,14 +101,15 @@ pub fn merged_gate(a: Alignment, k: usize, l: usize) -> GateRecord
     let mut fanin: usize = 0;
     let count = a.count;
     for i in 0..count {
-        let w = mixed_weight(a.us[i], a.vs[i], k, l);
+        let w = mixed_on_scale(k, l, a.us[i], a.vs[i]);
         if magnitude(w) != 0 {
             signals[fanin] = a.signals[i];
             weights[fanin] = w;
             fanin += 1;
         }
     }
-    let threshold = mixed_level(a.tu, a.tv, a.b, k, l);
+    let thresholds = a.thresholds;
+    let threshold = mixed_on_scale(k, l, thresholds.own, thresholds.on);
     GateRecord {
         fanin: fanin as u8,
         threshold,

@@ -1,7 +1,7 @@
 -- What each function answers, by the call that it makes: on the record of an accepted file, whose network is sound, the call's code and
 -- numbers are those of the definition. Assumes nothing.
-use mathlib.Core.Path.{_≡_, refl, sym, ap, _∙_, subst}
-use mathlib.Core.Bool.{Bool, true, false, cond, _&&_}
+use mathlib.Core.Path.{_≡_, refl, sym, ap, _∙_}
+use mathlib.Core.Bool.{Bool, true, false}
 use mathlib.Core.List.{List, [], _∷_, _++_}
 use Prim.Native.Nat.{ℕ, zero, suc, _<_, _≤_}
 use native.Mathlib.Omega.{arith}
@@ -10,7 +10,7 @@ use lib.Dec.{leb}
 use lib.ListN.{length, drop}
 use Rattle.integers.specs.Refusals.{Answer, accepted, refused, Test, _else_, checks, bind, codeOf, stored}
 use Rattle.integers.specs.RefusalLaws.{checks-first, checks-next, checks-none}
-use Rattle.integers.specs.TestLaws.{is-true, is-false, cond-case}
+use Rattle.integers.specs.TestLaws.{is-true}
 use Rattle.network.specs.Threshold.{Net, frame, fitsFrame, outputBits, wordOf, onesOf}
 use Rattle.network.specs.Limits.{isGate, sound}
 use Rattle.network.specs.Sound.{Sound}
@@ -20,23 +20,25 @@ use Rattle.evaluation.specs.Reading.{frameAnswer, asReading, reading}
 use Rattle.network.specs.Changes.{gateAt}
 use Rattle.network.specs.declared.Network.{Network}
 use Rattle.evaluation.specs.declared.Reading.{Reading}
-use Rattle.format.specs.Format.{Read, Bytes, fileBytes}
+use Rattle.format.specs.Format.{Read, fileBytes}
 use Rattle.format.specs.Part.{partIn, partOfRead, partAnswer, asPart}
 use Rattle.format.specs.PartLaws.{part-stray, part-found}
 use Rattle.format.specs.LengthLaws.{gateBytes-length}
 use Rattle.pmn_writer.specs.Answers.{writeAnswer, asWritten, written, bytesAfter}
-use Rattle.pmn.specs.OpenLaws.{Opened}
 use Rattle.pmn_writer.specs.declared.Written.{Written}
-use Rattle.folding.specs.Merge.{edge, reads, silent}
-use Rattle.folding.specs.Pair.{Pair, pairOf, pair}
+use Rattle.folding.specs.Merge.{reads}
+use Rattle.folding.specs.Pair.{Pair, pair}
 use Rattle.merging.specs.Answers.{onRecord, asPair, pairFound}
-use Rattle.collapse.specs.FuseLaws.{Numbered, readerPair-numbered, pair-reader}
+use Rattle.folding.specs.RefusalLaws.{Numbered}
+use Rattle.folding.specs.PairLaws.{pair-numbered}
 use Rattle.merging.specs.declared.PairFound.{PairFound}
 use Rattle.report.specs.Size.{cost, levels, reportOf, reported}
 use Rattle.report.specs.declared.SizeReport.{SizeReport}
 use Rattle.capi.specs.Exports.{room, framePlaces, pairPlaces, reportPlaces, lengthOf, fileOut, partOut}
 use Rattle.capi.specs.Places.{answerOf}
-use Rattle.capi.specs.AnswerLaws.{left-two, FileRead, read-room}
+use Rattle.capi.specs.Opening.{FileOpen}
+use Rattle.capi.specs.AnswerLaws.{left-two}
+use Rattle.capi.specs.OpeningLaws.{open-on}
 
 -- the record of a sound network passes the first test of every call
 sound-first : {A : Type 0} (N : Net) → Sound N → (ts : List Test) (r : Answer A) → checks ((soundRecord (layout N) else 20) ∷ ts) r ≡ checks ts r
@@ -68,29 +70,16 @@ unfolding asReading checks answerOf
 reading-test true bs = refl
 reading-test false bs = refl
 
-pub frame-answer : {file : List ℕ} {r : Network} (a : FileRead file r) (x : ℕ) (lent : List ℕ) → 2 ≤ length lent → {g : Reading} → g ≡ reading r x
+pub frame-answer : {file : List ℕ} {r : Network} (lent : List ℕ) → FileOpen file (length lent) 2 r → (x : ℕ) {g : Reading} → g ≡ reading r x
     → framePlaces file x lent ≡ answerOf (g .code) (g .bits ∷ g .ones ∷ [])
 unfolding framePlaces
-frame-answer a x lent h e =
-    let N = a .read .net in
-    read-room _ (a .read) 2 lent _ _ h
+frame-answer lent a x e =
+    let N = a .net in
+    open-on a _
     ∙ reading-test (fitsFrame (N .inputs) x) (outputBits N (frame x))
     ∙ sym (ap readingPlaces (e ∙ ap (λ (r : Network). reading r x) (a .laid) ∙ reading-layout N x (a .sound)))
 
 -- ---- a pair
-
--- its refusals are numbers, not 0
-pair-numbered : (N : Net) (u v : ℕ) → Numbered (pair N u v)
-unfolding pair checks edge reads
-pair-numbered N u v =
-    let last = cond (reads u (gateAt N v)) (pairOf (edge N u v)) (refused 12) in
-    cond-case Numbered (sound N) {x = cond (isGate N u && isGate N v) last (refused 11)} {y = refused 20}
-    (λ t. cond-case Numbered (isGate N u && isGate N v) {x = last} {y = refused 11}
-    (λ t. cond-case Numbered (reads u (gateAt N v)) {x = pairOf (edge N u v)} {y = refused 12}
-    (λ t. subst Numbered (pair-reader (edge N u v) (is-false (silent u (gateAt N v)) t)) (readerPair-numbered (edge N u v)))
-    (λ t. omega arith))
-    (λ t. omega arith))
-    (λ t. omega arith)
 
 -- the places of a pair
 abbrev pairNumbers : PairFound → Answer (List ℕ)
@@ -102,13 +91,12 @@ pair-places (accepted p) n = refl
 pair-places (refused zero) n = absurd (n refl)
 pair-places (refused (suc c)) n = refl
 
-pub pair-answer : {file : List ℕ} {r : Network} (a : FileRead file r) (u v : ℕ) (lent : List ℕ) → 2 ≤ length lent → {p : PairFound} → p ≡ pairFound r u v
+pub pair-answer : {file : List ℕ} {r : Network} (lent : List ℕ) → FileOpen file (length lent) 2 r → (u v : ℕ) {p : PairFound} → p ≡ pairFound r u v
     → pairPlaces file u v lent ≡ answerOf (p .code) (p .k ∷ p .l ∷ [])
 unfolding pairPlaces pairFound
-pair-answer a u v lent h e =
-    let N = a .read .net in
-    read-room _ (a .read) 2 lent _ _ h
-    ∙ checks-none (bind (pair N u v) (λ p. accepted (p .k ∷ p .l ∷ [])))
+pair-answer lent a u v e =
+    let N = a .net in
+    open-on a _
     ∙ pair-places (pair N u v) (pair-numbered N u v)
     ∙ sym (ap pairNumbers (e ∙ ap (λ (r : Network). pairFound r u v) (a .laid) ∙ ap asPair (on-layout N (a .sound) (λ M. pair M u v))))
 
@@ -124,13 +112,12 @@ size-whole : (N : Net) → accepted (length (N .gates) ∷ cost (N .gates) ∷ l
 unfolding reportOf answerOf
 size-whole N = refl
 
-pub report-answer : {file : List ℕ} {r : Network} (a : FileRead file r) (lent : List ℕ) → 3 ≤ length lent → {s : SizeReport} → s ≡ reported r
+pub report-answer : {file : List ℕ} {r : Network} (lent : List ℕ) → FileOpen file (length lent) 3 r → {s : SizeReport} → s ≡ reported r
     → reportPlaces file lent ≡ answerOf (s .code) (s .gates ∷ s .cost ∷ s .levels ∷ [])
 unfolding reportPlaces
-report-answer a lent h e =
-    let N = a .read .net in
-    read-room _ (a .read) 3 lent _ _ h
-    ∙ checks-none (accepted (length (N .gates) ∷ cost (N .gates) ∷ levels N ∷ []))
+report-answer lent a e =
+    let N = a .net in
+    open-on a _
     ∙ size-whole N
     ∙ sym (ap sizePlaces (e ∙ ap reported (a .laid) ∙ report-layout N (a .sound)))
 
@@ -176,53 +163,53 @@ write-fits N s out t =
     let e = write-layout N (length out) s ∙ checks-next (leb n (length out)) 18 [] (accepted (fileBytes N)) t ∙ checks-none (accepted (fileBytes N)) in
     (ap asWritten e, ap (λ (a : Answer (List ℕ)). stored a out) e)
 
-pub write-answer : {file : List ℕ} {r : Network} (a : FileRead file r) (out lent : List ℕ) → 1 ≤ length lent → {w : Written} → w ≡ written r (length out)
+pub write-answer : {file : List ℕ} {r : Network} (out lent : List ℕ) → FileOpen file (length lent) 1 r → {w : Written} → w ≡ written r (length out)
     → {after : List ℕ} → after ≡ bytesAfter r out → Wrote (fileOut file out lent) (w .code) (w .length) out after lent
 unfolding fileOut room written bytesAfter
-write-answer a out lent h {w} e {after} d =
-    let N = a .read .net in
+write-answer out lent a {w} e {after} d =
+    let N = a .net in
     let fits = leb (length (fileBytes N)) (length out) in
     let x = checks ((fits else 18) ∷ []) (accepted (fileBytes N)) in
     let same : writeAnswer (layout N) (length out) ≡ x = write-layout N (length out) (a .sound) in
     let left : w ≡ asWritten x = e ∙ ap (λ (r : Network). written r (length out)) (a .laid) ∙ ap asWritten same in
     let put : after ≡ stored x out = d ∙ ap (λ (r : Network). bytesAfter r out) (a .laid) ∙ ap (λ (k : Answer (List ℕ)). stored k out) same in
-    wrote-same (read-room _ (a .read) 1 lent _ _ h) (ap (λ (x : Written). x .code) left) (ap (λ (x : Written). x .length) left) put (write-test fits (fileBytes N) out lent)
+    wrote-same (open-on a _) (ap (λ (x : Written). x .code) left) (ap (λ (x : Written). x .length) left) put (write-test fits (fileBytes N) out lent)
 
 -- ---- the bytes of a gate
 
-module _ {file : List ℕ} (bytes : Bytes file) (o : Opened file) (s : ℕ) where
-  stray-empty : isGate (o .net) s ≡ false → length (asPart (partAnswer file s)) ≡ 0
-  stray-empty t = ap (λ (x : Answer (List ℕ)). length (asPart x)) (part-stray file s (o .net) (o .rest) (o .reads) t)
+module _ {file : List ℕ} {r : Network} (lent : List ℕ) (a : FileOpen file (length lent) 1 r) (s : ℕ) where
+  stray-empty : isGate (a .net) s ≡ false → length (asPart (partAnswer file s)) ≡ 0
+  stray-empty t = ap (λ (x : Answer (List ℕ)). length (asPart x)) (part-stray file s (a .net) (a .rest) (a .reads) t)
 
-  found-long : isGate (o .net) s ≡ true → 5 ≤ length (asPart (partAnswer file s))
+  found-long : isGate (a .net) s ≡ true → 5 ≤ length (asPart (partAnswer file s))
   found-long t =
-      let e = ap (λ (x : Answer (List ℕ)). length (asPart x)) (part-found file s (o .net) (o .rest) bytes (o .reads) t) in
-      omega (arith, gateBytes-length (gateAt (o .net) s))
+      let e = ap (λ (x : Answer (List ℕ)). length (asPart x)) (part-found file s (a .net) (a .rest) (a .bytes) (a .reads) t) in
+      omega (arith, gateBytes-length (gateAt (a .net) s))
 
-  found-part : isGate (o .net) s ≡ true → asPart (partAnswer file s) ≡ partIn file (o .net) s
+  found-part : isGate (a .net) s ≡ true → asPart (partAnswer file s) ≡ partIn file (a .net) s
   unfolding partAnswer
   found-part t =
-      ap (λ (x : Read Net). asPart (partOfRead file s x)) (o .reads)
-      ∙ ap asPart (checks-next (isGate (o .net) s) 11 [] (accepted (partIn file (o .net) s)) t ∙ checks-none (accepted (partIn file (o .net) s)))
+      ap (λ (x : Read Net). asPart (partOfRead file s x)) (a .reads)
+      ∙ ap asPart (checks-next (isGate (a .net) s) 11 [] (accepted (partIn file (a .net) s)) t ∙ checks-none (accepted (partIn file (a .net) s)))
 
-  module _ (out lent : List ℕ) (h : 1 ≤ length lent) {p : List ℕ} (e : p ≡ asPart (partAnswer file s)) where
+  module _ (out : List ℕ) {p : List ℕ} (e : p ≡ asPart (partAnswer file s)) where
     -- an empty part: no gate has the signal
     pub part-none : length p ≡ 0 → partOut file s out lent ≡ refused 11
     unfolding partOut
-    part-none l = go (isGate (o .net) s) refl
+    part-none l = go (isGate (a .net) s) refl
       where
-        go : (b : Bool) → isGate (o .net) s ≡ b → partOut file s out lent ≡ refused 11
+        go : (b : Bool) → isGate (a .net) s ≡ b → partOut file s out lent ≡ refused 11
         go true t = absurd (omega (arith, ap length e, found-long t))
-        go false t = read-room file o 1 lent _ _ h ∙ checks-first (isGate (o .net) s) 11 _ _ t
+        go false t = open-on a _ ∙ checks-first (isGate (a .net) s) 11 _ _ t
 
     -- any other is the gate's bytes
     part-some : (length p ≡ 0 → ⊥) → partOut file s out lent ≡ checks ((room (length p) out else 18) ∷ []) (accepted p)
     unfolding partOut
-    part-some n = go (isGate (o .net) s) refl
+    part-some n = go (isGate (a .net) s) refl
       where
-        go : (b : Bool) → isGate (o .net) s ≡ b → partOut file s out lent ≡ checks ((room (length p) out else 18) ∷ []) (accepted p)
+        go : (b : Bool) → isGate (a .net) s ≡ b → partOut file s out lent ≡ checks ((room (length p) out else 18) ∷ []) (accepted p)
         go true t =
-            read-room file o 1 lent _ _ h ∙ checks-next (isGate (o .net) s) 11 _ _ t
+            open-on a _ ∙ checks-next (isGate (a .net) s) 11 _ _ t
             ∙ sym (ap (λ (q : List ℕ). checks ((room (length q) out else 18) ∷ []) (accepted q)) (e ∙ found-part t))
         go false t = absurd (n (ap length e ∙ stray-empty t))
 

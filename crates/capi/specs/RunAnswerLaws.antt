@@ -22,7 +22,8 @@ use Rattle.folding.specs.Calls.{calls}
 use Rattle.folding.specs.declared.Call.{Call}
 use Rattle.capi.specs.Exports.{room}
 use Rattle.capi.specs.Places.{answerOf}
-use Rattle.capi.specs.AnswerLaws.{FileRead, read-on}
+use Rattle.capi.specs.Opening.{FileOpen}
+use Rattle.capi.specs.OpeningLaws.{read-on}
 use Rattle.capi.specs.ExportLaws.{write-fits}
 use Rattle.runs.specs.Runs.{wellFormed, callsIn, answersOf, Ran, ran}
 use Rattle.capi.specs.RunAnswers.{runAnswer, ranFile, ranNumbers}
@@ -44,15 +45,15 @@ unfolding codeOf stored ranNumbers ranFile
 run-refused answers out e = run-same e (record { code = refl; places = refl; file = refl })
 
 -- ---- the record of the file that was read
-module _ {file : List ℕ} {r : Network} (a : FileRead file r) where
+module _ {file : List ℕ} {r : Network} (a : FileOpen file 0 0 r) where
   pub read-holds : Holds r
-  read-holds = subst Holds (sym (a .laid)) (holds-layout (a .read .net) (a .sound))
+  read-holds = subst Holds (sym (a .laid)) (holds-layout (a .net) (a .sound))
 
-  read-net : netOf r ≡ a .read .net
-  read-net = ap netOf (a .laid) ∙ netOf-layout (a .read .net) (a .sound)
+  read-net : netOf r ≡ a .net
+  read-net = ap netOf (a .laid) ∙ netOf-layout (a .net) (a .sound)
 
 -- ---- the tests
-module _ {file : List ℕ} {r : Network} (a : FileRead file r) (ns answers out : List ℕ) where
+module _ {file : List ℕ} {r : Network} (a : FileOpen file 0 0 r) (ns answers out : List ℕ) where
   abbrev cs : List Call
   cs = callsIn ns
 
@@ -61,7 +62,7 @@ module _ {file : List ℕ} {r : Network} (a : FileRead file r) (ns answers out :
 
   run-on : runAnswer file ns answers out ≡ checks ((wellFormed ns else 14) ∷ last (netOf r)) (accepted (ran (netOf r) cs))
   unfolding runAnswer
-  run-on = read-on file (a .read) _ ∙ sym (ap (λ (N : Net). checks ((wellFormed ns else 14) ∷ last N) (accepted (ran N cs))) (read-net a))
+  run-on = read-on a _ ∙ sym (ap (λ (N : Net). checks ((wellFormed ns else 14) ∷ last N) (accepted (ran N cs))) (read-net a))
 
   pub run-unformed : wellFormed ns ≡ false → runAnswer file ns answers out ≡ refused 14
   run-unformed w = run-on ∙ checks-first (wellFormed ns) 14 (last (netOf r)) (accepted (ran (netOf r) cs)) w
@@ -108,7 +109,7 @@ place-first (y ∷ l) xs x h =
     ∙ ap (λ (n : ℕ). x ∷ (xs ++ drop n (y ∷ l))) {x = 1 + length xs} {y = suc (length xs)} (omega arith)
 
 -- the calls' answers are stored, the file of the record after them is written, and its length goes into place 0
-pub run-left : {file : List ℕ} {r : Network} (a : FileRead file r) (ns answers out : List ℕ) → wellFormed ns ≡ true → 1 + 2 * length (callsIn ns) ≤ length answers
+pub run-left : {file : List ℕ} {r : Network} (a : FileOpen file 0 0 r) (ns answers out : List ℕ) → wellFormed ns ≡ true → 1 + 2 * length (callsIn ns) ≤ length answers
     → leb (length (fileBytes (calls (netOf r) (callsIn ns)))) (length out) ≡ true
     → {after : Network} → after ≡ layout (calls (netOf r) (callsIn ns)) → {put : List ℕ} → put ≡ paste answers 1 (answersOf (netOf r) (callsIn ns)) (2 * length (callsIn ns))
     → {w : Written} → w ≡ written after (length out) → {bytes : List ℕ} → bytes ≡ bytesAfter after out

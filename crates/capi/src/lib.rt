@@ -21,12 +21,9 @@ pub extern "C" fn pmn_frame(file: &[u8], frame: u64, answer: &mut [u64]) -> u8
     ensures { λ _. ⌜ now (answer .exit) ≡ stored (framePlaces (now (file .entry)) frame (now (answer .entry))) (now (answer .entry)) ⌝ }
 {
     let loaded = pmn::read(file);
-    let code = loaded.code;
+    let code = unchecked::opening::refusal(file, loaded, answer.len(), 2);
     if code != 0 {
         return code;
-    }
-    if answer.len() < 2 {
-        return 18;
     }
     let reading = evaluation::unchecked::read_sound(loaded.network, frame);
     unchecked::places::put_two(answer, reading.code, reading.bits, reading.ones as u64)
@@ -39,12 +36,9 @@ pub extern "C" fn pmn_pair(file: &[u8], u: u64, v: u64, answer: &mut [u64]) -> u
     ensures { λ _. ⌜ now (answer .exit) ≡ stored (pairPlaces (now (file .entry)) u v (now (answer .entry))) (now (answer .entry)) ⌝ }
 {
     let loaded = pmn::read(file);
-    let code = loaded.code;
+    let code = unchecked::opening::refusal(file, loaded, answer.len(), 2);
     if code != 0 {
         return code;
-    }
-    if answer.len() < 2 {
-        return 18;
     }
     let found = merging::pair(loaded.network, u as usize, v as usize);
     unchecked::places::put_two(answer, found.code, found.k as u64, found.l as u64)
@@ -57,12 +51,9 @@ pub extern "C" fn pmn_report(file: &[u8], answer: &mut [u64]) -> u8
     ensures { λ _. ⌜ now (answer .exit) ≡ stored (reportPlaces (now (file .entry)) (now (answer .entry))) (now (answer .entry)) ⌝ }
 {
     let loaded = pmn::read(file);
-    let code = loaded.code;
+    let code = unchecked::opening::refusal(file, loaded, answer.len(), 3);
     if code != 0 {
         return code;
-    }
-    if answer.len() < 3 {
-        return 18;
     }
     let size = report::unchecked::size_of(loaded.network);
     unchecked::places::put_three(
@@ -82,12 +73,9 @@ pub extern "C" fn pmn_write(file: &[u8], out: &mut [u8], answer: &mut [u64]) -> 
     ensures { λ _. ⌜ now (answer .exit) ≡ stored (lengthOf (fileOut (now (file .entry)) (now (out .entry)) (now (answer .entry)))) (now (answer .entry)) ⌝ }
 {
     let loaded = pmn::read(file);
-    let code = loaded.code;
+    let code = unchecked::opening::refusal(file, loaded, answer.len(), 1);
     if code != 0 {
         return code;
-    }
-    if answer.len() < 1 {
-        return 18;
     }
     let written = pmn_writer::unchecked::write_sound(loaded.network, out);
     unchecked::places::put_one(answer, written.code, written.length as u64)
@@ -100,12 +88,9 @@ pub extern "C" fn pmn_part(file: &[u8], signal: u64, out: &mut [u8], answer: &mu
     ensures { λ _. ⌜ now (out .exit) ≡ stored (partOut (now (file .entry)) signal (now (out .entry)) (now (answer .entry))) (now (out .entry)) ⌝ }
     ensures { λ _. ⌜ now (answer .exit) ≡ stored (lengthOf (partOut (now (file .entry)) signal (now (out .entry)) (now (answer .entry)))) (now (answer .entry)) ⌝ }
 {
-    let code = pmn_check(file);
+    let code = unchecked::opening::read_refusal(file, answer.len(), 1);
     if code != 0 {
         return code;
-    }
-    if answer.len() < 1 {
-        return 18;
     }
     let part = pmn::gate_part(file, signal as usize);
     let length = part.len();
@@ -133,17 +118,14 @@ pub extern "C" fn pmn_line(
     ensures { λ _. ⌜ now (answer .exit) ≡ stored (lengthOf (lineOut (now (first .entry)) (now (second .entry)) n (now (out .entry)) (now (answer .entry)))) (now (answer .entry)) ⌝ }
 {
     let one = pmn::read(first);
-    let code = one.code;
+    let code = unchecked::opening::refusal(first, one, 0, 0);
     if code != 0 {
         return code;
     }
     let other = pmn::read(second);
-    let refusal = other.code;
+    let refusal = unchecked::opening::refusal(second, other, answer.len(), 1);
     if refusal != 0 {
         return refusal;
-    }
-    if answer.len() < 1 {
-        return 18;
     }
     let line = question::line(one.network, other.network, n as usize, out);
     unchecked::places::put_one(answer, line.code, line.length as u64)
@@ -158,7 +140,7 @@ pub extern "C" fn pmn_run(file: &[u8], calls: &[u64], answers: &mut [u64], out: 
     ensures { λ _. ⌜ now (out .exit) ≡ stored (ranFile (runAnswer (now (file .entry)) (now (calls .entry)) (now (answers .entry)) (now (out .entry)))) (now (out .entry)) ⌝ }
 {
     let loaded = pmn::read(file);
-    let code = loaded.code;
+    let code = unchecked::opening::refusal(file, loaded, 0, 0);
     if code != 0 {
         return code;
     }

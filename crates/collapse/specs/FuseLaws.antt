@@ -1,7 +1,7 @@
 -- Laws of gates folded into their readers: what the pair of each gate says of all of them. Assumes nothing.
 use mathlib.Core.Path.{_≡_, refl, sym, ap, _∙_, subst}
-use mathlib.Core.Bool.{Bool, true, false, cond}
-use mathlib.Core.List.{List, [], _∷_, map}
+use mathlib.Core.Bool.{true, false, cond}
+use mathlib.Core.List.{List, _∷_, map}
 use mathlib.Core.Logic.{_≢_}
 use Prim.Native.Nat.{ℕ, zero, suc, _+_, _-_, _≤_, _<_}
 use native.Mathlib.Decide.{decLt}
@@ -10,22 +10,23 @@ use borrow.Author.Tests.{eq-eqb, ne-eqb}
 use lib.Dec.{T, not-T, leb→le}
 use Rattle.integers.specs.Lists.{range, tab}
 use Rattle.integers.specs.TestLaws.{is-true, T-isnt, not-not, cond-case}
-use Rattle.integers.specs.Refusals.{Answer, accepted, refused, checks, bind, Refused}
+use Rattle.integers.specs.Refusals.{Answer, accepted, refused, bind, Refused}
 use Rattle.integers.specs.RefusalLaws.{accepted≢refused, accepted-inj}
 use Rattle.network.specs.Threshold.{Gate}
 use Rattle.network.specs.Sound.{GateOk}
 use Rattle.network.specs.Record.{gateOf, netOf}
-use Rattle.network.specs.Changes.{gateAt, without}
+use Rattle.network.specs.Changes.{gateAt, withGates, without}
 use Rattle.network.specs.Places.{SoundGate}
 use Rattle.network.specs.RecordLaws.{gate-within, gate-number}
 use Rattle.network.specs.declared.Network.{Network}
-use Rattle.folding.specs.Merge.{Edge, silent, reads, merged, withGrain, narrow}
-use Rattle.folding.specs.Pair.{Pair, pairs, qualifies, first, pairOf}
-use Rattle.folding.specs.Collapse.{fuse, fuseAll, withGates}
+use Rattle.folding.specs.Merge.{Edge, edgeOf, silent, reads, merged, narrow}
+use Rattle.folding.specs.Pair.{Pair, qualifies, pairOf}
+use Rattle.folding.specs.Collapse.{fuse, fuseAll}
+use Rattle.folding.specs.RefusalLaws.{Numbered}
 use Rattle.folding.specs.SoundLaws.{merged-ok, reader-above}
-use Rattle.folding.specs.PairLaws.{qualified-of, dial-of, pairOf-found}
+use Rattle.folding.specs.PairLaws.{qualified-of, dial-of, pairOf-found, pairOf-numbered}
 use Rattle.merging.specs.Answers.{asPair}
-use Rattle.collapse.specs.Fusing.{folded, edgeTo, readerPair, fused, fusion, pairAt, AllPairs, fusedGates, foldedBy}
+use Rattle.collapse.specs.Fusing.{folded, edgeTo, noPair, readerPair, fused, fusion, pairAt, AllPairs, ReaderPairs, TriedPairs, fusedGates, foldedBy}
 use Rattle.merging.specs.declared.PairFound.{PairFound}
 use Rattle.collapse.specs.declared.Pairs.{Pairs}
 
@@ -41,26 +42,9 @@ each-refused (accepted a) f h = h a
 each-refused (refused c) f h = tt
 
 -- ---- the number of a refusal
-
--- it is not 0
-abbrev pub Numbered : {A : Type 0} → Answer A → Type 0
-Numbered (accepted a) = Unit {0}
-Numbered (refused c) = c ≢ 0
-
-first-numbered : {A : Type 0} (p : A → Bool) (xs : List A) (c : ℕ) → c ≢ 0 → Numbered (first p xs c)
-unfolding first
-first-numbered p [] c h = h
-first-numbered p (x ∷ xs) c h = cond-case Numbered (p x) {x = accepted x} {y = first p xs c} (λ t. tt) (λ t. first-numbered p xs c h)
-
-pairOf-numbered : (e : Edge) → Numbered (pairOf e)
-unfolding pairOf checks
-pairOf-numbered e = cond-case Numbered (withGrain e) {x = cond (narrow e) (first (qualifies e) pairs 16) (refused 7)} {y = refused 13}
-    (λ t. cond-case Numbered (narrow e) {x = first (qualifies e) pairs 16} {y = refused 7} (λ s. first-numbered (qualifies e) pairs 16 (omega arith)) (λ s. omega arith))
-    (λ t. omega arith)
-
 pub readerPair-numbered : (e : Edge) → Numbered (readerPair e)
 unfolding readerPair
-readerPair-numbered e = cond-case Numbered (silent (e .u) (e .gateV)) {x = accepted (record { k = 0; l = 0 })} {y = pairOf e} (λ t. tt) (λ t. pairOf-numbered e)
+readerPair-numbered e = cond-case Numbered (silent (e .u) (e .gateV)) {x = accepted noPair} {y = pairOf e} (λ t. tt) (λ t. pairOf-numbered e)
 
 -- a pair's answer as a call gives it, by its code
 pub asPair-accepted : (a : Answer Pair) (x : PairFound) → x ≡ asPair a → Numbered a → x .code ≡ 0 → a ≡ accepted (record { k = x .k; l = x .l })
@@ -75,10 +59,6 @@ asPair-refused (refused c) x e h = ap (λ (y : PairFound). refused (y .code)) (s
 
 -- ---- the pair of one gate
 
--- no pair
-abbrev none : Pair
-none = record { k = 0; l = 0 }
-
 -- a gate does not read its own signal
 pub own-silent : (u : ℕ) (g : Gate) → GateOk u g → silent u g ≡ true
 unfolding reads
@@ -86,7 +66,7 @@ own-silent u g h = is-true (silent u g) (not-not (silent u g) (not-T (reads u g)
 
 module _ (e : Edge) where
   -- a gate that does not read u, and a reader
-  pub pair-silent : silent (e .u) (e .gateV) ≡ true → readerPair e ≡ accepted none
+  pub pair-silent : silent (e .u) (e .gateV) ≡ true → readerPair e ≡ accepted noPair
   unfolding readerPair
   pair-silent t = rw t
 
@@ -103,16 +83,16 @@ module _ (e : Edge) where
 
   module _ (p : Pair) (h : readerPair e ≡ accepted p) where
     -- the two cases of an accepted pair
-    pair-case : {X : Type 0} → (silent (e .u) (e .gateV) ≡ true → p ≡ none → X) → (silent (e .u) (e .gateV) ≡ false → pairOf e ≡ accepted p → Merges p → X) → X
+    pair-case : {X : Type 0} → (silent (e .u) (e .gateV) ≡ true → p ≡ noPair → X) → (silent (e .u) (e .gateV) ≡ false → pairOf e ≡ accepted p → Merges p → X) → X
     unfolding reads
     pair-case {X} f g = elim (silent (e .u) (e .gateV)) as (λ b. silent (e .u) (e .gateV) ≡ b → X) [
       | true ↦ λ t. f t (accepted-inj (sym h ∙ pair-silent t))
       | false ↦ λ t. let q : pairOf e ≡ accepted p = sym (pair-reader t) ∙ h in
           let found = pairOf-found e p q in
-          let d = qualified-of e p (found .best .qualified) in
+          let d = qualified-of e p (found .qualified) in
           let k = dial-of (p .k) (d .k-dial) in
           let l = dial-of (p .l) (d .l-dial) in
-          g t q (record { reader = T-isnt _ t; few = found .passed .1 .0; qualified = found .best .qualified; dials = (k .0, k .1, l .0, l .1) })
+          g t q (record { reader = T-isnt _ t; few = found .searched .is-narrow; qualified = found .qualified; dials = (k .0, k .1, l .0, l .1) })
     ] refl
 
     pub pair-small : (p .k ≤ 32) × (p .l ≤ 32)
@@ -151,7 +131,7 @@ module _ (e : Edge) where
   -- a reader whose pair is refused
   pub fuse-refused : (c : ℕ) → readerPair e ≡ refused c → fuse e ≡ refused c
   unfolding readerPair fuse bind
-  fuse-refused c h = elim (silent (e .u) (e .gateV)) as (λ b. cond b (accepted none) (pairOf e) ≡ refused c → cond b (accepted (e .gateV)) (bind (pairOf e) (λ p. accepted (merged e (p .k) (p .l)))) ≡ refused c) [
+  fuse-refused c h = elim (silent (e .u) (e .gateV)) as (λ b. cond b (accepted noPair) (pairOf e) ≡ refused c → cond b (accepted (e .gateV)) (bind (pairOf e) (λ p. accepted (merged e (p .k) (p .l)))) ≡ refused c) [
     | true ↦ λ q. accepted≢refused q
     | false ↦ λ q. rw q
   ] h
@@ -159,7 +139,7 @@ module _ (e : Edge) where
 -- ---- all gates: those with numbers from a on, n of them
 module _ (u : ℕ) (gateU : Gate) (inputs : ℕ) (gate : ℕ → Gate) where
   abbrev at : ℕ → Edge
-  at g = record { u = u; v = inputs + g; gateU = gateU; gateV = gate g }
+  at g = edgeOf u (inputs + g) gateU (gate g)
 
   abbrev from : ℕ → ℕ → Answer (List Gate)
   from a n = fuseAll u gateU (inputs + a) (map gate (range a n))
@@ -217,6 +197,18 @@ module _ (gate : ℕ → Gate) (inputs gates u : ℕ) where
   -- any gate whose pair is refused is a refusal
   pub fusion-some : (g c : ℕ) → g < gates → readerPair (edgeTo gate inputs u g) ≡ refused c → Refused (fusion gate inputs gates u)
   fusion-some g c l r = subst Refused from-first (fuseAll-some u (gate (u - inputs)) inputs gate 0 gates g (omega arith) (omega arith) (subst Refused (sym (fuse-refused (edgeTo gate inputs u g) c r)) tt))
+
+  -- by what the pairs of all readers say
+  module _ (p : Pairs) (h : ReaderPairs gate inputs gates u p) where
+    pub pairs-all : p .code ≡ 0 → AllPairs gate inputs gates u p
+    pairs-all z = record { each = λ g l. h .found g (omega (arith, h .all z)) }
+
+    pub pairs-first : p .code ≢ 0 → fusion gate inputs gates u ≡ refused (p .code)
+    pairs-first n = let r = h .refuses n in fusion-first (pairAt p) (p .last) (p .code) (r .within) (h .found) (r .refusal)
+
+  -- a gate whose pair is refused is a refusal
+  pub tried-refused : (p : Pairs) → TriedPairs gate inputs gates u p → p .code ≢ 0 → Refused (fusion gate inputs gates u)
+  tried-refused p h n = let r = h .refuses n in fusion-some (p .last) (p .code) (r .within) (r .refusal)
 
 -- ---- a record's gate folded into its readers
 module _ (r : Network) (u : ℕ) (s : SoundGate r u) where

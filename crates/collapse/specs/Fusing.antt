@@ -4,18 +4,18 @@ use mathlib.Core.Path.{_≡_}
 use mathlib.Core.Bool.{cond}
 use mathlib.Core.List.{List}
 use mathlib.Core.Logic.{_≢_}
-use Prim.Native.Nat.{ℕ, _+_, _-_, _<_}
+use Prim.Native.Nat.{ℕ, _+_, _-_, _≤_, _<_}
 use lib.Dec.{eqb}
 use lib.ListN.{getD}
 use Rattle.integers.specs.Lists.{tab}
-use Rattle.integers.specs.Refusals.{Answer, accepted, refused, bind, Refused}
+use Rattle.integers.specs.Refusals.{Answer, accepted, refused, bind}
 use Rattle.network.specs.Threshold.{Gate, Net}
 use Rattle.network.specs.Record.{gateOf, netOf}
-use Rattle.network.specs.Changes.{gateAt, without}
+use Rattle.network.specs.Changes.{gateAt, withGates, without}
 use Rattle.network.specs.declared.Network.{Network}
-use Rattle.folding.specs.Merge.{Edge, silent, merged}
+use Rattle.folding.specs.Merge.{Edge, edgeOf, silent, merged}
 use Rattle.folding.specs.Pair.{Pair, pairOf}
-use Rattle.folding.specs.Collapse.{fuseAll, withGates}
+use Rattle.folding.specs.Collapse.{fuseAll}
 use Rattle.collapse.specs.declared.Pairs.{Pairs}
 
 -- a collapse of u, once 20, 11 and 17 do not apply
@@ -26,11 +26,15 @@ folded N u = bind (fuseAll u (gateAt N u) (N .inputs) (N .gates)) (λ gs. accept
 
 -- gates u and g, g by its number, as an edge
 abbrev pub edgeTo : (ℕ → Gate) → ℕ → ℕ → ℕ → Edge
-edgeTo gate inputs u g = record { u = u; v = inputs + g; gateU = gate (u - inputs); gateV = gate g }
+edgeTo gate inputs u g = edgeOf u (inputs + g) (gate (u - inputs)) (gate g)
+
+-- no pair: 0 and 0
+abbrev pub noPair : Pair
+noPair = record { k = 0; l = 0 }
 
 -- the pair of a reader of u; 0 and 0 for a gate that does not read u
 unfoldable pub readerPair : Edge → Answer Pair
-readerPair e = cond (silent (e .u) (e .gateV)) (accepted (record { k = 0; l = 0 })) (pairOf e)
+readerPair e = cond (silent (e .u) (e .gateV)) (accepted noPair) (pairOf e)
 
 -- the gate with its pair: merged, or as it was where the pair is 0 and 0
 unfoldable pub fused : Edge → Pair → Gate
@@ -50,17 +54,23 @@ pairAt p g = record { k = getD (p .ks) g 0; l = getD (p .ls) g 0 }
 pub record AllPairs (gate : ℕ → Gate) (inputs gates u : ℕ) (p : Pairs) : Type 0 where
   pub each : (g : ℕ) → g < gates → readerPair (edgeTo gate inputs u g) ≡ accepted (pairAt p g)
 
--- p has the pair of every gate, or else the first refusal
-pub record ReaderPairs (gate : ℕ → Gate) (inputs gates u : ℕ) (p : Pairs) : Type 0 where
-  pub found : p .code ≡ 0 → AllPairs gate inputs gates u p
-  pub none : p .code ≢ 0 → fusion gate inputs gates u ≡ refused (p .code)
-  pub within : p .last < 128
+-- gate `last` of p is one whose pair is refused, with p's code
+pub record Refuses (gate : ℕ → Gate) (inputs gates u : ℕ) (p : Pairs) : Type 0 where
+  pub within : p .last < gates
+  pub refusal : readerPair (edgeTo gate inputs u (p .last)) ≡ refused (p .code)
 
--- p has the pair of every gate, or else there is a refusal
+-- p has the pair of every gate before `last` and no pair from there on; and with code 0 `last` is the number of gates, else the pair of
+-- that gate is refused. Nothing in p is free
+pub record ReaderPairs (gate : ℕ → Gate) (inputs gates u : ℕ) (p : Pairs) : Type 0 where
+  pub found : (g : ℕ) → g < p .last → readerPair (edgeTo gate inputs u g) ≡ accepted (pairAt p g)
+  pub spare : (g : ℕ) → p .last ≤ g → pairAt p g ≡ noPair
+  pub all : p .code ≡ 0 → p .last ≡ gates
+  pub refuses : p .code ≢ 0 → Refuses gate inputs gates u p
+
+-- p has the pair of every gate, or else a gate whose pair is refused, not always the first; then its pairs are free
 pub record TriedPairs (gate : ℕ → Gate) (inputs gates u : ℕ) (p : Pairs) : Type 0 where
   pub found : p .code ≡ 0 → AllPairs gate inputs gates u p
-  pub none : p .code ≢ 0 → Refused (fusion gate inputs gates u)
-  pub within : p .last < 128
+  pub refuses : p .code ≢ 0 → Refuses gate inputs gates u p
 
 -- ---- a record
 

@@ -1,53 +1,144 @@
--- What a line's text says: its words, the numbers in them, and the line. A law says that the text of a line says that line. Nothing is
--- proved here.
-use mathlib.Core.Bool.{Bool, cond}
+-- What a text of the question says, read strictly: a line feed ends it, single spaces part its words, and each word has the exact form
+-- of its place. A text of any other form says nothing. Nothing is proved here.
+use mathlib.Core.Bool.{Bool, true, false, cond, _&&_}
 use mathlib.Core.List.{List, [], _∷_}
-use Prim.Native.Nat.{ℕ, _+_, _-_, _*_}
+use mathlib.Core.Option.{Option, some, none}
+use Prim.Native.Nat.{ℕ, zero, suc, _+_, _-_, _*_}
 use lib.Dec.{eqb}
 use lib.IntN.{ℤ, pos, negℤ}
-use Rattle.network.specs.Threshold.{Feed}
+use Rattle.integers.specs.Lists.{all, between}
 use Rattle.constraints.specs.Question.{Line, term}
 
--- c in front of the first word
+-- ---- words
+
+-- c in front of the first part
 unfoldable pub prepend : ℕ → List (List ℕ) → List (List ℕ)
 prepend c [] = (c ∷ []) ∷ []
 prepend c (w ∷ ws) = (c ∷ w) ∷ ws
 
--- the words of a text, parted by single spaces
+-- the parts of a text, parted by a single separator: the lines of a text, the words of a line
+unfoldable pub parts : ℕ → List ℕ → List (List ℕ)
+parts separator [] = [] ∷ []
+parts separator (c ∷ cs) = cond (eqb c separator) ([] ∷ parts separator cs) (prepend c (parts separator cs))
+
+-- the words of a text's only line; none where there is no line feed at the end, or one before it
+unfoldable pub wordsOfLines : List (List ℕ) → List (List ℕ)
+wordsOfLines [] = []
+wordsOfLines (l ∷ []) = []
+wordsOfLines (l ∷ [] ∷ []) = parts 32 l
+wordsOfLines (l ∷ [] ∷ m ∷ ms) = []
+wordsOfLines (l ∷ (c ∷ cs) ∷ ms) = []
+
 unfoldable pub words : List ℕ → List (List ℕ)
-words [] = [] ∷ []
-words (c ∷ cs) = cond (eqb c 32) ([] ∷ words cs) (prepend c (words cs))
+words text = wordsOfLines (parts 10 text)
+
+-- two words are the same
+unfoldable pub sameText : List ℕ → List ℕ → Bool
+sameText [] [] = true
+sameText [] (d ∷ ds) = false
+sameText (c ∷ cs) [] = false
+sameText (c ∷ cs) (d ∷ ds) = eqb c d && sameText cs ds
+
+-- ---- numbers
+
+-- a decimal digit
+unfoldable pub isDigit : ℕ → Bool
+isDigit c = between 48 57 c
 
 -- the number that decimal digits are, after a number that stands before them
 unfoldable pub numberAfter : ℕ → List ℕ → ℕ
 numberAfter n [] = n
 numberAfter n (d ∷ ds) = numberAfter (n * 10 + (d - 48)) ds
 
--- a number with or without a sign
-unfoldable pub signedOf : List ℕ → ℤ
-signedOf [] = pos 0
-signedOf (c ∷ cs) = cond (eqb c 45) (negℤ (pos (numberAfter 0 cs))) (cond (eqb c 43) (pos (numberAfter 0 cs)) (pos (numberAfter 0 (c ∷ cs))))
+-- the number that a word says: one digit at least, and nothing but digits
+unfoldable pub number : List ℕ → Option ℕ
+number [] = none
+number (d ∷ ds) = cond (all isDigit (d ∷ ds)) (some (numberAfter 0 (d ∷ ds))) none
 
--- variable 0 is `x1`
-unfoldable pub variableOf : List ℕ → ℕ
-variableOf [] = 0
-variableOf (c ∷ cs) = numberAfter 0 cs - 1
+abbrev pub plus : Option ℕ → Option ℤ
+plus none = none
+plus (some n) = some (pos n)
 
--- the word begins with `>`
-unfoldable pub isRelation : List ℕ → Bool
-isRelation [] = eqb 0 1
-isRelation (c ∷ cs) = eqb c 62
+abbrev pub minus : Option ℕ → Option ℤ
+minus none = none
+minus (some n) = some (negℤ (pos n))
 
-unfoldable pub withTerm : Feed → Line → Line
-withTerm f line = record { terms = f ∷ line .terms; right = line .right }
+-- a coefficient: `+` or `-`, and a number
+unfoldable pub coefficientOf : List ℕ → Option ℤ
+coefficientOf [] = none
+coefficientOf (c ∷ cs) = cond (eqb c 43) (plus (number cs)) (cond (eqb c 45) (minus (number cs)) none)
 
--- a coefficient and a variable, again and again, then `>=` and the right side
-unfoldable pub lineOfWords : List (List ℕ) → Line
-lineOfWords [] = record { terms = []; right = pos 0 }
-lineOfWords (w ∷ []) = record { terms = []; right = pos 0 }
+-- a right side: a number, or `-` and a number
+unfoldable pub rightOf : List ℕ → Option ℤ
+rightOf [] = none
+rightOf (c ∷ cs) = cond (eqb c 45) (minus (number cs)) (plus (number (c ∷ cs)))
+
+-- a variable: `x` and a number from 1 on, `x1` being variable 0
+abbrev pub fromOne : Option ℕ → Option ℕ
+fromOne none = none
+fromOne (some zero) = none
+fromOne (some (suc n)) = some n
+
+unfoldable pub variableOf : List ℕ → Option ℕ
+variableOf [] = none
+variableOf (c ∷ cs) = cond (eqb c 120) (fromOne (number cs)) none
+
+-- ---- lines
+
+-- a term in front of a line
+abbrev pub withTerm : Option ℤ → Option ℕ → Option Line → Option Line
+withTerm none v line = none
+withTerm (some z) none line = none
+withTerm (some z) (some v) none = none
+withTerm (some z) (some v) (some line) = some (record { terms = term v z ∷ line .terms; right = line .right })
+
+-- the right side, and after it `;` and nothing more
+unfoldable pub endOfWords : Option ℤ → List (List ℕ) → Option Line
+endOfWords none ws = none
+endOfWords (some z) [] = none
+endOfWords (some z) (w ∷ []) = cond (sameText w (59 ∷ [])) (some (record { terms = []; right = z })) none
+endOfWords (some z) (w ∷ x ∷ ws) = none
+
+-- a coefficient and a variable, again and again, then `>=`, the right side and `;`
+unfoldable pub lineOfWords : List (List ℕ) → Option Line
+lineOfWords [] = none
+lineOfWords (w ∷ []) = none
 lineOfWords (w ∷ x ∷ ws) =
-    cond (isRelation w) (record { terms = []; right = signedOf x }) (withTerm (term (variableOf x) (signedOf w)) (lineOfWords ws))
+    cond (sameText w (62 ∷ 61 ∷ [])) (endOfWords (rightOf x) ws) (withTerm (coefficientOf w) (variableOf x) (lineOfWords ws))
 
 -- the line that a text says
-unfoldable pub lineOf : List ℕ → Line
+unfoldable pub lineOf : List ℕ → Option Line
 lineOf text = lineOfWords (words text)
+
+-- ---- the header
+
+-- "the number of variables" and "the number of lines after it"
+pub record Header : Type 0 where
+  pub variables : ℕ
+  pub lines : ℕ
+
+abbrev pub headerWith : Option ℕ → Option ℕ → Option Header
+headerWith none b = none
+headerWith (some a) none = none
+headerWith (some a) (some b) = some (record { variables = a; lines = b })
+
+-- `*`, `#variable=`, a number, `#constraint=`, a number
+unfoldable pub variableMark : List ℕ
+variableMark = 35 ∷ 118 ∷ 97 ∷ 114 ∷ 105 ∷ 97 ∷ 98 ∷ 108 ∷ 101 ∷ 61 ∷ []
+
+unfoldable pub constraintMark : List ℕ
+constraintMark = 35 ∷ 99 ∷ 111 ∷ 110 ∷ 115 ∷ 116 ∷ 114 ∷ 97 ∷ 105 ∷ 110 ∷ 116 ∷ 61 ∷ []
+
+unfoldable pub headerOfWords : List (List ℕ) → Option Header
+headerOfWords [] = none
+headerOfWords (a ∷ []) = none
+headerOfWords (a ∷ b ∷ []) = none
+headerOfWords (a ∷ b ∷ c ∷ []) = none
+headerOfWords (a ∷ b ∷ c ∷ d ∷ []) = none
+headerOfWords (a ∷ b ∷ c ∷ d ∷ e ∷ []) =
+    cond (sameText a (42 ∷ []) && (sameText b variableMark && sameText d constraintMark)) (headerWith (number c) (number e)) none
+headerOfWords (a ∷ b ∷ c ∷ d ∷ e ∷ f ∷ ws) = none
+
+-- the header that a text says
+unfoldable pub headerOf : List ℕ → Option Header
+headerOf text = headerOfWords (words text)

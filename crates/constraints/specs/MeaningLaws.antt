@@ -1,25 +1,30 @@
--- What a line's text says is the line, if its numbers have at most 20 digits; so every line of the question of two sound networks is
--- said by its text. Assumes nothing.
-use mathlib.Core.Path.{_≡_, refl, ap, _∙_}
+-- What a line's text says is the line, if its numbers have at most 20 digits, and what the header's text says are its two numbers; so
+-- every text of the question of two sound networks says what was asked, and what is written has the question's solutions. Assumes
+-- nothing.
+use mathlib.Core.Path.{_≡_, refl, ap, _∙_, subst}
 use mathlib.Core.Bool.{true, false, cond}
 use mathlib.Core.List.{List, [], _∷_, _++_, append-assoc}
-use mathlib.Core.Logic.{_≢_}
+use mathlib.Core.Logic.{_≢_, _↔_}
+use mathlib.Core.Option.{Option, some}
 use Prim.Native.Nat.{ℕ, zero, suc, _+_, _-_, _*_, _/_, _%_, _^_, _≤_, _<_}
+use native.Mathlib.Numerals.{add-one}
 use native.Mathlib.Omega.{arith}
+use borrow.Author.Tests.{eq-eqb}
 use lib.Dec.{T, ltb, ltb→lt}
-use lib.IntN.{ℤ, pos, negsuc, negℤ, natAbs}
-use lib.ListN.{length, getD}
-use Rattle.integers.specs.Lists.{Each}
-use Rattle.integers.specs.ListLaws.{each-imp, each-getD}
-use Rattle.integers.specs.TestLaws.{eqb-no}
-use Rattle.network.specs.Threshold.{Feed, Net}
+use lib.IntN.{ℤ, pos, negsuc, natAbs}
+use lib.ListN.{length, getD, length-append}
+use Rattle.integers.specs.Lists.{all, Each}
+use Rattle.integers.specs.ListLaws.{of-each, each-imp, each-getD, each-append}
+use Rattle.integers.specs.TestLaws.{is-true, eqb-no, of-between}
+use Rattle.network.specs.Threshold.{Feed, Net, Assignment}
 use Rattle.network.specs.Sound.{Sound}
-use Rattle.constraints.specs.Question.{Line, question}
-use Rattle.constraints.specs.Text.{digits, decimal, coefficient, rightSide, variableName, termText, termsText, lineText, noLine, questionText}
-use Rattle.constraints.specs.Meaning.{prepend, words, numberAfter, signedOf, variableOf, isRelation, withTerm, lineOfWords, lineOf}
-use Rattle.constraints.specs.MemberLaws.{each-append}
+use Rattle.constraints.specs.Question.{Line, holds, Solves, question, variables}
+use Rattle.constraints.specs.Text.{digits, decimal, coefficient, rightSide, variableName, termText, termsText, lineText, variableWord, constraintWord, headerText, noLine, questionText}
+use Rattle.constraints.specs.Meaning.{prepend, parts, wordsOfLines, words, sameText, isDigit, numberAfter, number, coefficientOf, rightOf, variableOf, endOfWords, lineOfWords, lineOf, variableMark, constraintMark, headerOfWords, headerOf}
+use Rattle.constraints.specs.Demand.{SolvesWritten, Decides, DecidesWritten}
+use Rattle.constraints.specs.MemberLaws.{getD-each}
 use Rattle.constraints.specs.TextLaws.{Within}
-use Rattle.constraints.specs.SizeLaws.{Narrow, question-narrow}
+use Rattle.constraints.specs.SizeLaws.{Narrow, few-variables, few-lines, question-narrow}
 
 -- ---- digits say their number
 number-append : (n : ℕ) (xs ys : List ℕ) → numberAfter n (xs ++ ys) ≡ numberAfter (numberAfter n xs) ys
@@ -35,10 +40,6 @@ digits-say (suc k) n h = elim (ltb n 10) as (λ b. numberAfter 0 (cond b ((48 + 
   | false ↦ number-append 0 (digits k (n / 10)) ((48 + n % 10) ∷ []) ∙ rw (digits-say k (n / 10) (omega arith)) (omega arith)
 ]
 
-decimal-says : (n : ℕ) → n < 10 ^ 20 → numberAfter 0 (decimal n) ≡ n
-unfolding decimal
-decimal-says n h = digits-say 20 n h
-
 -- c is a digit
 abbrev Digit : ℕ → Type 0
 Digit c = (48 ≤ c) × (c < 58)
@@ -51,42 +52,88 @@ all-digits (suc k) n = elim (ltb n 10) as (λ b. (T b → n < 10) → Each Digit
   | false ↦ λ h. each-append Digit (digits k (n / 10)) ((48 + n % 10) ∷ []) (all-digits k (n / 10)) (omega arith, tt)
 ] (ltb→lt n 10)
 
+decimal-digits : (n : ℕ) → Each Digit (decimal n)
+unfolding decimal
+decimal-digits n = all-digits 20 n
+
+-- one digit at least
+decimal-some : (n : ℕ) → 1 ≤ length (decimal n)
+unfolding decimal digits
+decimal-some n = elim (ltb n 10) as (λ b. 1 ≤ length (cond b ((48 + n) ∷ []) (digits 19 (n / 10) ++ ((48 + n % 10) ∷ []))))
+    [ true ↦ omega arith | false ↦ simp length-append (omega arith) ]
+
+digits-number : (ds : List ℕ) → Each Digit ds → 1 ≤ length ds → number ds ≡ some (numberAfter 0 ds)
+unfolding number
+digits-number [] h k = absurd (omega arith)
+digits-number (d ∷ ds) h k = rw (is-true (all isDigit (d ∷ ds)) (of-each isDigit Digit digit-test (d ∷ ds) h))
+  where
+    digit-test : (c : ℕ) → Digit c → T (isDigit c)
+    digit-test c h = unfold isDigit in of-between 48 57 c (h .0, omega (arith, h .1))
+
+decimal-number : (n : ℕ) → n < 10 ^ 20 → number (decimal n) ≡ some n
+decimal-number n h = digits-number (decimal n) (decimal-digits n) (decimal-some n) ∙ ap some (unfold decimal in digits-say 20 n h)
+
+-- ---- a coefficient, a right side and a variable say their number
+coefficient-says : (z : ℤ) → natAbs z < 10 ^ 20 → coefficientOf (coefficient z) ≡ some z
+unfolding coefficientOf coefficient
+coefficient-says (pos n) h = rw (decimal-number n h)
+coefficient-says (negsuc n) h = rw (decimal-number (suc n) h)
+
+-- digits begin with no sign
+digits-right : (ds : List ℕ) (n : ℕ) → Each Digit ds → number ds ≡ some n → rightOf ds ≡ some (pos n)
+unfolding rightOf number
+digits-right [] n h e = absurd (let z : _≡_ {A = ℕ} 0 1 = cc in omega arith)
+digits-right (d ∷ ds) n h e = rw (eqb-no d 45 (omega arith), e)
+
+right-says : (z : ℤ) → natAbs z < 10 ^ 20 → rightOf (rightSide z) ≡ some z
+unfolding rightSide
+right-says (pos n) h = digits-right (decimal n) n (decimal-digits n) (decimal-number n h)
+right-says (negsuc n) h = unfold rightOf in rw (decimal-number (suc n) h)
+
+variable-says : (v : ℕ) → v + 1 < 10 ^ 20 → variableOf (variableName v) ≡ some v
+unfolding variableOf variableName
+variable-says v h = rw (decimal-number (v + 1) h, add-one)
+
+-- ---- parts
+module _ (separator : ℕ) where
+  -- the part before a separator, and the last part
+  first-part : (w rest : List ℕ) → Each (λ c. c ≢ separator) w → parts separator (w ++ (separator ∷ rest)) ≡ w ∷ parts separator rest
+  unfolding parts prepend
+  first-part [] rest h = rw (eq-eqb separator separator refl)
+  first-part (c ∷ w) rest h = rw (eqb-no c separator (h .0), first-part w rest (h .1))
+
+  only-part : (w : List ℕ) → Each (λ c. c ≢ separator) w → parts separator w ≡ w ∷ []
+  unfolding parts prepend
+  only-part [] h = refl
+  only-part (c ∷ w) h = rw (eqb-no c separator (h .0), only-part w (h .1))
+
 -- ---- words
 
--- c is no space
+-- c is no space and ends no line
 abbrev Solid : ℕ → Type 0
-Solid c = c ≢ 32
+Solid c = 32 < c
+
+-- c ends no line
+abbrev Inside : ℕ → Type 0
+Inside c = c ≢ 10
+
+solid-word : (w : List ℕ) → Each Solid w → Each (λ c. c ≢ 32) w
+solid-word = each-imp Solid (λ c. c ≢ 32) λ c h. omega arith
+
+first-word : (w rest : List ℕ) → Each Solid w → parts 32 (w ++ (32 ∷ rest)) ≡ w ∷ parts 32 rest
+first-word w rest h = first-part 32 w rest (solid-word w h)
+
+solid-inside : (w : List ℕ) → Each Solid w → Each Inside w
+solid-inside = each-imp Solid Inside λ c h. omega arith
+
+-- the words of a line that a line feed ends
+line-words : (l : List ℕ) → Each Inside l → words (l ++ (10 ∷ [])) ≡ parts 32 l
+unfolding words
+line-words l h = rw (first-part 10 l [] h) (unfold parts wordsOfLines in refl)
 
 decimal-solid : (n : ℕ) → Each Solid (decimal n)
-unfolding decimal
-decimal-solid n = each-imp Digit Solid (λ c h. omega arith) (digits 20 n) (all-digits 20 n)
+decimal-solid n = each-imp Digit Solid (λ c h. omega arith) (decimal n) (decimal-digits n)
 
-first-word : (w rest : List ℕ) → Each Solid w → words (w ++ (32 ∷ rest)) ≡ w ∷ words rest
-unfolding words prepend
-first-word [] rest h = refl
-first-word (c ∷ w) rest h = rw (eqb-no c 32 (h .0), first-word w rest (h .1))
-
--- ---- a number with a sign
-digits-signed : (ds : List ℕ) → Each Digit ds → signedOf ds ≡ pos (numberAfter 0 ds)
-unfolding signedOf numberAfter
-digits-signed [] h = refl
-digits-signed (d ∷ ds) h = rw (eqb-no d 45 (omega arith), eqb-no d 43 (omega arith))
-
-coefficient-says : (z : ℤ) → natAbs z < 10 ^ 20 → signedOf (coefficient z) ≡ z
-unfolding signedOf coefficient
-coefficient-says (pos n) h = ap pos (decimal-says n h)
-coefficient-says (negsuc n) h = ap (λ (m : ℕ). negℤ (pos m)) (decimal-says (suc n) h)
-
-right-says : (z : ℤ) → natAbs z < 10 ^ 20 → signedOf (rightSide z) ≡ z
-unfolding rightSide decimal
-right-says (pos n) h = digits-signed (decimal n) (all-digits 20 n) ∙ ap pos (decimal-says n h)
-right-says (negsuc n) h = unfold signedOf in ap (λ (m : ℕ). negℤ (pos m)) (decimal-says (suc n) h)
-
-variable-says : (v : ℕ) → v + 1 < 10 ^ 20 → variableOf (variableName v) ≡ v
-unfolding variableOf variableName
-variable-says v h = rw (decimal-says (v + 1) h) (omega arith)
-
--- ---- the words of a line
 coefficient-solid : (z : ℤ) → Each Solid (coefficient z)
 unfolding coefficient
 coefficient-solid (pos n) = (omega arith, decimal-solid n)
@@ -101,45 +148,132 @@ variable-solid : (v : ℕ) → Each Solid (variableName v)
 unfolding variableName
 variable-solid v = (omega arith, decimal-solid (v + 1))
 
-term-words : (f : Feed) (rest : List ℕ) → words (termText f ++ rest) ≡ coefficient (f .weight) ∷ variableName (f .signal) ∷ words rest
+-- ---- terms
+term-inside : (f : Feed) → Each Inside (termText f)
 unfolding termText
-term-words f rest = ap words (append-assoc (coefficient (f .weight) ++ (32 ∷ variableName (f .signal))) (32 ∷ []) rest ∙ append-assoc (coefficient (f .weight)) (32 ∷ variableName (f .signal)) (32 ∷ rest))
+term-inside f = each-append Inside (coefficient (f .weight) ++ (32 ∷ variableName (f .signal))) (32 ∷ [])
+    (each-append Inside (coefficient (f .weight)) (32 ∷ variableName (f .signal)) (solid-inside (coefficient (f .weight)) (coefficient-solid (f .weight)))
+    (omega arith, solid-inside (variableName (f .signal)) (variable-solid (f .signal))))
+    (omega arith, tt)
+
+terms-inside : (fs : List Feed) → Each Inside (termsText fs)
+unfolding termsText
+terms-inside [] = tt
+terms-inside (f ∷ fs) = each-append Inside (termText f) (termsText fs) (term-inside f) (terms-inside fs)
+
+term-body : (f : Feed) (rest : List ℕ) → termText f ++ rest ≡ coefficient (f .weight) ++ (32 ∷ (variableName (f .signal) ++ (32 ∷ rest)))
+unfolding termText
+term-body f rest = simp append-assoc
+
+term-words : (f : Feed) (rest : List ℕ) → parts 32 (termText f ++ rest) ≡ coefficient (f .weight) ∷ variableName (f .signal) ∷ parts 32 rest
+term-words f rest = ap (parts 32) (term-body f rest)
     ∙ first-word (coefficient (f .weight)) (variableName (f .signal) ++ (32 ∷ rest)) (coefficient-solid (f .weight))
     ∙ ap {B = List (List ℕ)} (λ ws. coefficient (f .weight) ∷ ws) (first-word (variableName (f .signal)) rest (variable-solid (f .signal)))
 
--- ---- a line
-no-relation : (z : ℤ) → isRelation (coefficient z) ≡ false
-unfolding isRelation coefficient
+no-relation : (z : ℤ) → sameText (coefficient z) (62 ∷ 61 ∷ []) ≡ false
+unfolding sameText coefficient
 no-relation (pos n) = refl
 no-relation (negsuc n) = refl
 
--- `>=`, the right side, ` ;` and a line feed
-end-says : (z : ℤ) → natAbs z < 10 ^ 20 → lineOfWords (words ((62 ∷ 61 ∷ 32 ∷ rightSide z) ++ (32 ∷ 59 ∷ 10 ∷ []))) ≡ record { terms = []; right = z }
-unfolding lineOfWords words prepend isRelation
-end-says z h = rw (first-word (rightSide z) (59 ∷ 10 ∷ []) (right-solid z), right-says z h)
-
-term-says : (f : Feed) (ws : List (List ℕ)) → Within 20 20 f → lineOfWords (coefficient (f .weight) ∷ variableName (f .signal) ∷ ws) ≡ withTerm f (lineOfWords ws)
+-- a term in front of what says a line
+term-says : (f : Feed) (ws : List (List ℕ)) (line : Line) → Within 20 20 f → lineOfWords ws ≡ some line
+    → lineOfWords (coefficient (f .weight) ∷ variableName (f .signal) ∷ ws) ≡ some (record { terms = f ∷ line .terms; right = line .right })
 unfolding lineOfWords
-term-says f ws h = rw (no-relation (f .weight), coefficient-says (f .weight) (h .0), variable-says (f .signal) (h .1))
+term-says f ws line h e = rw (no-relation (f .weight), coefficient-says (f .weight) (h .0), variable-says (f .signal) (h .1), e)
 
-terms-say : (fs : List Feed) (end : List ℕ) (z : ℤ) → Each (Within 20 20) fs → lineOfWords (words end) ≡ record { terms = []; right = z }
-    → lineOfWords (words (termsText fs ++ end)) ≡ record { terms = fs; right = z }
-unfolding termsText withTerm
+terms-say : (fs : List Feed) (end : List ℕ) (z : ℤ) → Each (Within 20 20) fs → lineOfWords (parts 32 end) ≡ some (record { terms = []; right = z })
+    → lineOfWords (parts 32 (termsText fs ++ end)) ≡ some (record { terms = fs; right = z })
+unfolding termsText
 terms-say [] end z h e = e
-terms-say (f ∷ fs) end z h e = ap (λ (cs : List ℕ). lineOfWords (words cs)) (append-assoc (termText f) (termsText fs) end) ∙ ap lineOfWords (term-words f (termsText fs ++ end))
-    ∙ term-says f (words (termsText fs ++ end)) (h .0) ∙ ap (withTerm f) (terms-say fs end z (h .1) e)
+terms-say (f ∷ fs) end z h e = ap (λ (cs : List ℕ). lineOfWords (parts 32 cs)) (append-assoc (termText f) (termsText fs) end)
+    ∙ ap lineOfWords (term-words f (termsText fs ++ end))
+    ∙ term-says f (parts 32 (termsText fs ++ end)) (record { terms = fs; right = z }) (h .0) (terms-say fs end z (h .1) e)
+
+-- ---- a line
+
+-- `>= `, the right side and ` ;`
+abbrev endText : ℤ → List ℕ
+endText z = (62 ∷ 61 ∷ 32 ∷ rightSide z) ++ (32 ∷ 59 ∷ [])
+
+end-inside : (z : ℤ) → Each Inside (endText z)
+end-inside z = each-append Inside (62 ∷ 61 ∷ 32 ∷ rightSide z) (32 ∷ 59 ∷ [])
+    (omega arith, (omega arith, (omega arith, solid-inside (rightSide z) (right-solid z)))) (omega arith)
+
+end-says : (z : ℤ) → natAbs z < 10 ^ 20 → lineOfWords (parts 32 (endText z)) ≡ some (record { terms = []; right = z })
+unfolding lineOfWords endOfWords parts prepend sameText
+end-says z h = rw (first-word (rightSide z) (59 ∷ []) (right-solid z), right-says z h)
+
+-- the terms and the end, and a line feed
+line-body : (line : Line) → lineText line ≡ (termsText (line .terms) ++ endText (line .right)) ++ (10 ∷ [])
+unfolding lineText
+line-body line = simp append-assoc
 
 -- what a line's text says is the line
-pub text-says : (line : Line) → Each (Within 20 20) (line .terms) → natAbs (line .right) < 10 ^ 20 → lineOf (lineText line) ≡ line
-unfolding lineOf lineText
-text-says line h k = terms-say (line .terms) _ (line .right) h (end-says (line .right) k)
+pub text-says : (line : Line) → Each (Within 20 20) (line .terms) → natAbs (line .right) < 10 ^ 20 → lineOf (lineText line) ≡ some line
+unfolding lineOf
+text-says line h k =
+    let inside = each-append Inside (termsText (line .terms)) (endText (line .right)) (terms-inside (line .terms)) (end-inside (line .right)) in
+    ap lineOfWords (ap words (line-body line) ∙ line-words (termsText (line .terms) ++ endText (line .right)) inside)
+    ∙ terms-say (line .terms) (endText (line .right)) (line .right) h (end-says (line .right) k)
 
--- ---- the lines of the question
+-- ---- the header
+header-body : (v c : ℕ) → headerText v c ≡ (variableWord ++ (decimal v ++ (constraintWord ++ decimal c))) ++ (10 ∷ [])
+unfolding headerText
+header-body v c = simp append-assoc
+
+header-inside : (v c : ℕ) → Each Inside (variableWord ++ (decimal v ++ (constraintWord ++ decimal c)))
+header-inside v c = each-append Inside variableWord _ (unfold variableWord in omega arith)
+    (each-append Inside (decimal v) _ (solid-inside (decimal v) (decimal-solid v))
+    (each-append Inside constraintWord (decimal c) (unfold constraintWord in omega arith) (solid-inside (decimal c) (decimal-solid c))))
+
+-- its five words
+header-words : (v c : ℕ) → parts 32 (variableWord ++ (decimal v ++ (constraintWord ++ decimal c)))
+    ≡ (42 ∷ []) ∷ variableMark ∷ decimal v ∷ constraintMark ∷ decimal c ∷ []
+unfolding variableWord constraintWord variableMark constraintMark parts prepend
+header-words v c = rw (first-word (decimal v) _ (decimal-solid v), only-part 32 (decimal c) (solid-word (decimal c) (decimal-solid c)))
+
+-- what the header's text says are its two numbers
+pub header-says : (v c : ℕ) → v < 10 ^ 20 → c < 10 ^ 20 → headerOf (headerText v c) ≡ some (record { variables = v; lines = c })
+unfolding headerOf
+header-says v c h k = ap headerOfWords (ap words (header-body v c) ∙ line-words _ (header-inside v c) ∙ header-words v c) ∙ said
+  where
+    said : headerOfWords ((42 ∷ []) ∷ variableMark ∷ decimal v ∷ constraintMark ∷ decimal c ∷ []) ≡ some (record { variables = v; lines = c })
+    said = unfold headerOfWords sameText variableMark constraintMark in rw (decimal-number v h, decimal-number c k)
+
+-- ---- the texts of the question
 within-all : (fs : List Feed) → Each (Within 8 3) fs → Each (Within 20 20) fs
 within-all = each-imp (Within 8 3) (Within 20 20) λ f h. omega arith
 
-pub question-text-says : (N M : Net) → Sound N → Sound M → (n : ℕ) → n < length (question N M) → lineOf (questionText N M (suc n)) ≡ getD (question N M) n noLine
-unfolding questionText
-question-text-says N M sn sm n h = let line = getD (question N M) n noLine in
-    let s = each-getD Narrow (question N M) noLine (question-narrow N M sn sm) n h in
-    text-says line (within-all (line .terms) (s .numbers)) (omega arith)
+module _ (N M : Net) (sn : Sound N) (sm : Sound M) (inputs : N .inputs ≡ M .inputs) where
+  pub question-text-says : (n : ℕ) → n < length (question N M) → lineOf (questionText N M (suc n)) ≡ some (getD (question N M) n noLine)
+  unfolding questionText
+  question-text-says n h =
+      let line = getD (question N M) n noLine in
+      let s = each-getD Narrow (question N M) noLine (question-narrow N M sn sm inputs) n h in
+      text-says line (within-all (line .terms) (s .numbers)) (omega arith)
+
+  pub question-header-says : length (N .outputs) ≡ length (M .outputs)
+      → headerOf (questionText N M 0) ≡ some (record { variables = variables N M; lines = length (question N M) })
+  unfolding questionText
+  question-header-says outputs = header-says (variables N M) (length (question N M))
+      (omega (arith, few-variables N M sn sm inputs)) (omega (arith, few-lines N M sn sm inputs outputs))
+
+  -- an assignment solves what is written exactly where it solves the question
+  pub solves-written : (ρ : Assignment) → SolvesWritten ρ N M ↔ Solves ρ (question N M)
+  solves-written ρ = (
+    λ w. getD-each P (question N M) noLine λ n h. let t = w n h in subst P (said (t .1) (question-text-says n h)) (t .2),
+    λ s n h. (getD (question N M) n noLine, question-text-says n h, each-getD P (question N M) noLine s n h),
+  )
+    where
+      P : Line → Type 0
+      P line = T (holds ρ line)
+
+      said : {o : Option Line} {a b : Line} → o ≡ some a → o ≡ some b → a ≡ b
+      said e f = cc
+
+  -- what is written decides where the question does
+  pub decides-written : Decides N M → DecidesWritten N M
+  decides-written d = (
+    λ s. d .0 (s .0, solves-written (s .0) .0 (s .1)),
+    λ x. let s = d .1 x in (s .0, solves-written (s .0) .1 (s .1)),
+  )

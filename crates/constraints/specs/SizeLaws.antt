@@ -1,4 +1,5 @@
--- How large the numbers in the question's lines are, and that none of its lines is longer than 254 bytes. Assumes nothing.
+-- How large the numbers in the question's lines are, that the header counts every variable in them, and that none of the texts is longer
+-- than 254 bytes. Assumes nothing.
 use mathlib.Core.Path.{_≡_, refl, ap}
 use mathlib.Core.Bool.{true, false, cond}
 use mathlib.Core.List.{List, [], _∷_, _++_, map}
@@ -18,6 +19,7 @@ use Rattle.network.specs.Sound.{GateOk, Gates, Has, Sound}
 use Rattle.network.specs.LimitLaws.{rise-below}
 use Rattle.constraints.specs.Question.{Line, most, least, term, negated, upper, lower, secondVariable, overGate, gateLines, someLine, notBothLine, outputLines, lastLine, firstDifference, question, variables}
 use Rattle.constraints.specs.Text.{termsText, lineText, noLine, variableWord, constraintWord, headerText, questionText}
+use Rattle.constraints.specs.Demand.{Named}
 use Rattle.constraints.specs.Stretches.{secondOf, firstLines, secondLines, pairLines, lastOf}
 use Rattle.constraints.specs.MemberLaws.{each-append, each-both, each-map, map-each, each-range}
 use Rattle.constraints.specs.LineLaws.{question-is, question-length}
@@ -59,132 +61,176 @@ pub record Narrow (line : Line) : Type 0 where
   pub side : natAbs (line .right) < 10 ^ 8
   pub short : length (lineText line) ≤ 254
 
-within-more : (fs : List Feed) → Each (Within 7 3) fs → Each (Within 8 3) fs
-within-more = each-imp (Within 7 3) (Within 8 3) λ f h. omega arith
+-- such a line over the first n variables
+record Over (n : ℕ) (line : Line) : Type 0 where
+  named : Named n line
+  narrow : Narrow line
 
--- at most 16 terms and one more
-narrow-of : (line : Line) (fs : List Feed) (f : Feed) → line .terms ≡ fs ++ (f ∷ []) → length fs ≤ 16 → Each (Within 7 3) fs → Within 8 3 f → natAbs (line .right) < 10 ^ 8 → Narrow line
-narrow-of line fs f e l h k r = record {
-  numbers = rw e (each-append (Within 8 3) fs (f ∷ []) (within-more fs h) (k, tt));
-  side = r;
-  short = omega (arith, line-length line, ap length (ap termsText e), terms-append fs (f ∷ []), terms-short 6 2 fs h, terms-short 7 2 (f ∷ []) (k, tt), right-short 7 (line .right) r);
-}
-
--- ---- the lines of gates
-
--- a gate over variables, within the limits
-record Scaled (g : Gate) : Type 0 where
+-- a gate over the first n variables, within the limits
+record Scaled (n : ℕ) (g : Gate) : Type 0 where
   few : length (g .feeds) ≤ 16
   level : natAbs (g .threshold) ≤ 1000000
   sizes : Each (λ f. natAbs (f .weight) ≤ 1000000) (g .feeds)
-  named : Each (λ f. f .signal + 1 < 1000) (g .feeds)
+  named : Each (λ f. f .signal < n) (g .feeds)
 
-fed-within : (g : Gate) → Scaled g → Each (Within 7 3) (g .feeds)
-fed-within g s = each-imp (λ f. (natAbs (f .weight) ≤ 1000000) × (f .signal + 1 < 1000)) (Within 7 3) (λ f h. omega arith) (g .feeds)
-    (each-both (λ f. natAbs (f .weight) ≤ 1000000) (λ f. f .signal + 1 < 1000) (g .feeds) (s .sizes) (s .named))
+-- the size of the coefficient has at most d digits, and the variable is one of the first n
+abbrev Small : ℕ → ℕ → Feed → Type 0
+Small d n f = (natAbs (f .weight) < 10 ^ d) × (f .signal < n)
 
-upper-narrow : (y : ℕ) (g : Gate) → y + 1 < 1000 → Scaled g → Narrow (upper y g)
-unfolding upper negated
-upper-narrow y g h s = narrow-of (upper y g) (map negated (g .feeds)) (term y (most (g .feeds) -ℤ g .threshold +ℤ pos 1)) refl (omega (arith, length-map (g .feeds) negated))
-    (each-map (Within 7 3) negated (g .feeds) (each-imp (Within 7 3) (λ f. Within 7 3 (negated f)) (λ f k. omega (arith, size-neg (f .weight))) (g .feeds) (fed-within g s)))
-    (omega (arith, most-size (g .feeds) (s .sizes), size-sub (most (g .feeds)) (g .threshold), size-add (most (g .feeds) -ℤ g .threshold) (pos 1)))
-    (omega (arith, size-sub (pos 1) (g .threshold)))
+module _ (n : ℕ) (few : n < 1000) where
+  -- at most 16 terms and one more
+  over-of : (line : Line) (fs : List Feed) (f : Feed) → line .terms ≡ fs ++ (f ∷ []) → length fs ≤ 16 → Each (Small 7 n) fs → Small 8 n f
+      → natAbs (line .right) < 10 ^ 8 → Over n line
+  over-of line fs f e l h k r = record {
+    named = rw e (each-append (λ t. t .signal < n) fs (f ∷ []) (each-imp (Small 7 n) (λ t. t .signal < n) (λ t j. j .1) fs h) (k .1, tt));
+    narrow = record {
+      numbers = rw e (each-append (Within 8 3) fs (f ∷ []) (each-imp (Small 7 n) (Within 8 3) (λ t j. omega arith) fs h) (omega arith, tt));
+      side = r;
+      short = omega (arith, line-length line, ap length (ap termsText e), terms-append fs (f ∷ []), before, own, right-short 7 (line .right) r);
+    };
+  }
+    where
+      before : length (termsText fs) ≤ length fs * 14
+      before = terms-short 6 2 fs (each-imp (Small 7 n) (Within 7 3) (λ t j. omega arith) fs h)
 
-lower-narrow : (y : ℕ) (g : Gate) → y + 1 < 1000 → Scaled g → Narrow (lower y g)
-unfolding lower
-lower-narrow y g h s = narrow-of (lower y g) (g .feeds) (term y (least (g .feeds) -ℤ g .threshold)) refl (s .few) (fed-within g s)
-    (omega (arith, least-size (g .feeds) (s .sizes), size-sub (least (g .feeds)) (g .threshold)))
-    (omega (arith, least-size (g .feeds) (s .sizes)))
+      own : length (termsText (f ∷ [])) ≤ 15
+      own = omega (arith, terms-short 7 2 (f ∷ []) (omega arith, tt))
 
-over-scaled : (φ : ℕ → ℕ) (n : ℕ) (g : Gate) → GateOk n g → ((s : ℕ) → s < n → φ s + 1 < 1000) → Scaled (overGate φ g)
-unfolding overGate signalsOf
-over-scaled φ n g o h = let z = gate-sizes g (o .scaled) in record {
-  few = omega (arith, length-map (g .feeds) over);
-  level = z .0;
-  sizes = each-map (λ f. natAbs (f .weight) ≤ 1000000) over (g .feeds) (z .1);
-  named = each-map (λ f. f .signal + 1 < 1000) over (g .feeds) (each-imp (λ f. f .signal < n) (λ f. φ (f .signal) + 1 < 1000) (λ f k. h (f .signal) k) (g .feeds)
-      (map-each (λ s. s < n) (λ f. f .signal) (g .feeds) (rise-below 0 n (signalsOf (g .feeds)) (o .rise))));
-}
-  where
-    over : Feed → Feed
-    over f = term (φ (f .signal)) (f .weight)
+  -- ---- the lines of gates
+  feeds-small : (g : Gate) → Scaled n g → Each (Small 7 n) (g .feeds)
+  feeds-small g s = each-imp (λ f. (natAbs (f .weight) ≤ 1000000) × (f .signal < n)) (Small 7 n) (λ f h. omega arith) (g .feeds)
+      (each-both (λ f. natAbs (f .weight) ≤ 1000000) (λ f. f .signal < n) (g .feeds) (s .sizes) (s .named))
 
-gates-narrow : (φ : ℕ → ℕ) (n : ℕ) (gs : List Gate) → Gates n gs → ((s : ℕ) → s < n + length gs → φ s + 1 < 1000) → Each Narrow (gateLines φ n gs)
-unfolding gateLines
-gates-narrow φ n [] o h = tt
-gates-narrow φ n (g ∷ gs) o h =
-    let s = over-scaled φ n g (o .0) (λ s k. h s (omega arith)) in
-    let y : φ n + 1 < 1000 = h n (omega arith) in
-    (upper-narrow (φ n) (overGate φ g) y s, (lower-narrow (φ n) (overGate φ g) y s, gates-narrow φ (suc n) gs (o .1) (λ s k. h s (omega arith))))
+  upper-over : (y : ℕ) (g : Gate) → y < n → Scaled n g → Over n (upper y g)
+  unfolding upper negated
+  upper-over y g h s = over-of (upper y g) (map negated (g .feeds)) (term y (most (g .feeds) -ℤ g .threshold +ℤ pos 1)) refl
+      (omega (arith, length-map (g .feeds) negated))
+      (each-map (Small 7 n) negated (g .feeds) (each-imp (Small 7 n) (λ f. Small 7 n (negated f)) minus-small (g .feeds) (feeds-small g s)))
+      (omega (arith, most-size (g .feeds) (s .sizes), size-sub (most (g .feeds)) (g .threshold), size-add (most (g .feeds) -ℤ g .threshold) (pos 1)))
+      (omega (arith, size-sub (pos 1) (g .threshold)))
+    where
+      minus-small : (f : Feed) → Small 7 n f → Small 7 n (negated f)
+      minus-small f k = omega (arith, size-neg (f .weight))
 
--- ---- the lines of outputs and the last line
-some-narrow : (p q d : ℕ) → p + 1 < 1000 → q + 1 < 1000 → d + 1 < 1000 → Narrow (someLine p q d) × Narrow (notBothLine p q d)
-unfolding someLine notBothLine
-some-narrow p q d hp hq hd = (
-  narrow-of (someLine p q d) (term p (pos 1) ∷ term q (pos 1) ∷ []) (term d (negsuc 0)) refl (omega arith) (omega arith) (omega arith) (omega arith),
-  narrow-of (notBothLine p q d) (term p (negsuc 0) ∷ term q (negsuc 0) ∷ []) (term d (negsuc 0)) refl (omega arith) (omega arith) (omega arith) (omega arith),
-)
+  lower-over : (y : ℕ) (g : Gate) → y < n → Scaled n g → Over n (lower y g)
+  unfolding lower
+  lower-over y g h s = over-of (lower y g) (g .feeds) (term y (least (g .feeds) -ℤ g .threshold)) refl (s .few) (feeds-small g s)
+      (omega (arith, least-size (g .feeds) (s .sizes), size-sub (least (g .feeds)) (g .threshold)))
+      (omega (arith, least-size (g .feeds) (s .sizes)))
 
-outputs-narrow : (ps qs : List ℕ) (d : ℕ) → Each (λ p. p + 1 < 1000) ps → Each (λ q. q + 1 < 1000) qs → d + length ps < 1000 → Each Narrow (outputLines ps qs d)
-unfolding outputLines
-outputs-narrow [] qs d hp hq hd = tt
-outputs-narrow (p ∷ ps) [] d hp hq hd = tt
-outputs-narrow (p ∷ ps) (q ∷ qs) d hp hq hd = let o = some-narrow p q d (hp .0) (hq .0) (omega arith) in
-    (o .0, (o .1, outputs-narrow ps qs (suc d) (hp .1) (hq .1) (omega arith)))
+  over-scaled : (φ : ℕ → ℕ) (own : ℕ) (g : Gate) → GateOk own g → ((s : ℕ) → s < own → φ s < n) → Scaled n (overGate φ g)
+  unfolding overGate signalsOf
+  over-scaled φ own g o h = let z = gate-sizes g (o .scaled) in record {
+    few = omega (arith, length-map (g .feeds) over);
+    level = z .0;
+    sizes = each-map (λ f. natAbs (f .weight) ≤ 1000000) over (g .feeds) (z .1);
+    named = each-map (λ f. f .signal < n) over (g .feeds) (each-imp (λ f. f .signal < own) (λ f. φ (f .signal) < n) (λ f k. h (f .signal) k) (g .feeds)
+        (map-each (λ s. s < own) (λ f. f .signal) (g .feeds) (rise-below 0 own (signalsOf (g .feeds)) (o .rise))));
+  }
+    where
+      over : Feed → Feed
+      over f = term (φ (f .signal)) (f .weight)
 
-last-narrow : (d n : ℕ) → n ≤ 16 → d + n < 1000 → Narrow (lastLine d n)
-unfolding lastLine
-last-narrow d n h k = record {
-  numbers = each-imp (Within 1 3) (Within 8 3) (λ f w. omega arith) (lastLine d n .terms) within;
-  side = omega arith;
-  short = omega (arith, line-length (lastLine d n), terms-short 0 2 (lastLine d n .terms) within, length-map (range d n) (λ v. term v (pos 1)), length-range d n, right-short 0 (pos 1) (omega arith));
-}
-  where
-    within : Each (Within 1 3) (lastLine d n .terms)
-    within = each-map (Within 1 3) (λ v. term v (pos 1)) (range d n) (each-range (λ v. Within 1 3 (term v (pos 1))) d n λ i j. omega arith)
+  gates-over : (φ : ℕ → ℕ) (own : ℕ) (gs : List Gate) → Gates own gs → ((s : ℕ) → s < own + length gs → φ s < n) → Each (Over n) (gateLines φ own gs)
+  unfolding gateLines
+  gates-over φ own [] o h = tt
+  gates-over φ own (g ∷ gs) o h =
+      let s = over-scaled φ own g (o .0) (λ s k. h s (omega arith)) in
+      let y : φ own < n = h own (omega arith) in
+      (upper-over (φ own) (overGate φ g) y s, (lower-over (φ own) (overGate φ g) y s, gates-over φ (suc own) gs (o .1) (λ s k. h s (omega arith))))
+
+  -- ---- the lines of outputs and the last line
+  pair-over : (p q d : ℕ) → p < n → q < n → d < n → Over n (someLine p q d) × Over n (notBothLine p q d)
+  unfolding someLine notBothLine
+  pair-over p q d hp hq hd = (
+    over-of (someLine p q d) (term p (pos 1) ∷ term q (pos 1) ∷ []) (term d (negsuc 0)) refl (omega arith) (omega arith) (omega arith) (omega arith),
+    over-of (notBothLine p q d) (term p (negsuc 0) ∷ term q (negsuc 0) ∷ []) (term d (negsuc 0)) refl (omega arith) (omega arith) (omega arith) (omega arith),
+  )
+
+  outputs-over : (ps qs : List ℕ) (d : ℕ) → Each (λ p. p < n) ps → Each (λ q. q < n) qs → d + length ps ≤ n → Each (Over n) (outputLines ps qs d)
+  unfolding outputLines
+  outputs-over [] qs d hp hq hd = tt
+  outputs-over (p ∷ ps) [] d hp hq hd = tt
+  outputs-over (p ∷ ps) (q ∷ qs) d hp hq hd = let o = pair-over p q d (hp .0) (hq .0) (omega arith) in
+      (o .0, (o .1, outputs-over ps qs (suc d) (hp .1) (hq .1) (omega arith)))
+
+  last-over : (d k : ℕ) → k ≤ 16 → d + k ≤ n → Over n (lastLine d k)
+  unfolding lastLine
+  last-over d k h l = record {
+    named = each-imp (Small 1 n) (λ t. t .signal < n) (λ t j. j .1) (lastLine d k .terms) small;
+    narrow = record {
+      numbers = each-imp (Small 1 n) (Within 8 3) (λ t j. omega arith) (lastLine d k .terms) small;
+      side = omega arith;
+      short = omega (arith, line-length (lastLine d k), terms-length, right-short 0 (pos 1) (omega arith));
+    };
+  }
+    where
+      small : Each (Small 1 n) (lastLine d k .terms)
+      small = each-map (Small 1 n) (λ v. term v (pos 1)) (range d k) (each-range (λ v. Small 1 n (term v (pos 1))) d k λ i j. omega arith)
+
+      terms-length : length (termsText (lastLine d k .terms)) ≤ k * 8
+      terms-length = omega (
+        arith,
+        length-map (range d k) (λ v. term v (pos 1)),
+        length-range d k,
+        terms-short 0 2 (lastLine d k .terms) (each-imp (Small 1 n) (Within 1 3) (λ t j. omega arith) (lastLine d k .terms) small),
+      )
 
 -- ---- every line of the question
 second-most : (i g s : ℕ) → secondVariable i g s ≤ s + g
 unfolding secondVariable
 second-most i g s = elim (ltb s i) as (λ b. cond b s (s + g) ≤ s + g) [ true ↦ omega arith | false ↦ omega arith ]
 
-module _ (N M : Net) (sn : Sound N) (sm : Sound M) where
-  second-small : (s : ℕ) → s < M .inputs + length (M .gates) → secondOf N s + 1 < 1000
-  second-small s h = omega (arith, second-most (N .inputs) (length (N .gates)) s)
-
-  first-narrow : Each Narrow (firstLines N)
-  unfolding firstLines
-  first-narrow = gates-narrow (λ s. s) (N .inputs) (N .gates) (sn .all-gates) λ s h. omega arith
-
-  second-narrow : Each Narrow (secondLines N M)
-  unfolding secondLines
-  second-narrow = gates-narrow (secondOf N) (M .inputs) (M .gates) (sm .all-gates) second-small
-
-  few-variables : variables N M < 1000
+module _ (N M : Net) (sn : Sound N) (sm : Sound M) (same : N .inputs ≡ M .inputs) where
+  pub few-variables : variables N M < 1000
   unfolding variables firstDifference
   few-variables = omega arith
 
-  pairs-narrow : Each Narrow (pairLines N M)
-  unfolding pairLines
-  pairs-narrow = outputs-narrow (N .outputs) (map (secondOf N) (M .outputs)) (firstDifference N M)
-      (each-imp (Has N) (λ p. p + 1 < 1000) (λ p h. omega arith) (N .outputs) (sn .all-outputs))
-      (each-map (λ q. q + 1 < 1000) (secondOf N) (M .outputs) (each-imp (Has M) (λ q. secondOf N q + 1 < 1000) (λ q h. second-small q (h .1)) (M .outputs) (sm .all-outputs)))
-      (unfold variables in few-variables)
+  second-below : (s : ℕ) → s < M .inputs + length (M .gates) → secondOf N s < variables N M
+  unfolding variables firstDifference
+  second-below s h = omega (arith, second-most (N .inputs) (length (N .gates)) s)
 
-  last-is-narrow : Narrow (lastOf N M)
+  first-over : Each (Over (variables N M)) (firstLines N)
+  unfolding firstLines variables firstDifference
+  first-over = gates-over (variables N M) few-variables (λ s. s) (N .inputs) (N .gates) (sn .all-gates) λ s h. omega arith
+
+  second-over : Each (Over (variables N M)) (secondLines N M)
+  unfolding secondLines
+  second-over = gates-over (variables N M) few-variables (secondOf N) (M .inputs) (M .gates) (sm .all-gates) second-below
+
+  pairs-over : Each (Over (variables N M)) (pairLines N M)
+  unfolding pairLines variables firstDifference
+  pairs-over = outputs-over (variables N M) few-variables (N .outputs) (map (secondOf N) (M .outputs)) (firstDifference N M)
+      (each-imp (Has N) (λ p. p < variables N M) (λ p h. omega arith) (N .outputs) (sn .all-outputs))
+      (each-map (λ q. q < variables N M) (secondOf N) (M .outputs)
+      (each-imp (Has M) (λ q. secondOf N q < variables N M) (λ q h. second-below q (h .1)) (M .outputs) (sm .all-outputs)))
+      (omega arith)
+
+  last-is-over : Over (variables N M) (lastOf N M)
   unfolding lastOf variables
-  last-is-narrow = last-narrow (firstDifference N M) (length (N .outputs)) (sn .few-outputs .1) few-variables
+  last-is-over = last-over (variables N M) few-variables (firstDifference N M) (length (N .outputs)) (sn .few-outputs .1) (omega arith)
 
-  -- every line of the question is narrow
+  question-over : Each (Over (variables N M)) (question N M)
+  question-over = rw question-is (each-append (Over (variables N M)) (firstLines N) _ first-over
+      (each-append (Over (variables N M)) (secondLines N M) _ second-over (each-append (Over (variables N M)) (pairLines N M) _ pairs-over (last-is-over, tt))))
+
+  -- every line of the question is over the variables that the header counts, and narrow
+  pub question-named : Each (Named (variables N M)) (question N M)
+  question-named = each-imp (Over (variables N M)) (Named (variables N M)) (λ line h. h .named) (question N M) question-over
+
   pub question-narrow : Each Narrow (question N M)
-  question-narrow = rw question-is (each-append Narrow (firstLines N) _ first-narrow (each-append Narrow (secondLines N M) _ second-narrow (each-append Narrow (pairLines N M) _ pairs-narrow (last-is-narrow, tt))))
+  question-narrow = each-imp (Over (variables N M)) Narrow (λ line h. h .narrow) (question N M) question-over
 
-  header-short : length (N .outputs) ≡ length (M .outputs) → length (headerText (variables N M) (length (question N M))) ≤ 254
-  unfolding headerText variableWord constraintWord
-  header-short e = simp length-append (omega (arith, decimal-short (variables N M) 2 few-variables, decimal-short (length (question N M)) 2 (omega (arith, question-length N M e))))
+  module _ (outputs : length (N .outputs) ≡ length (M .outputs)) where
+    pub few-lines : length (question N M) < 1000
+    few-lines = omega (arith, question-length N M outputs)
 
-  -- "at most 254 bytes, line feed included"
-  pub line-short : length (N .outputs) ≡ length (M .outputs) → (n : ℕ) → n ≤ length (question N M) → length (questionText N M n) ≤ 254
-  unfolding questionText
-  line-short e zero h = header-short e
-  line-short e (suc n) h = each-getD Narrow (question N M) noLine question-narrow n h .short
+    header-short : length (headerText (variables N M) (length (question N M))) ≤ 254
+    unfolding headerText variableWord constraintWord
+    header-short = simp length-append (omega (arith, decimal-short (variables N M) 2 few-variables, decimal-short (length (question N M)) 2 few-lines))
+
+    -- "at most 254 bytes, line feed included"
+    pub line-short : (n : ℕ) → n ≤ length (question N M) → length (questionText N M n) ≤ 254
+    unfolding questionText
+    line-short zero h = header-short
+    line-short (suc n) h = each-getD Narrow (question N M) noLine question-narrow n h .short

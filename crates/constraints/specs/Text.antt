@@ -2,7 +2,7 @@
 -- always carry a sign, and 0 is written `+0`; right sides carry a sign only below 0". Nothing is proved here.
 use mathlib.Core.Bool.{cond}
 use mathlib.Core.List.{List, [], _∷_, _++_}
-use Prim.Native.Nat.{ℕ, zero, suc, _+_, _/_, _%_, _-_}
+use Prim.Native.Nat.{ℕ, zero, suc, _+_, _/_, _%_}
 use lib.Dec.{ltb}
 use lib.IntN.{ℤ, natAbs, pos}
 use lib.Signed.{nonNeg}

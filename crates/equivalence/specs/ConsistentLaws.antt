@@ -15,7 +15,7 @@ use Rattle.integers.specs.Lists.{Each}
 use Rattle.integers.specs.ListLaws.{each-imp}
 use Rattle.network.specs.Threshold.{Feed, Gate, Net, Assignment, sum, bit, assign, run, values, outputBits}
 use Rattle.network.specs.Limits.{signalsOf}
-use Rattle.network.specs.Changes.{gateAt}
+use Rattle.network.specs.Changes.{gateAt, withGates}
 use Rattle.network.specs.Sound.{Gates, Has, Sound}
 use Rattle.network.specs.LimitLaws.{rise-below}
 use Rattle.equivalence.specs.Consistent.{Vals, Fits, Agree, Ordered, Good, Carried, Sim}
@@ -147,7 +147,7 @@ outputs-many N M ρ e = sym (length-map (M .outputs) (values M ρ)) ∙ ap lengt
 
 -- gates replaced by gates that have the same bits under every fitting assignment
 pub replaced : (N : Net) (gs : List Gate) → ((ρ : Assignment) → Fits ρ N → map (bit ρ) gs ≡ map (bit ρ) (N .gates))
-    → Sim N (record { inputs = N .inputs; gates = gs; outputs = N .outputs })
+    → Sim N (withGates N gs)
 replaced N gs e = record {
   same-inputs = refl;
   carry = λ ρ h.

@@ -1,6 +1,7 @@
 // fold: reads a PMN file on standard input, sweeps its network with B = 128, and prints gates, cost and levels before and after, the
 // number of collapses, and the question for before and after. A refused file prints only its number. The work is done by proved
 // libraries; this program reads, calls and writes.
+use format::LONGEST_FILE;
 use libc::STDIN_FILENO;
 use libc::STDOUT_FILENO;
 use network::Network;
@@ -90,9 +91,9 @@ fn fold(file: &[u8]) {
     whole_question(before, after);
 }
 
-// The longest file has 10,904 bytes; one byte more is enough to see that a file is longer.
+// One byte more than the longest file has is enough to see that a file is longer.
 fn main() {
-    let mut buffer = [0u8; 10905];
+    let mut buffer = [0u8; LONGEST_FILE + 1];
     let n = io::read_full(STDIN_FILENO, &mut buffer);
     fold_prefix(&buffer, n);
 }

@@ -3,7 +3,7 @@ use mathlib.Core.Path.{_≡_, refl, ap, _∙_, subst}
 use mathlib.Core.Bool.{_&&_}
 use mathlib.Core.List.{List, [], _∷_, map}
 use mathlib.Core.Logic.{_≢_, _↔_}
-use Prim.Native.Nat.{ℕ, suc, _-_}
+use Prim.Native.Nat.{ℕ, suc, _-_, _≤_}
 use native.Mathlib.Omega.{arith}
 use lib.Dec.{T, leb→le}
 use lib.ListN.{length}
@@ -16,34 +16,46 @@ use Rattle.integers.specs.RefusalLaws.{accepted-inj, checks-accepted, passed-ch
 use Rattle.network.specs.Threshold.{Gate, Net, Assignment, bit}
 use Rattle.network.specs.Limits.{isGate, sound}
 use Rattle.network.specs.Record.{noGate}
-use Rattle.network.specs.Changes.{gateAt, withGate}
+use Rattle.network.specs.Changes.{gateAt, withGate, withGates}
 use Rattle.network.specs.Sound.{GateOk, Gates, Has}
 use Rattle.network.specs.LimitLaws.{has-of, sound-of, gate-ok}
 use Rattle.equivalence.specs.ConsistentLaws.{own-bit, sim-trans, replaced}
-use Rattle.folding.specs.Merge.{Edge, edge, silent, reads, among, distinct, merged, narrow, agrees, limits, merge}
+use Rattle.folding.specs.Merge.{Edge, edgeOf, edge, silent, reads, among, distinct, merged, narrow, agrees, limits, merge}
 use Rattle.folding.specs.Pair.{pairOf}
-use Rattle.folding.specs.Collapse.{unread, drop, fuse, fuseAll, withGates, collapse}
-use Rattle.folding.specs.Guarantee.{Alike, Kept}
+use Rattle.folding.specs.Collapse.{unread, drop, fuse, fuseAll, collapse}
+use Rattle.folding.specs.Guarantee.{Alike, AlikeUnderAll, Kept}
 use Rattle.folding.specs.LowerLaws.{Free, silent-free, without-sim}
-use Rattle.folding.specs.AgreeLaws.{merged-signals, merged-bit, alike-of, of-alike}
+use Rattle.folding.specs.LimitLaws.{Fed, limited-of}
+use Rattle.folding.specs.AgreeLaws.{Low, merged-signals, merged-bit, alike-of, of-alike, alike-all}
 use Rattle.folding.specs.SoundLaws.{merged-ok, reader-above, both-low, resized-sound, withGate-sound, without-size, without-sound}
 use Rattle.folding.specs.PairLaws.{qualified-of, pairOf-found}
 
 -- ---- merge
+
+-- at most 16 distinct feeds
+pub narrow-few : (e : Edge) → T (narrow e) → length (distinct e) ≤ 16
+unfolding narrow
+narrow-few e t = leb→le (length (distinct e)) 16 t
+
+-- both gates' feeds lie below v
+fed-low : (N : Net) (u v : ℕ) → Fed N u v → Low (edge N u v)
+unfolding edge
+fed-low N u v f =
+    let s = sound-of N (f .is-sound) in
+    both-low (edge N u v) (gate-ok N u s (has-of N u (f .u-gate))) (gate-ok N v s (has-of N v (f .v-gate))) (f .joined)
+
 pub merge-kept : (N : Net) (u v k l : ℕ) (M : Net) → merge N u v k l ≡ accepted M → Kept N M
-unfolding merge limits withGate gateAt narrow edge
+unfolding merge withGate gateAt edge
 merge-kept N u v k l M h =
     let a = checks-accepted (limits N u v k l) _ h in
     let b = checks-accepted ((agrees e k l else 15) ∷ []) _ (a .1) in
-    let p = a .0 in
-    let s = sound-of N (p .0) in
-    let g = T-and (isGate N u) (isGate N v) (p .1 .0) in
-    let hu = has-of N u (g .0) in
-    let hv = has-of N v (g .1) in
-    let low = both-low e (gate-ok N u s hu) (gate-ok N v s hv) (p .1 .1 .0) in
+    let p = limited-of N u v k l (a .0) in
+    let s = sound-of N (p .fed .is-sound) in
+    let hu = has-of N u (p .fed .u-gate) in
+    let hv = has-of N v (p .fed .v-gate) in
     subst (Kept N) (accepted-inj (b .1)) (record {
-      sim = replaced N _ λ ρ r. map-set-same (bit ρ) (N .gates) (v - N .inputs) (merged e k l) noGate (merged-bit e k l low (b .0 .0) ρ (own-bit N u ρ hu r));
-      sound = withGate-sound N v (merged e k l) hv (merged-ok e k l (leb→le _ 16 (p .1 .1 .1 .1 .1 .0)) (p .1 .1 .1 .1 .1 .1 .0)) s;
+      sim = replaced N _ λ ρ r. map-set-same (bit ρ) (N .gates) (v - N .inputs) (merged e k l) noGate (merged-bit e k l (fed-low N u v (p .fed)) (b .0 .0) ρ (own-bit N u ρ hu r));
+      sound = withGate-sound N v (merged e k l) hv (merged-ok e k l (narrow-few e (p .searched .is-narrow)) (p .scaled)) s;
     })
   where
     e : Edge
@@ -56,6 +68,10 @@ merge-exact N u v k l p = (
   (λ h. alike-of (edge N u v) k l (checks-accepted ((agrees (edge N u v) k l else 15) ∷ []) _ (checks-accepted (limits N u v k l) _ h .1) .0 .0)),
   (λ h. passed-checks (limits N u v k l) _ p ∙ passed-checks ((agrees (edge N u v) k l else 15) ∷ []) _ (of-alike (edge N u v) k l h, tt)),
 )
+
+-- on every setting is under every assignment
+pub merge-same : (N : Net) (u v k l : ℕ) → Passed (limits N u v k l) → Alike (edge N u v) k l ↔ AlikeUnderAll (edge N u v) k l
+merge-same N u v k l p = alike-all (edge N u v) k l (fed-low N u v (limited-of N u v k l p .fed))
 
 pub merge-net : (N : Net) (u v k l : ℕ) (M : Net) → merge N u v k l ≡ accepted M → merge N u v k l ≡ accepted (withGate N v (merged (edge N u v) k l))
 unfolding merge
@@ -91,18 +107,18 @@ record Fused (e : Edge) (h : Gate) : Type 0 where
   good : GateOk (e .v) h
 
 fuse-fused : (e : Edge) (h : Gate) → GateOk (e .u) (e .gateU) → GateOk (e .v) (e .gateV) → fuse e ≡ accepted h → Fused e h
-unfolding fuse narrow reads
+unfolding fuse reads
 fuse-fused e h ou ov q = cond-case (λ x. x ≡ accepted h → Fused e h) (silent (e .u) (e .gateV))
     (λ t q. subst (Fused e) (accepted-inj q) (record { bits = λ ρ r. refl; free = silent-free (e .u) (e .gateV) t; good = ov }))
     (λ t q.
     let b = bind-accepted (pairOf e) _ q in
     let p = b .0 in
     let f = pairOf-found e p (b .1) in
-    let d = qualified-of e p (f .best .qualified) in
+    let d = qualified-of e p (f .qualified) in
     subst (Fused e) (accepted-inj (b .2)) (record {
       bits = merged-bit e (p .k) (p .l) (both-low e ou ov t) (d .agreed);
       free = merged-free e (p .k) (p .l) ou;
-      good = merged-ok e (p .k) (p .l) (leb→le _ 16 (f .passed .1 .0)) (d .scaled);
+      good = merged-ok e (p .k) (p .l) (narrow-few e (f .searched .is-narrow)) (d .scaled);
     })) q
 
 -- the same of the gates from signal n on
@@ -116,9 +132,9 @@ fuseAll-fused : (u : ℕ) (gateU : Gate) (n : ℕ) (gs hs : List Gate) → GateO
 unfolding fuseAll
 fuseAll-fused u gateU n [] hs ou os q = subst (FusedAll u gateU n []) (accepted-inj q) (record { bits = λ ρ r. refl; free = tt; good = tt; size = refl })
 fuseAll-fused u gateU n (g ∷ gs) hs ou os q =
-    let a = bind-accepted (fuse (record { u = u; v = n; gateU = gateU; gateV = g })) _ q in
+    let a = bind-accepted (fuse (edgeOf u n gateU g)) _ q in
     let b = bind-accepted (fuseAll u gateU (suc n) gs) _ (a .2) in
-    let h = fuse-fused (record { u = u; v = n; gateU = gateU; gateV = g }) (a .0) ou (os .0) (a .1) in
+    let h = fuse-fused (edgeOf u n gateU g) (a .0) ou (os .0) (a .1) in
     let r = fuseAll-fused u gateU (suc n) gs (b .0) ou (os .1) (b .1) in
     subst (FusedAll u gateU n (g ∷ gs)) (accepted-inj (b .2)) (record {
       bits = λ ρ x. rw (h .bits ρ x, r .bits ρ x);
@@ -133,7 +149,7 @@ pub record Collapsed (N M : Net) : Type 0 where
   pub fewer : suc (length (M .gates)) ≡ length (N .gates)
 
 pub collapse-kept : (N : Net) (u : ℕ) (M : Net) → collapse N u ≡ accepted M → Collapsed N M
-unfolding collapse withGates
+unfolding collapse
 collapse-kept N u M h =
     let a = checks-accepted ((sound N else 20) ∷ (isGate N u else 11) ∷ (all (other u) (N .outputs) else 17) ∷ []) _ h in
     let d = bind-accepted (fuseAll u (gateAt N u) (N .inputs) (N .gates)) _ (a .1) in

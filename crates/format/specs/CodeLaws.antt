@@ -12,7 +12,7 @@ use Rattle.integers.specs.Word.{wordOf}
 use Rattle.integers.specs.Lists.{between}
 use Rattle.network.specs.Threshold.{Feed, Gate, Net}
 use Rattle.network.specs.Limits.{inScale, weightOk}
-use Rattle.format.specs.Format.{Read, refused, done, byteOr, intThen, check, andThen, parseFeed, parseFeeds, parseGate, parseGates, parseOutputs, atEnd, parseBody, parseHead, parseFile}
+use Rattle.format.specs.Format.{Read, refused, done, byteOr, intThen, check, andThen, parseFeed, parseFeeds, parseGate, parseGates, parseOutputs, netRead, atEnd, parseBody, parseHead, parseFile}
 
 -- a refusal's number is not 0
 abbrev Holds : {A : Type 0} → Read A → Type 0
@@ -69,7 +69,7 @@ n-end N (b ∷ l) = record { holds = omega arith }
 n-body : (i g o : ℕ) (l : List ℕ) → Numbered (parseBody i g o l)
 n-body i g o l =
     n-then (parseGates i g [] l) _ (n-gates i g [] l) (λ gs l₁.
-    n-then (parseOutputs i (i + g) o [] l₁) _ (n-outputs i (i + g) o [] l₁) (λ os l₂. n-end (record { inputs = i; gates = gs; outputs = os }) l₂))
+    n-then (parseOutputs i (i + g) o [] l₁) _ (n-outputs i (i + g) o [] l₁) (λ os l₂. n-end (netRead i gs os) l₂))
 
 n-head : (p m n v w i g o : ℕ) (l : List ℕ) → Numbered (parseHead p m n v w i g o l)
 n-head p m n v w i g o l =

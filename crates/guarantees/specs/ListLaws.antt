@@ -3,6 +3,7 @@ use mathlib.Core.Path.{_≡_, refl, sym, ap, _∙_, subst}
 use mathlib.Core.Bool.{true}
 use mathlib.Core.List.{List, [], _∷_}
 use Prim.Native.Nat.{ℕ}
+use borrow.Author.Tests.{eq-eqb}
 use lib.ListN.{length}
 use Rattle.integers.specs.Refusals.{checks}
 use Rattle.network.specs.Threshold.{Net, Assignment, frame, outputBits}
@@ -15,7 +16,8 @@ use Rattle.network.specs.declared.Network.{Network}
 use Rattle.folding.specs.Calls.{answer, leaves, calls}
 use Rattle.folding.specs.GuaranteeLaws.{step-sound, calls-agree, claim, list-kept}
 use Rattle.folding.specs.declared.Call.{Call}
-use Rattle.constraints.specs.SolutionLaws.{agree-unsolvable}
+use Rattle.constraints.specs.Question.{alike}
+use Rattle.constraints.specs.Demand.{Differ}
 use Rattle.sweeping.specs.ApplyLaws.{call-exact, call-record}
 use Rattle.format.specs.Format.{Bytes}
 use Rattle.pmn.specs.Answers.{loaded}
@@ -23,6 +25,7 @@ use Rattle.pmn.specs.OpenLaws.{opened, loaded-net, opened-sound}
 use Rattle.pmn.specs.declared.Loaded.{Loaded}
 use Rattle.guarantees.specs.Files.{Accepted}
 use Rattle.guarantees.specs.Lists.{callsOn, CallClaim, CallClaims, ListClaim}
+use Rattle.guarantees.specs.QuestionLaws.{questions}
 
 -- ---- every list
 
@@ -59,6 +62,11 @@ inputs-of : (r : Network) → netOf r .inputs ≡ r .inputs
 unfolding netOf
 inputs-of r = refl
 
+-- networks with as many inputs and as many outputs
+alike-of : (N M : Net) → N .inputs ≡ M .inputs → length (N .outputs) ≡ length (M .outputs) → alike N M ≡ true
+unfolding alike
+alike-of N M e f = rw (eq-eqb (N .inputs) (M .inputs) e, eq-eqb (length (N .outputs)) (length (M .outputs)) f)
+
 pub list-claim : (r : Network) (cs : List Call) → Holds r → ListClaim r cs
 list-claim r cs s =
     let left = list-left r cs s in
@@ -69,12 +77,18 @@ list-claim r cs s =
     let bits : (ρ : Assignment) → outputBits (netOf q) ρ ≡ outputBits N ρ = λ ρ. ap (λ (x : Net). outputBits x ρ) (left .network) ∙ calls-agree N cs n ρ in
     let inputs : netOf q .inputs ≡ N .inputs = ap (λ (x : Net). x .inputs) (left .network) ∙ k .same-inputs in
     let outputs : length (netOf q .outputs) ≡ length (N .outputs) = ap (λ (x : Net). length (x .outputs)) (left .network) ∙ k .same-outputs in
+    let counts = alike-of N (netOf q) (sym inputs) (sym outputs) in
+    let asked = questions r q (holds-sound r s) (holds-sound q (left .holds)) counts in
+    let same : Differ N (netOf q) → ⊥ = λ d. d .2 (sym (bits (frame (d .0)))) in
     record {
       sound-after = holds-sound q (left .holds);
       network-after = left .network;
       same-bits = λ x h. bits (frame x);
       same-readings = λ x. read-alike r q x (holds-sound r s) (holds-sound q (left .holds)) (sym (inputs-of q) ∙ inputs ∙ inputs-of r) (bits (frame x));
-      no-solution = agree-unsolvable N (netOf q) n (left .holds .sound) (sym inputs) (sym outputs) (λ x h. sym (bits (frame x)));
+      same-counts = counts;
+      asked = asked;
+      no-solution = λ ρ h. same (asked .decides .0 (ρ, h));
+      none-written = λ ρ h. same (asked .decides-written .0 (ρ, h));
       each-call = left .claims;
     }
 

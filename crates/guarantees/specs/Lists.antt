@@ -11,8 +11,10 @@ use Rattle.network.specs.declared.Network.{Network}
 use Rattle.folding.specs.Calls.{answer, calls}
 use Rattle.folding.specs.Guarantee.{Claim}
 use Rattle.folding.specs.declared.Call.{Call}
-use Rattle.constraints.specs.Question.{Solves, question}
+use Rattle.constraints.specs.Question.{Solves, question, alike}
+use Rattle.constraints.specs.Demand.{SolvesWritten}
 use Rattle.sweeping.specs.Answers.{asOutcome, applied}
+use Rattle.guarantees.specs.Questions.{QuestionClaim}
 
 -- the record after a list: "each later one the network that the call before it returned"
 unfoldable pub callsOn : Network → List Call → Network
@@ -21,7 +23,8 @@ callsOn r (c ∷ cs) = callsOn (applied r c .network) cs
 
 -- one call on a record: it leaves exactly the network and gives exactly the answer that the definitions give for its numbers and the
 -- network that it got; a merge within the limits is accepted exactly when merged gate and composed pair have the same bit on every
--- setting; a collapse is accepted exactly when its gate is no output and has a qualifying pair for every reader; after an accepted sweep no gate within its reader limit, outputs aside, has a qualifying pair for every gate that reads it
+-- setting; a collapse is accepted exactly when its gate is no output and has a qualifying pair for every reader; after an accepted sweep
+-- no gate within its reader limit, outputs aside, has a qualifying pair for every gate that reads it
 pub record CallClaim (r : Network) (c : Call) : Type 0 where
   pub exact : applied r c ≡ asOutcome r (answer (netOf r) c)
   pub claim : Claim (netOf r) c
@@ -32,12 +35,16 @@ CallClaims r [] = Unit {0}
 CallClaims r (c ∷ cs) = CallClaim r c × CallClaims (applied r c .network) cs
 
 -- a list of calls from a record on: the record after it is sound and stands for the network of the definitions; on every frame that 10
--- does not refuse every output has the same bit by the threshold rule, and a reading gives the same answer; the question for the two has
--- no 0/1 solution; and each call is as claimed
+-- does not refuse every output has the same bit by the threshold rule, and a reading gives the same answer; the two have equal input and
+-- output counts, so that 19 does not apply to the question written for them, which is as claimed of every such pair and has no 0/1
+-- solution; and each call is as claimed
 pub record ListClaim (r : Network) (cs : List Call) : Type 0 where
   pub sound-after : soundRecord (callsOn r cs) ≡ true
   pub network-after : netOf (callsOn r cs) ≡ calls (netOf r) cs
   pub same-bits : (x : ℕ) → fitsFrame (r .inputs) x ≡ true → outputBits (netOf (callsOn r cs)) (frame x) ≡ outputBits (netOf r) (frame x)
   pub same-readings : (x : ℕ) → reading (callsOn r cs) x ≡ reading r x
+  pub same-counts : alike (netOf r) (netOf (callsOn r cs)) ≡ true
+  pub asked : QuestionClaim r (callsOn r cs)
   pub no-solution : (ρ : Assignment) → Solves ρ (question (netOf r) (netOf (callsOn r cs))) → ⊥
+  pub none-written : (ρ : Assignment) → SolvesWritten ρ (netOf r) (netOf (callsOn r cs)) → ⊥
   pub each-call : CallClaims r cs

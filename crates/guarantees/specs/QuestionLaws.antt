@@ -7,8 +7,8 @@ use Rattle.network.specs.Record.{netOf, soundRecord}
 use Rattle.network.specs.RecordLaws.{sound-net}
 use Rattle.network.specs.declared.Network.{Network}
 use Rattle.constraints.specs.SolutionLaws.{question-decides}
-use Rattle.constraints.specs.SizeLaws.{line-short}
-use Rattle.constraints.specs.MeaningLaws.{question-text-says}
+use Rattle.constraints.specs.SizeLaws.{question-named, line-short}
+use Rattle.constraints.specs.MeaningLaws.{question-text-says, question-header-says, decides-written}
 use Rattle.constraints.specs.Question.{alike}
 use Rattle.guarantees.specs.Questions.{Questions}
 
@@ -21,8 +21,12 @@ questions a b ea eb e =
     let t = sound-net b (T-is (soundRecord b) eb) in
     let inputs = eqb-true (N .inputs) (M .inputs) (and-left (eqb (N .inputs) (M .inputs)) (eqb (length (N .outputs)) (length (M .outputs))) e) in
     let outputs = eqb-true (length (N .outputs)) (length (M .outputs)) (and-right (eqb (N .inputs) (M .inputs)) (eqb (length (N .outputs)) (length (M .outputs))) e) in
+    let decides = question-decides N M s t inputs outputs in
     record {
-      decides = question-decides N M s t inputs outputs;
-      short = λ n h. line-short N M s t outputs n h;
-      says = λ n h. question-text-says N M s t n h;
+      decides = decides;
+      decides-written = decides-written N M s t inputs decides;
+      header = question-header-says N M s t inputs outputs;
+      says = question-text-says N M s t inputs;
+      named = question-named N M s t inputs;
+      short = line-short N M s t inputs outputs;
     }

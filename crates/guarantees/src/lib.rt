@@ -30,15 +30,18 @@ pub fn read_is_written()
 {}
 
 // Demand 2: for any two sound records with equal input and output counts, the question has a 0/1 solution exactly when some frame makes
-// their outputs differ; no line of it is longer than 254 bytes, and the text of each line says that line.
+// their outputs differ, and so has what is written: by a strict reader of the texts, the header says how many variables and how many lines
+// after it there are, each line's text says that line, and every variable is one of those that the header counts. No text is longer than
+// 254 bytes.
 pub fn question_decides(first: Network, second: Network)
     ensures { λ _. ⌜ Questions first second ⌝ }
 {}
 
 // Demand 3: from the record of any file that a read accepts, every list of merges, drops, collapses and sweeps with any numbers, refused
-// ones included. The record after it is read alike on every frame; the question for the two has no 0/1 solution; each call leaves exactly
-// the network and gives exactly the answer that the definitions give; a merge within the limits is accepted exactly when it agrees;
-// a collapse exactly when every reader has a pair; and after an accepted sweep nothing within its reader limit is left to collapse.
+// ones included. The record after it is read alike on every frame; the two have equal input and output counts, and the question written
+// for them is as claimed above and has no 0/1 solution; each call leaves exactly the network and gives exactly the answer that the
+// definitions give; a merge within the limits is accepted exactly when it agrees; a collapse exactly when every reader has a pair; and
+// after an accepted sweep nothing within its reader limit is left to collapse.
 pub fn lists_of_calls()
     ensures { λ _. ⌜ ((file : List ℕ) → Bytes file → Accepted file → (calls : List Call) → ListClaim (loaded file .network) calls) ⌝ }
 {}

@@ -3,6 +3,7 @@ pub mod TestLaws
 pub mod ListLaws
 pub mod RangeLaws
 pub mod TableLaws
+pub mod PlaceLaws
 pub mod Refusals
 pub mod RefusalLaws
 pub mod IntegerLaws

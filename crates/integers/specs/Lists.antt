@@ -3,6 +3,7 @@ use mathlib.Core.Bool.{Bool, true, not, cond, _&&_}
 use mathlib.Core.List.{List, [], _∷_, map}
 use Prim.Native.Nat.{ℕ, zero, suc}
 use lib.Dec.{leb, eqb}
+use lib.ListN.{getD}
 
 -- p holds of each member
 unfoldable pub all : {A : Type 0} → (A → Bool) → List A → Bool
@@ -37,6 +38,10 @@ range a (suc n) = a ∷ range (suc a) n
 -- f 0, f 1, .., n of them
 abbrev pub tab : {A : Type 0} → ℕ → (ℕ → A) → List A
 tab n f = map f (range 0 n)
+
+-- the n places of a list, spare ones d
+unfoldable pub places : {A : Type 0} → ℕ → A → List A → List A
+places n d xs = tab n (λ i. getD xs i d)
 
 -- n lies from a to b
 unfoldable pub between : ℕ → ℕ → ℕ → Bool

@@ -73,6 +73,10 @@ module _ {a b : Network} (p : Comparable a b) where
   pub same-drivers : length (netOf a .outputs) ≡ length (netOf b .outputs)
   same-drivers = count-outputs a ∙ same-outputs ∙ sym (count-outputs b)
 
+  same-signals : netOf a .inputs ≡ netOf b .inputs
+  unfolding netOf
+  same-signals = same-inputs
+
   first-net : Sound (netOf a)
   first-net = sound-net a (T-is (soundRecord a) (p .first-sound))
 
@@ -96,11 +100,11 @@ module _ {a b : Network} (p : Comparable a b) where
   -- a line is narrow, and the header has room
   pub line-narrow : (i : ℕ) → i < linesOf (netOf a) (netOf b) → Narrow (getD (question (netOf a) (netOf b)) i noLine)
   unfolding linesOf
-  line-narrow i h = each-getD Narrow (question (netOf a) (netOf b)) noLine (question-narrow (netOf a) (netOf b) first-net second-net) i h
+  line-narrow i h = each-getD Narrow (question (netOf a) (netOf b)) noLine (question-narrow (netOf a) (netOf b) first-net second-net same-signals) i h
 
   pub text-short : (n : ℕ) → n ≤ linesOf (netOf a) (netOf b) → length (questionText (netOf a) (netOf b) n) ≤ 254
   unfolding linesOf
-  text-short n h = line-short (netOf a) (netOf b) first-net second-net same-drivers n h
+  text-short n h = line-short (netOf a) (netOf b) first-net second-net same-signals same-drivers n h
 
   -- the text of line n, the header or a line after it
   pub header-is : {n v c : ℕ} → n ≡ 0 → v ≡ a .inputs + a .gates + b .gates + a .outputs → c ≡ linesOf (netOf a) (netOf b) → headerText v c ≡ questionText (netOf a) (netOf b) n

@@ -1,14 +1,14 @@
--- A line as plain data and the line that it stands for, the lines of each stretch by their number, and what their makers ask for.
+-- A line as plain data, both ways, the lines of each stretch by their number, and what their makers ask for.
 -- Nothing is proved here.
 use mathlib.Core.Path.{_≡_}
 use mathlib.Core.Bool.{Bool, true, Bool·beq, cond}
 use mathlib.Core.List.{List, [], _∷_, _++_, map}
-use Prim.Native.Nat.{ℕ, _+_, _/_, _%_, _≤_}
+use Prim.Native.Nat.{ℕ, _+_, _/_, _%_, _≤_, _<_}
 use lib.Dec.{eqb}
 use lib.IntN.{ℤ, pos, natAbs, negℤ, negsuc, _+ℤ_}
 use lib.ListN.{length, getD}
 use lib.Signed.{nonNeg}
-use Rattle.integers.specs.Lists.{Each}
+use Rattle.integers.specs.Lists.{places, Each}
 use Rattle.network.specs.Threshold.{Feed, Gate, Net}
 use Rattle.network.specs.Record.{feedsFrom, gateIn, netOf, soundRecord, nthGate}
 use Rattle.network.specs.declared.GateRecord.{GateRecord}
@@ -23,10 +23,24 @@ use Rattle.lines.specs.declared.LineRecord.{LineRecord}
 unfoldable pub lineIn : LineRecord → Line
 lineIn r = record { terms = feedsFrom (r .variables) (r .coefficients) 0 (r .count); right = r .right }
 
--- the record stands for the line, and its terms have room in it
+-- the record of a line: its terms at the first places, spare ones 0
+unfoldable pub lineRecord : Line → LineRecord
+lineRecord line = record {
+  count = length (line .terms);
+  variables = places 17 0 (map (λ f. f .signal) (line .terms));
+  coefficients = places 17 (pos 0) (map (λ f. f .weight) (line .terms));
+  right = line .right;
+}
+
+-- the record is that of the line, whose terms have room in it
 pub record Stands (r : LineRecord) (line : Line) : Type 0 where
-  pub few : r .count ≤ 17
-  pub is : lineIn r ≡ line
+  pub few : length (line .terms) ≤ 17
+  pub is : r ≡ lineRecord line
+
+-- the record has room for one term more, and its spare places hold 0
+pub record Extendable (r : LineRecord) : Type 0 where
+  pub room : r .count < 17
+  pub clear : r ≡ lineRecord (lineIn r)
 
 -- a line without terms, and a line with one term more
 unfoldable pub noTerms : ℤ → Line

@@ -1,47 +1,88 @@
--- The line that a record stands for, term by term: the feeds of a gate, the sums of its weights, its two lines, and the other lines.
--- Assumes nothing.
-use mathlib.Core.Path.{_≡_, refl, sym, ap, _∙_}
+-- The record of a line, one term more at a time, and the lines that are made so: the feeds of a gate, the sums of its weights, its two
+-- lines, and the other lines. Assumes nothing.
+use mathlib.Core.Path.{_≡_, refl, sym, ap, _∙_, subst}
 use mathlib.Core.Bool.{Bool, true, false, cond}
 use mathlib.Core.List.{List, [], _∷_, _++_, map, map-map, map-append}
 use Prim.Native.Nat.{ℕ, _+_, _≤_, _<_}
 use native.Mathlib.Omega.{arith}
 use lib.IntN.{ℤ, pos, negsuc, natAbs, negℤ, _+ℤ_, _-ℤ_, +ℤ-assoc, +ℤ-comm}
-use lib.ListN.{length, getD, set, length-map}
+use lib.ListN.{length, getD, set, replicate, length-append, length-map}
 use lib.Signed.{nonNeg}
-use Rattle.integers.specs.Lists.{range}
+use Rattle.integers.specs.Lists.{range, places}
 use Rattle.integers.specs.ListLaws.{each-getD, length-range, range-more}
+use Rattle.integers.specs.PlaceLaws.{places-none, getD-places, placed-last}
+use Rattle.integers.specs.TableLaws.{getD-map}
 use Rattle.network.specs.Threshold.{Feed, Gate}
 use Rattle.network.specs.Record.{feedAt, feedsFrom, gateIn, noFeed}
-use Rattle.network.specs.PlaceLaws.{length-feeds, feeds-at}
+use Rattle.network.specs.PlaceLaws.{length-feeds, feeds-at, feeds-back}
 use Rattle.network.specs.declared.GateRecord.{GateRecord}
 use Rattle.constraints.specs.Question.{Line, term, most, least, negated, upper, lower, overGate, someLine, notBothLine, lastLine}
 use Rattle.lines.specs.declared.LineRecord.{LineRecord}
-use Rattle.lines.specs.Lines.{lineIn, Stands, noTerms, extended, feedTerm, feedTerms, sidePart, oneSided, InLimits, threeTerms}
-use Rattle.lines.specs.FeedLaws.{feeds-none, feeds-more, feeds-set}
+use Rattle.lines.specs.Lines.{lineIn, lineRecord, Stands, Extendable, noTerms, extended, feedTerm, feedTerms, sidePart, oneSided, InLimits, threeTerms}
+use Rattle.lines.specs.FeedLaws.{feeds-none, feeds-more}
 
 -- ---- a line's record
 
--- as many terms as it counts
+-- the line that a line's record stands for
+lineIn-lineRecord : (line : Line) → length (line .terms) ≤ 17 → lineIn (lineRecord line) ≡ line
+unfolding lineIn lineRecord
+lineIn-lineRecord line h = ap (λ (fs : List Feed). record { terms = fs; right = line .right }) (feeds-back vs cs 0 (length (line .terms)) (line .terms) refl at)
+  where
+    vs : List ℕ
+    vs = places 17 0 (map (λ f. f .signal) (line .terms))
+
+    cs : List ℤ
+    cs = places 17 (pos 0) (map (λ f. f .weight) (line .terms))
+
+    at : (i : ℕ) → i < length (line .terms) → feedAt vs cs (0 + i) ≡ getD (line .terms) i noFeed
+    at i k = unfold feedAt in rw (let e : 0 + i ≡ i = omega arith in e) (λ x. record {
+      signal = (getD-places 17 0 (map (λ f. f .signal) (line .terms)) i (omega arith) ∙ getD-map (λ f. f .signal) (line .terms) i noFeed 0 k) x;
+      weight = (getD-places 17 (pos 0) (map (λ f. f .weight) (line .terms)) i (omega arith) ∙ getD-map (λ f. f .weight) (line .terms) i noFeed (pos 0) k) x;
+    })
+
+-- a line that a record stands for: the line, as many terms as are counted, and the same line by another name
+pub stands-line : {r : LineRecord} {line : Line} → Stands r line → lineIn r ≡ line
+stands-line {r} {line} s = ap lineIn (s .is) ∙ lineIn-lineRecord line (s .few)
+
 pub stands-count : {r : LineRecord} {line : Line} → Stands r line → r .count ≡ length (line .terms)
-unfolding lineIn
-stands-count {r} s = sym (length-feeds (r .variables) (r .coefficients) 0 (r .count)) ∙ ap (λ (l : Line). length (l .terms)) (s .is)
-
-pub stands-empty : (vs : List ℕ) (cs : List ℤ) (z : ℤ) → Stands (record { count = 0; variables = vs; coefficients = cs; right = z }) (noTerms z)
-unfolding lineIn noTerms
-stands-empty vs cs z = record { few = omega arith; is = ap (λ (fs : List Feed). record { terms = fs; right = z }) (feeds-none vs cs 0) }
-
-pub stands-more : (n : ℕ) (vs : List ℕ) (cs : List ℤ) (z : ℤ) (v : ℕ) (c : ℤ) → n < 17 → length vs ≡ 17 → length cs ≡ 17
-    → Stands (record { count = n + 1; variables = set vs n v; coefficients = set cs n c; right = z })
-    (extended (lineIn (record { count = n; variables = vs; coefficients = cs; right = z })) (term v c))
-unfolding lineIn extended
-stands-more n vs cs z v c h lv lc = record { few = omega arith; is = ap (λ (fs : List Feed). record { terms = fs; right = z }) (feeds-set vs cs n v c (omega arith) (omega arith)) }
+unfolding lineRecord
+stands-count s = ap (λ (x : LineRecord). x .count) (s .is)
 
 pub stands-is : {r : LineRecord} {a b : Line} → a ≡ b → Stands r a → Stands r b
-stands-is e s = record { few = s .few; is = s .is ∙ e }
+stands-is {r} e s = subst (Stands r) e s
 
--- a term more on a line that a record stands for
-pub stands-next : {r m : LineRecord} {l : Line} (v : ℕ) {c d : ℤ} → Stands r l → c ≡ d → Stands m (extended (lineIn r) (term v c)) → Stands m (extended l (term v d))
-stands-next v s e t = record { few = t .few; is = t .is ∙ rw (s .is, e) }
+pub stands-empty : (z : ℤ) → Stands (record { count = 0; variables = replicate 17 0; coefficients = replicate 17 (pos 0); right = z }) (noTerms z)
+unfolding lineRecord noTerms
+stands-empty z = record { few = omega arith; is = λ i. record { count = 0; variables = places-none 17 0 i; coefficients = places-none 17 (pos 0) i; right = z } }
+
+-- a term more
+pub stands-extendable : {r : LineRecord} {line : Line} → Stands r line → length (line .terms) < 17 → Extendable r
+stands-extendable s h = record { room = omega (arith, stands-count s); clear = s .is ∙ ap lineRecord (sym (stands-line s)) }
+
+pub stands-more : (r : LineRecord) (v : ℕ) (c : ℤ) → Extendable r
+    → Stands (record { count = r .count + 1; variables = set (r .variables) (r .count) v; coefficients = set (r .coefficients) (r .count) c; right = r .right })
+    (extended (lineIn r) (term v c))
+unfolding lineIn lineRecord extended
+stands-more r v c e =
+    let terms = lineIn r .terms in
+    let counted = ap (λ (x : LineRecord). x .count) (e .clear) in
+    let variables = ap (λ (x : LineRecord). x .variables) (e .clear) in
+    let coefficients = ap (λ (x : LineRecord). x .coefficients) (e .clear) in
+    let more = length-append terms (term v c ∷ []) in
+    let count : r .count + 1 ≡ length (terms ++ (term v c ∷ [])) = omega arith in
+    record {
+      few = omega (arith, e .room);
+      is = λ i. record {
+        count = count i;
+        variables = placed-last 17 0 (λ f. f .signal) terms (term v c) (r .count) (r .variables) variables counted v refl i;
+        coefficients = placed-last 17 (pos 0) (λ f. f .weight) terms (term v c) (r .count) (r .coefficients) coefficients counted c refl i;
+        right = r .right;
+      };
+    }
+
+pub stands-next : {r m : LineRecord} {l : Line} (v : ℕ) {c d : ℤ} → Stands r l → c ≡ d → Stands m (extended (lineIn r) (term v c))
+    → Stands m (extended l (term v d))
+stands-next v s e t = stands-is (rw (stands-line s, e)) t
 
 -- ---- the feeds of a gate
 
@@ -84,9 +125,14 @@ pub feed-count : (gate : GateRecord) → length (gateIn gate .feeds) ≡ gate .f
 unfolding gateIn
 feed-count gate = length-feeds (gate .signals) (gate .weights) 0 (gate .fanin)
 
-pub term-count : (negative : Bool) (φ : ℕ → ℕ) (g : Gate) (z : ℤ) → length (feedTerms negative φ g z .terms) ≡ length (g .feeds)
+term-count : (negative : Bool) (φ : ℕ → ℕ) (g : Gate) (z : ℤ) → length (feedTerms negative φ g z .terms) ≡ length (g .feeds)
 unfolding feedTerms
 term-count negative φ g z = length-map (g .feeds) (feedTerm negative φ)
+
+-- the feeds of a gate within the limits leave room for one term more
+pub feeds-extendable : {r : LineRecord} (negative : Bool) (φ : ℕ → ℕ) (gate : GateRecord) (z : ℤ) → InLimits gate
+    → Stands r (feedTerms negative φ (gateIn gate) z) → Extendable r
+feeds-extendable negative φ gate z l s = stands-extendable s (omega (arith, l .few, feed-count gate, term-count negative φ (gateIn gate) z))
 
 -- ---- M and m
 

@@ -11,7 +11,7 @@ ghost use lib.ListN.{getD};
 ghost use Rattle.network.specs.Record.{gateIn, netOf, soundRecord};
 ghost use Rattle.constraints.specs.Question.{term, upper, lower, secondVariable, overGate, lastLine, question};
 ghost use Rattle.constraints.specs.Text.{noLine};
-ghost use Rattle.lines.specs.Lines.{lineIn, Stands, noTerms, extended, feedTerms, oneSided, gateLine, InLimits, threeTerms, outputLine, Comparable, linesOf};
+ghost use Rattle.lines.specs.Lines.{lineIn, Stands, Extendable, noTerms, extended, feedTerms, oneSided, gateLine, InLimits, threeTerms, outputLine, Comparable, linesOf};
 
 // A line without terms.
 fn no_terms(right: i32) -> LineRecord
@@ -29,7 +29,7 @@ fn no_terms(right: i32) -> LineRecord
 
 // A line with one term more.
 fn with_term(line: LineRecord, variable: usize, coefficient: i32) -> LineRecord
-    requires { ⌜ line .count < 17 ⌝ }
+    requires { ⌜ Extendable line ⌝ }
     ensures { λ r. ⌜ Stands r (extended (lineIn line) (term variable coefficient)) ⌝ }
 {
     let at = line.count;

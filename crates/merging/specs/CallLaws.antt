@@ -7,23 +7,27 @@ use lib.Dec.{T}
 use Rattle.integers.specs.Refusals.{accepted, refused, checks, Passed}
 use Rattle.integers.specs.RefusalLaws.{passed-checks}
 use Rattle.integers.specs.TestLaws.{is-true, T-and, and-left}
-use Rattle.network.specs.Limits.{sound, isGate}
+use Rattle.network.specs.Limits.{scaleOk, sound, isGate}
 use Rattle.network.specs.Changes.{withGate}
 use Rattle.network.specs.Record.{netOf, soundRecord, spareClear, gateIn, gateRecord}
 use Rattle.network.specs.Places.{SoundGate}
 use Rattle.network.specs.PlaceLaws.{gateIn-gateRecord}
 use Rattle.network.specs.declared.Network.{Network}
 use Rattle.network.specs.declared.GateRecord.{GateRecord}
-use Rattle.folding.specs.Merge.{Edge, edge, merged, onDial, narrow, limits, merge}
-use Rattle.folding.specs.Pair.{qualifies, pairOf, pair}
-use Rattle.folding.specs.PairLaws.{of-qualified}
+use Rattle.folding.specs.Merge.{Edge, edge, merged, agrees, onDial, feedTests, limits, merge}
+use Rattle.folding.specs.Pair.{pairOf, pair}
+use Rattle.folding.specs.LimitLaws.{Searched}
+use Rattle.folding.specs.PairLaws.{dial-of}
 use Rattle.folding.specs.SoundLaws.{merged-ok}
+use Rattle.folding.specs.StepLaws.{narrow-few}
+use Rattle.folding.specs.AlignedLaws.{EdgeOk}
+use Rattle.alignment.specs.Alignments.{alignmentOf, mergedOf, Mergeable}
+use Rattle.alignment.specs.AlignmentLaws.{merged-is, mergeable}
 use Rattle.merging.specs.Answers.{onRecord, asChanged, asPair, mergedRecord, pairFound}
 use Rattle.merging.specs.Lent.{edgeIn, Joined}
 use Rattle.merging.specs.Codes.{firstFailing, edgeTests, edgeTestsIn, mergeTests}
 use Rattle.merging.specs.CodeLaws.{code-passed, code-refused}
 use Rattle.merging.specs.EdgeLaws.{joined-of, edge-is, tests-are}
-use Rattle.merging.specs.FittedLaws.{narrow-few}
 
 -- ---- a record that is not sound
 module _ (r : Network) (s : soundRecord r ≡ false) where
@@ -42,7 +46,7 @@ module _ (r : Network) (s : soundRecord r ≡ true) (u v : ℕ) where
   sound-is = and-left (sound (netOf r)) (spareClear r) s
 
   pair-sound : pairFound r u v ≡ asPair (checks (edgeTests (netOf r) u v) (pairOf (edge (netOf r) u v)))
-  unfolding pairFound onRecord pair edgeTests checks
+  unfolding pairFound onRecord pair feedTests edgeTests checks
   pair-sound = rw (s, sound-is)
 
   merge-sound : (k l : ℕ) → mergedRecord r u v k l
@@ -103,19 +107,32 @@ pub merge-passed : (e : Edge) (k l m : ℕ) → m ≡ firstFailing (mergeTests e
 unfolding mergeTests
 merge-passed e k l m same none = code-passed (mergeTests e k l) (omega arith, (omega arith, (omega arith, (omega arith, (omega arith, tt))))) (sym same ∙ none)
 
-module _ (e : Edge) (k l : ℕ) (p : Passed (mergeTests e k l)) where
-  pub passed-narrow : T (narrow e)
-  unfolding mergeTests
-  passed-narrow = p .1 .1 .0
+-- the tests as facts, each by its name
+pub record MergeFits (e : Edge) (k l : ℕ) : Type 0 where
+  pub searched : Searched e
+  pub k-dial : T (onDial k)
+  pub l-dial : T (onDial l)
+  pub scaled : T (scaleOk (merged e k l))
+  pub agreed : T (agrees e k l)
 
-  -- k and l qualify
-  pub passed-qualifies : qualifies e (record { k = k; l = l }) ≡ true
-  unfolding mergeTests
-  passed-qualifies =
-      let d = T-and (onDial k) (onDial l) (p .1 .0) in
-      is-true _ (of-qualified e (record { k = k; l = l }) (record { k-dial = d .0; l-dial = d .1; scaled = p .1 .1 .1 .0; agreed = p .1 .1 .1 .1 .0 }))
+pub merge-fits : (e : Edge) (k l : ℕ) → Passed (mergeTests e k l) → MergeFits e k l
+unfolding mergeTests
+merge-fits e k l p = let d = T-and (onDial k) (onDial l) (p .1 .0) in record {
+  searched = record { with-grain = p .0; is-narrow = p .1 .1 .0 };
+  k-dial = d .0;
+  l-dial = d .1;
+  scaled = p .1 .1 .1 .0;
+  agreed = p .1 .1 .1 .1 .0;
+}
 
-  -- the merged gate's places stand for it
-  pub passed-gate : (g : GateRecord) → g ≡ gateRecord (merged e k l) → gateIn g ≡ merged e k l
-  unfolding mergeTests
-  passed-gate g same = ap gateIn same ∙ gateIn-gateRecord (merged e k l) (merged-ok e k l (narrow-few e passed-narrow) (p .1 .1 .1 .0) .few)
+module _ (e : Edge) (k l : ℕ) (f : MergeFits e k l) where
+  -- the merged gate can be made
+  pub fits-mergeable : EdgeOk e → Mergeable (alignmentOf e) k l
+  fits-mergeable ok = mergeable e k l ok (narrow-few e (f .searched .is-narrow)) (dial-of k (f .k-dial) .1) (dial-of l (f .l-dial) .1) (f .scaled)
+
+  -- it is made of the aligned gates, and its places stand for it
+  pub fits-gate : (g : GateRecord) → g ≡ gateRecord (mergedOf (alignmentOf e) k l) → (g ≡ gateRecord (merged e k l)) × (gateIn g ≡ merged e k l)
+  fits-gate g same =
+      let few = narrow-few e (f .searched .is-narrow) in
+      let is = same ∙ ap gateRecord (merged-is e k l few) in
+      (is, ap gateIn is ∙ gateIn-gateRecord (merged e k l) (merged-ok e k l few (f .scaled) .few))

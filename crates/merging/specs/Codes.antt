@@ -2,15 +2,19 @@
 use mathlib.Core.Bool.{cond, _&&_}
 use mathlib.Core.List.{List, [], _∷_}
 use Prim.Native.Nat.{ℕ, _-_}
+use lib.Dec.{leb}
 use lib.IntN.{ℤ}
-use Rattle.integers.specs.Refusals.{Test, _else_}
+use Rattle.integers.specs.Refusals.{Answer, Test, _else_, checks}
 use Rattle.network.specs.Threshold.{Net}
 use Rattle.network.specs.Limits.{scaleOk, isGate}
 use Rattle.network.specs.Changes.{gateAt}
 use Rattle.network.specs.Record.{gateFrom}
 use Rattle.network.specs.RecordTests.{gateSignal}
 use Rattle.folding.specs.Merge.{Edge, reads, merged, agrees, onDial, withGrain, narrow}
-use Rattle.folding.specs.Aligned.{Aligned, agreesAll, scaleFits}
+use Rattle.folding.specs.Pair.{Pair, pairs, first}
+use Rattle.folding.specs.Aligned.{Aligned, agreesAll, votesFor, scaleFits, qualifiesOn}
+use Rattle.alignment.specs.Alignments.{alignedIn}
+use Rattle.alignment.specs.declared.Alignment.{Alignment}
 
 -- the number of the first test that fails, 0 if none does
 unfoldable pub firstFailing : List Test → ℕ
@@ -33,6 +37,17 @@ mergeTests e k l =
     (withGrain e else 13) ∷ (onDial k && onDial l else 14) ∷ (narrow e else 7) ∷ (scaleOk (merged e k l) else 6)
     ∷ (agrees e k l else 15) ∷ []
 
--- 6 and 15, of two gates by their distinct feeds
+-- ---- of two gates by their distinct feeds
+
+-- 6 and 15
 unfoldable pub fitTests : Aligned → ℕ → ℕ → List Test
 fitTests a k l = (scaleFits a k l else 6) ∷ (agreesAll a k l else 15) ∷ []
+
+-- 13, 14, 7, 6 and 15
+unfoldable pub mergeTestsOn : Alignment → ℕ → ℕ → List Test
+mergeTestsOn a k l =
+    (votesFor (a .thresholds) else 13) ∷ (onDial k && onDial l else 14) ∷ (leb (a .count) 16 else 7) ∷ fitTests (alignedIn a) k l
+
+-- 13, 7 and 16
+unfoldable pub pairOn : Alignment → Answer Pair
+pairOn a = checks ((votesFor (a .thresholds) else 13) ∷ (leb (a .count) 16 else 7) ∷ []) (first (qualifiesOn (alignedIn a)) pairs 16)

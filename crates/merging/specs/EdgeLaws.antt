@@ -20,7 +20,7 @@ use Rattle.network.specs.PlaceLaws.{gateIn-gateRecord}
 use Rattle.network.specs.RecordLaws.{count-gates, gate-within}
 use Rattle.network.specs.declared.Network.{Network}
 use Rattle.network.specs.declared.GateRecord.{GateRecord}
-use Rattle.folding.specs.Merge.{edge, reads}
+use Rattle.folding.specs.Merge.{edge, reads, edgeOf}
 use Rattle.folding.specs.AlignedLaws.{EdgeOk}
 use Rattle.alignment.specs.Alignments as alignments
 use Rattle.alignment.specs.Alignments.{Alignable}
@@ -64,7 +64,7 @@ module _ {fanins : List ℕ} {thresholds : List ℤ} {signals : List ℕ} {weigh
     pub joined-rows : (gateU gateV : GateRecord) → gateU ≡ rowAt fanins thresholds signals weights (u - inputs) → gateV ≡ rowAt fanins thresholds signals weights (v - inputs)
         → alignments.edgeBetween gateU gateV u v ≡ edgeIn fanins thresholds signals weights inputs u v
     joined-rows gateU gateV x y =
-        ap₂ (λ (g h : Gate). record { u = u; v = v; gateU = g; gateV = h }) (ap gateIn x ∙ signal-row u (j .u-gate)) (ap gateIn y ∙ signal-row v (j .v-gate))
+        ap₂ (λ (g h : Gate). edgeOf u v g h) (ap gateIn x ∙ signal-row u (j .u-gate)) (ap gateIn y ∙ signal-row v (j .v-gate))
 
 -- where both tests hold, one feeds the other
 pub joined-of : (fanins : List ℕ) (thresholds : List ℤ) (signals : List ℕ) (weights : List ℤ) (inputs gates u v : ℕ)
@@ -89,7 +89,7 @@ module _ (r : Network) where
   pub edge-is : (u v : ℕ) → Within (r .inputs) (r .gates) u → Within (r .inputs) (r .gates) v
       → edgeIn (r .fanins) (r .thresholds) (r .signals) (r .weights) (r .inputs) u v ≡ edge (netOf r) u v
   unfolding edge
-  edge-is u v a b = ap₂ (λ (g h : Gate). record { u = u; v = v; gateU = g; gateV = h }) (gate-is u a) (gate-is v b)
+  edge-is u v a b = ap₂ (λ (g h : Gate). edgeOf u v g h) (gate-is u a) (gate-is v b)
 
   -- so are the tests: v's feeds are looked at only if v is a gate
   pub tests-are : (u v : ℕ) → firstFailing (edgeTestsIn (r .fanins) (r .thresholds) (r .signals) (r .weights) (r .inputs) (r .gates) u v) ≡ firstFailing (edgeTests (netOf r) u v)

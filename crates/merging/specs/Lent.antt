@@ -9,7 +9,7 @@ use Rattle.network.specs.Threshold.{Gate}
 use Rattle.network.specs.Record.{gateFrom, gateRecord}
 use Rattle.network.specs.Places.{rowAt}
 use Rattle.network.specs.Sound.{Gates}
-use Rattle.folding.specs.Merge.{Edge, reads}
+use Rattle.folding.specs.Merge.{Edge, edgeOf, reads}
 
 -- the gates
 abbrev pub gatesIn : List ℕ → List ℤ → List ℕ → List ℤ → ℕ → List Gate
@@ -17,12 +17,8 @@ gatesIn fanins thresholds signals weights gates = tab gates (gateFrom fanins thr
 
 -- gates u and v, by their signals, as an edge
 abbrev pub edgeIn : List ℕ → List ℤ → List ℕ → List ℤ → ℕ → ℕ → ℕ → Edge
-edgeIn fanins thresholds signals weights inputs u v = record {
-  u = u;
-  v = v;
-  gateU = gateFrom fanins thresholds signals weights (u - inputs);
-  gateV = gateFrom fanins thresholds signals weights (v - inputs);
-}
+edgeIn fanins thresholds signals weights inputs u v =
+    edgeOf u v (gateFrom fanins thresholds signals weights (u - inputs)) (gateFrom fanins thresholds signals weights (v - inputs))
 
 -- the arrays are those of a sound record: every gate is within the limits, and its places hold it and nothing more
 pub record Lent (fanins : List ℕ) (thresholds : List ℤ) (signals : List ℕ) (weights : List ℤ) (inputs gates : ℕ) : Type 0 where

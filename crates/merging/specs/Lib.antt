@@ -5,6 +5,5 @@ pub mod LentLaws
 pub mod Codes
 pub mod CodeLaws
 pub mod EdgeLaws
-pub mod Fitted
-pub mod FittedLaws
+pub mod AlignedLaws
 pub mod CallLaws

@@ -1,12 +1,13 @@
 // Merge and pair on network records.
 pub mod unchecked;
 
+use alignment::unchecked::merged_gate;
 use network::Network;
 use network::soundness::is_sound;
 use places::unchecked::replace_gate;
+use unchecked::edges::aligned_at;
 use unchecked::edges::edge_code;
 use unchecked::merges::merge_code;
-use unchecked::pairs::merged_of;
 use unchecked::pairs::no_pair;
 use unchecked::pairs::pair_of;
 ghost use mathlib.Core.Path.{_≡_};
@@ -48,7 +49,7 @@ pub fn pair(network: Network, u: usize, v: usize) -> PairFound
     if code != 0 {
         return no_pair(code);
     }
-    pair_of(
+    let a = aligned_at(
         &network.fanins,
         &network.thresholds,
         &network.signals,
@@ -57,7 +58,8 @@ pub fn pair(network: Network, u: usize, v: usize) -> PairFound
         gates,
         u,
         v,
-    )
+    );
+    pair_of(a)
 }
 
 // The network with u merged into v with k and l. Refusals: 20 broken record, 11 no such gate, 12 not a feed, 13 against the grain,
@@ -86,7 +88,7 @@ pub fn merge(network: Network, u: usize, v: usize, k: usize, l: usize) -> Change
             network,
         };
     }
-    let code = merge_code(
+    let a = aligned_at(
         &network.fanins,
         &network.thresholds,
         &network.signals,
@@ -95,24 +97,12 @@ pub fn merge(network: Network, u: usize, v: usize, k: usize, l: usize) -> Change
         gates,
         u,
         v,
-        k,
-        l,
     );
+    let code = merge_code(a, k, l);
     if code != 0 {
         return Changed { code, network };
     }
-    let gate = merged_of(
-        &network.fanins,
-        &network.thresholds,
-        &network.signals,
-        &network.weights,
-        inputs,
-        gates,
-        u,
-        v,
-        k,
-        l,
-    );
+    let gate = merged_gate(a, k, l);
     let merged = replace_gate(network, v, gate);
     Changed {
         code: 0,

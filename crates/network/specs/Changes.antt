@@ -1,4 +1,4 @@
--- The two changes of a network: a gate replaced, and a gate removed. Document 01, "It replaces v" and "Drop". Nothing is proved here.
+-- A network made from another: gates replaced, and a gate removed. Document 01, "It replaces v" and "Drop". Nothing is proved here.
 use mathlib.Core.Bool.{cond}
 use mathlib.Core.List.{List, [], _∷_, map}
 use Prim.Native.Nat.{ℕ, zero, suc, _-_}
@@ -7,13 +7,21 @@ use lib.ListN.{set, getD}
 use Rattle.network.specs.Threshold.{Feed, Gate, Net}
 use Rattle.network.specs.Record.{noGate}
 
+-- N with other gates and outputs; all else stays
+abbrev pub remade : Net → List Gate → List ℕ → Net
+remade N gs os = record { inputs = N .inputs; gates = gs; outputs = os }
+
+-- N with other gates
+abbrev pub withGates : Net → List Gate → Net
+withGates N gs = remade N gs (N .outputs)
+
 -- the gate with signal s
 unfoldable pub gateAt : Net → ℕ → Gate
 gateAt N s = getD (N .gates) (s - N .inputs) noGate
 
 -- N with g in the place of the gate with signal v
 unfoldable pub withGate : Net → ℕ → Gate → Net
-withGate N v g = record { inputs = N .inputs; gates = set (N .gates) (v - N .inputs) g; outputs = N .outputs }
+withGate N v g = withGates N (set (N .gates) (v - N .inputs) g)
 
 -- "higher signals fall by one"
 unfoldable pub lowered : ℕ → ℕ → ℕ
@@ -33,8 +41,4 @@ removeAt (suc i) (x ∷ xs) = x ∷ removeAt i xs
 
 -- N without the gate with signal u
 unfoldable pub without : Net → ℕ → Net
-without N u = record {
-  inputs = N .inputs;
-  gates = map (loweredGate u) (removeAt (u - N .inputs) (N .gates));
-  outputs = map (lowered u) (N .outputs);
-}
+without N u = remade N (map (loweredGate u) (removeAt (u - N .inputs) (N .gates))) (map (lowered u) (N .outputs))

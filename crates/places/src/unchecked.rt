@@ -1,4 +1,4 @@
-// The places of a record: a gate taken out, a row of places written, a gate replaced and a gate removed.
+// The places of a record: a gate taken out, a gate stored, a gate replaced and a gate removed.
 use integers::wide;
 use network::GateRecord;
 use network::Network;
@@ -9,7 +9,7 @@ ghost use lib.IntN.{pos};
 ghost use lib.ListN.{getD, length};
 ghost use Rattle.network.specs.Record.{netOf, layout, gateIn, gateRecord};
 ghost use Rattle.network.specs.Changes.{withGate, lowered, without};
-ghost use Rattle.network.specs.Places.{Pasted, rowAt, SoundGate, origin, withoutPlaces};
+ghost use Rattle.network.specs.Places.{Pasted, Stored, rowAt, SoundGate, origin, withoutPlaces};
 
 // Gate g of a record whose arrays are lent, in the form of its 16 places.
 pub fn gate_at<'a>(
@@ -44,7 +44,7 @@ pub fn gate_at<'a>(
 }
 
 // A row of 16 signals, written from place base on.
-pub fn store_signals(signals: &mut [u8; 2048], base: usize, row: [u8; 16])
+fn store_signals(signals: &mut [u8; 2048], base: usize, row: [u8; 16])
     requires { ⌜ base + 16 ≤ 2048 ⌝ }
     ensures { λ _. ⌜ Pasted 0 base 16 (λ i. getD row i 0) (now (signals .entry)) (now (signals .exit)) ⌝ }
 {
@@ -56,7 +56,7 @@ pub fn store_signals(signals: &mut [u8; 2048], base: usize, row: [u8; 16])
 }
 
 // A row of 16 weights, written from place base on.
-pub fn store_weights(weights: &mut [i32; 2048], base: usize, row: [i32; 16])
+fn store_weights(weights: &mut [i32; 2048], base: usize, row: [i32; 16])
     requires { ⌜ base + 16 ≤ 2048 ⌝ }
     ensures { λ _. ⌜ Pasted (pos 0) base 16 (λ i. getD row i (pos 0)) (now (weights .entry)) (now (weights .exit)) ⌝ }
 {
@@ -67,24 +67,49 @@ pub fn store_weights(weights: &mut [i32; 2048], base: usize, row: [i32; 16])
     }
 }
 
+// A gate stored as gate g into a record's arrays, which are lent.
+pub fn store_gate(
+    fanins: &mut [u8; 128],
+    thresholds: &mut [i32; 128],
+    signals: &mut [u8; 2048],
+    weights: &mut [i32; 2048],
+    g: usize,
+    gate: GateRecord,
+)
+    requires { ⌜ g < 128 ⌝ }
+    ensures { λ _. ⌜ Stored g gate (now (fanins .entry)) (now (thresholds .entry)) (now (signals .entry)) (now (weights .entry)) (now (fanins .exit)) (now (thresholds .exit)) (now (signals .exit)) (now (weights .exit)) ⌝ }
+{
+    let fanin = gate.fanin;
+    let threshold = gate.threshold;
+    let row_signals = gate.signals;
+    let row_weights = gate.weights;
+    fanins[g] = fanin;
+    thresholds[g] = threshold;
+    store_signals(signals, 16 * g, row_signals);
+    store_weights(weights, 16 * g, row_weights);
+}
+
 // The record with a gate in the place of the one with signal v.
 pub fn replace_gate(network: Network, v: usize, gate: GateRecord) -> Network
     requires { ⌜ SoundGate network v × (gate ≡ gateRecord (gateIn gate)) ⌝ }
     ensures { λ r. ⌜ r ≡ layout (withGate (netOf network) v (gateIn gate)) ⌝ }
 {
     let g = v - network.inputs;
-    let base = 16 * g;
+    let mut fanins = network.fanins;
+    let mut thresholds = network.thresholds;
     let mut signals = network.signals;
-    let signal_row = gate.signals;
-    store_signals(&mut signals, base, signal_row);
     let mut weights = network.weights;
-    let weight_row = gate.weights;
-    store_weights(&mut weights, base, weight_row);
-    let fanin = gate.fanin;
-    let threshold = gate.threshold;
+    store_gate(
+        &mut fanins,
+        &mut thresholds,
+        &mut signals,
+        &mut weights,
+        g,
+        gate,
+    );
     let mut result = network;
-    result.fanins[g] = fanin;
-    result.thresholds[g] = threshold;
+    result.fanins = fanins;
+    result.thresholds = thresholds;
     result.signals = signals;
     result.weights = weights;
     result

@@ -15,7 +15,7 @@ use Rattle.network.specs.Sound.{Has}
 use Rattle.network.specs.LimitLaws.{has-of}
 use Rattle.network.specs.Record.{layout}
 use Rattle.network.specs.Changes.{gateAt}
-use Rattle.format.specs.Format.{Read, refused, done, gateBytes, fileBytes, parseFile, Bytes}
+use Rattle.format.specs.Format.{headerLength, Read, refused, done, gateBytes, fileBytes, parseFile, Bytes}
 use Rattle.format.specs.Part.{partAnswer, asPart}
 use Rattle.format.specs.CodeLaws.{refused-positive}
 use Rattle.format.specs.ReadWriteLaws.{file-of}
@@ -90,7 +90,7 @@ module _ {s : List ℕ} {x : ℕ} (p : PartFile s x) where
   pub inputs-at : getD s 5 0 ≡ p .net .inputs
   inputs-at = ap (λ (l : List ℕ). getD l 5 0) (p .file)
 
-  pub long : 8 ≤ length s
+  pub long : headerLength ≤ length s
   long = omega (arith, ap length (p .file))
 
   pub gate-file : {g : ℕ} → g ≡ x - p .net .inputs → GateFile s g

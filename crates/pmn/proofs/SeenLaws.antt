@@ -4,7 +4,7 @@ use mathlib.Core.List.{List}
 use Prim.Native.Nat.{ℕ, zero, suc, _<_}
 use native.Mathlib.Omega.{arith}
 use lib.ListN.{drop}
-use Rattle.format.specs.Format.{Read, refused, done, parseBody, parseFile}
+use Rattle.format.specs.Format.{headerLength, Read, refused, done, parseBody, parseFile}
 use Rattle.format.specs.StepLaws.{refused≢done, done-inj}
 use Rattle.pmn.specs.Seen.{byCode, HeadSeen, mapped, Seen}
 
@@ -51,6 +51,6 @@ seen-through f g {s} {p} h e = record { inside = h .inside; says = h .says ∙ m
 -- the answer for a header that is refused
 pub head-refused : {s : List ℕ} {code inputs gates outputs : ℕ} (k : ℕ) → 0 < k → code ≡ k → parseFile s ≡ refused k → HeadSeen s code inputs gates outputs
 head-refused {s} {code} {inputs} {gates} {outputs} k h e r = record {
-  says = r ∙ ap refused (sym e) ∙ sym (by-refusal code (parseBody inputs gates outputs (drop 8 s)) (λ z. omega arith));
+  says = r ∙ ap refused (sym e) ∙ sym (by-refusal code (parseBody inputs gates outputs (drop headerLength s)) (λ z. omega arith));
   counts = λ z. absurd (omega arith);
 }

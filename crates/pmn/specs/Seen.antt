@@ -8,7 +8,7 @@ use Rattle.network.specs.Threshold.{Feed, Gate}
 use Rattle.network.specs.Record.{gateRecord, driversOf, layout}
 use Rattle.network.specs.declared.GateRecord.{GateRecord}
 use Rattle.network.specs.declared.Network.{Network}
-use Rattle.format.specs.Format.{Read, refused, done, andThen, parseFeed, parseBody, parseFile}
+use Rattle.format.specs.Format.{headerLength, Read, refused, done, andThen, parseFeed, netRead, parseBody, parseFile}
 use Rattle.pmn.specs.declared.unchecked.gate_reader.FeedRead.{FeedRead}
 use Rattle.pmn.specs.declared.unchecked.gate_reader.FeedRead.the-variants.{Bad, Got}
 
@@ -21,14 +21,14 @@ byCode (suc k) r = refused (suc k)
 
 -- a header with counts that are within the limits
 pub record Header (s : List ℕ) (inputs gates outputs : ℕ) : Type 0 where
-  pub long : 8 ≤ length s
+  pub long : headerLength ≤ length s
   pub few-inputs : inputs ≤ 40
   pub few-gates : gates ≤ 128
   pub few-outputs : outputs ≤ 16
 
 -- an answer for the header of the file s: where the code is 0, what follows the header decides; else the code is the file's refusal
 pub record HeadSeen (s : List ℕ) (code inputs gates outputs : ℕ) : Type 0 where
-  pub says : parseFile s ≡ byCode code (parseBody inputs gates outputs (drop 8 s))
+  pub says : parseFile s ≡ byCode code (parseBody inputs gates outputs (drop headerLength s))
   pub counts : code ≡ 0 → Header s inputs gates outputs
 
 -- ---- a feed
@@ -65,7 +65,7 @@ rowOf t fs = gateRecord (record { feeds = fs; threshold = t })
 
 -- the record of a network by its gates, with no outputs
 abbrev pub gatesRecord : ℕ → List Gate → Network
-gatesRecord inputs gs = layout (record { inputs = inputs; gates = gs; outputs = [] })
+gatesRecord inputs gs = layout (netRead inputs gs [])
 
 -- the number of the outputs, and their 16 places
 abbrev pub outputPlaces : List ℕ → ℕ × List ℕ

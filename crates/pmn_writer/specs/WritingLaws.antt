@@ -17,7 +17,7 @@ use Rattle.network.specs.Record.{feedAt, feedsFrom, gateFrom, gateOf, netOf, ga
 use Rattle.network.specs.Places.{rowAt}
 use Rattle.integers.specs.TableLaws.{range-tab}
 use Rattle.network.specs.PlaceLaws.{length-feeds}
-use Rattle.format.specs.Format.{feedBytes, feedsBytes, gateBytes, gatesBytes, fileBytes}
+use Rattle.format.specs.Format.{feedBytes, feedsBytes, gateBytes, gatesBytes, headerLength, fileBytes}
 use Rattle.format.specs.LengthLaws.{feedsBytes-length, feedsBytes-append, gateBytes-length, gatesBytes-append}
 use Rattle.pmn_writer.specs.Writing.{header, firstFeeds, firstGates, gatesLength, firstOutputs}
 
@@ -133,7 +133,7 @@ module _ (r : Network) where
       ∙ ap (λ (k : ℕ). header (r .inputs) (r .gates) k ++ rest) (length-tab (r .outputs) (λ j. getD (r .drivers) j 0))
 
   -- its length
-  pub file-length : length (fileBytes (netOf r)) ≡ 8 + gatesLength (r .fanins) (r .gates) + r .outputs
+  pub file-length : length (fileBytes (netOf r)) ≡ headerLength + gatesLength (r .fanins) (r .gates) + r .outputs
   file-length =
       let e = ap length file-parts in
       let f = length-append recordGates (firstOutputs (r .drivers) (r .outputs)) in

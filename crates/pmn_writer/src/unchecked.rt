@@ -1,6 +1,7 @@
 // Writing the parts of a file, each at the front of the lent bytes. The bytes after a part stay as they were. Each public function asks for
 // what its caller has tested.
 use crate::Written;
+use format::HEADER_LENGTH;
 use network::GateRecord;
 use network::Network;
 ghost use mathlib.Core.Path.{_≡_};
@@ -10,7 +11,7 @@ ghost use Prim.Native.Nat.{_+_, _*_, _≤_, _<_};
 ghost use lib.ListN.{length, drop};
 ghost use Rattle.integers.specs.Word.{intBytes};
 ghost use Rattle.network.specs.Record.{gateIn, soundRecord};
-ghost use Rattle.format.specs.Format.{gateBytes};
+ghost use Rattle.format.specs.Format.{gateBytes, headerLength};
 ghost use Rattle.pmn_writer.specs.Answers.{written, bytesAfter};
 ghost use Rattle.pmn_writer.specs.Writing.{header, firstFeeds, firstGates, gatesLength, firstOutputs, Counted};
 
@@ -72,8 +73,8 @@ fn put_gates<'a>(
 // The header with these counts.
 fn put_header(out: &mut [u8], inputs: usize, gates: usize, outputs: usize)
     requires { ⌜ (inputs < 256) × (gates < 256) × (outputs < 256) ⌝ }
-    requires { ⌜ 8 ≤ length (now out) ⌝ }
-    ensures { λ _. ⌜ now (out .exit) ≡ header inputs gates outputs ++ drop 8 (now (out .entry)) ⌝ }
+    requires { ⌜ headerLength ≤ length (now out) ⌝ }
+    ensures { λ _. ⌜ now (out .exit) ≡ header inputs gates outputs ++ drop headerLength (now (out .entry)) ⌝ }
 {
     out[0] = 80;
     out[1] = 77;
@@ -99,9 +100,9 @@ fn put_outputs(out: &mut [u8], drivers: &[u8; 16], outputs: usize)
 fn file_length(fanins: &[u8; 128], gates: usize, outputs: usize) -> usize
     requires { ⌜ Counted (now fanins) gates ⌝ }
     requires { ⌜ outputs ≤ 16 ⌝ }
-    ensures { λ r. ⌜ r ≡ 8 + gatesLength (now (fanins .entry)) gates + outputs ⌝ }
+    ensures { λ r. ⌜ r ≡ headerLength + gatesLength (now (fanins .entry)) gates + outputs ⌝ }
 {
-    let mut total: usize = 8;
+    let mut total: usize = HEADER_LENGTH;
     for g in 0..gates {
         total += 5 + 5 * integers::wide(fanins[g]);
     }
@@ -123,14 +124,14 @@ pub fn write_sound(network: Network, out: &mut [u8]) -> Written
     }
     put_header(out, network.inputs, network.gates, network.outputs);
     let gates = put_gates(
-        &mut out[8..],
+        &mut out[HEADER_LENGTH..],
         &network.fanins,
         &network.thresholds,
         &network.signals,
         &network.weights,
         network.gates,
     );
-    let at = 8 + gates;
+    let at = HEADER_LENGTH + gates;
     put_outputs(&mut out[at..], &network.drivers, network.outputs);
     Written { code: 0, length }
 }

@@ -1,5 +1,5 @@
--- Laws of a list of calls given as numbers: the numbers of one call, one call on a record, the places of the answers, and the longest
--- file. Assumes nothing.
+-- Laws of a list of calls given as numbers: the numbers of one call, one call on a record, the places of the answers, and the length
+-- of the file. Assumes nothing.
 use mathlib.Core.Path.{_≡_, refl, sym, ap, _∙_, subst}
 use mathlib.Core.Bool.{true, false, _&&_, false≢true}
 use mathlib.Core.List.{List, [], _∷_}
@@ -7,18 +7,18 @@ use Prim.Native.Nat.{ℕ, zero, suc, _+_, _*_, _<_, _≤_}
 use native.Mathlib.Nat.{add-zero}
 use native.Mathlib.Omega.{arith}
 use lib.Dec.{leb}
-use lib.ListN.{length, getD, drop, set, length-append, length-drop}
+use lib.ListN.{length, getD, drop, set, length-drop}
 use lib.Seq.{drop-drop, getD-drop, paste, paste-suc}
 use Rattle.integers.specs.Refusals.{Answer, accepted, refused, codeOf}
 use Rattle.integers.specs.TestLaws.{and-right}
-use Rattle.network.specs.Threshold.{Net, Gate}
-use Rattle.network.specs.Sound.{Gates, Sound}
+use Rattle.network.specs.Threshold.{Net}
+use Rattle.network.specs.Sound.{Sound}
 use Rattle.network.specs.Record.{netOf, layout}
 use Rattle.network.specs.Places.{Holds}
 use Rattle.network.specs.RecordLaws.{netOf-layout, holds-layout, holds-sound}
 use Rattle.network.specs.declared.Network.{Network}
-use Rattle.format.specs.Format.{gateBytes, gatesBytes, fileBytes}
-use Rattle.format.specs.LengthLaws.{gateBytes-length, fileBytes-length}
+use Rattle.format.specs.Format.{fileBytes, longestFile}
+use Rattle.format.specs.LengthLaws.{longest}
 use Rattle.pmn_writer.specs.Answers.{asWritten, written}
 use Rattle.pmn_writer.specs.WriteAnswerLaws.{write-whole}
 use Rattle.pmn_writer.specs.declared.Written.{Written}
@@ -161,16 +161,8 @@ module _ (lent xs : List ℕ) (j : ℕ) {a b : ℕ} {rest : List ℕ} (e : drop 
       ∙ paste-suc lent 1 xs (suc j) 0 (omega arith) (omega arith)
       ∙ ap (paste lent 1 xs) {x = suc (suc j)} {y = j + 2} (omega arith)
 
--- ---- no file is longer than 10,904 bytes
-gates-long : (n : ℕ) (gs : List Gate) → Gates n gs → length (gatesBytes gs) ≤ 85 * length gs
-gates-long n [] h = omega arith
-gates-long n (g ∷ gs) h = omega (arith, length-append (gateBytes g) (gatesBytes gs), gateBytes-length g, h .0 .few, gates-long (suc n) gs (h .1))
-
-pub longest : (N : Net) → Sound N → length (fileBytes N) ≤ 10904
-longest N s = omega (arith, fileBytes-length N, gates-long (N .inputs) (N .gates) (s .all-gates), s .few-gates, s .few-outputs)
-
--- so that a writing there gives the file's length
-pub length-written : (r : Network) → Holds r → (room : ℕ) → 10904 ≤ room → {w : Written} → w ≡ written r room → w .length ≡ length (fileBytes (netOf r))
+-- ---- a writing with room for the longest file gives the file's length
+pub length-written : (r : Network) → Holds r → (room : ℕ) → longestFile ≤ room → {w : Written} → w ≡ written r room → w .length ≡ length (fileBytes (netOf r))
 unfolding written asWritten
 length-written r h room l e =
     let fits : length (fileBytes (netOf r)) ≤ room = omega (arith, longest (netOf r) (h .sound)) in

@@ -1,5 +1,6 @@
 // A list of calls, given as numbers, five to a call, run on the record of a sound network.
 use folding::Call;
+use format::LONGEST_FILE;
 use network::Network;
 use sweeping::Outcome;
 ghost use mathlib.Core.Path.{_≡_};
@@ -84,18 +85,18 @@ fn file_length(network: Network) -> usize
     requires { ⌜ Holds network ⌝ }
     ensures { λ r. ⌜ r ≡ length (fileBytes (netOf network)) ⌝ }
 {
-    let mut room = [0u8; 10904];
+    let mut room = [0u8; LONGEST_FILE];
     let written = pmn_writer::write(network, &mut room);
     written.length
 }
 
-// Whether the file after the whole list is no longer than `room`. No file is longer than 10,904 bytes, so that often the list need not run.
+// Whether the file after the whole list is no longer than `room`. Where the longest file fits, the list need not run.
 pub fn has_room(network: Network, numbers: &[u64], room: usize) -> bool
     requires { ⌜ Holds network ⌝ }
     requires { ⌜ wellFormed (now numbers) ≡ true ⌝ }
     ensures { λ r. ⌜ r ≡ leb (length (fileBytes (calls (netOf network) (callsIn (now (numbers .entry)))))) room ⌝ }
 {
-    if room >= 10904 {
+    if room >= LONGEST_FILE {
         return true;
     }
     let after = run(network, numbers);

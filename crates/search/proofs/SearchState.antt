@@ -11,11 +11,12 @@ use Rattle.integers.specs.Lists.{below}
 use Rattle.integers.specs.TestLaws.{both-true}
 use Rattle.integers.specs.ListLaws.{below-none, below-more}
 use Rattle.folding.specs.Pair.{Pair, pairs, first}
-use Rattle.folding.specs.Aligned.{agreesOn, scaleFits, qualifiesOn}
-use Rattle.search.specs.declared.Levels.{Levels}
+use Rattle.folding.specs.Aligned.{sameBits, agreesOn, scaleFits, qualifiesOn}
+use Rattle.alignment.specs.declared.Alignment.{Alignment}
+use Rattle.alignment.specs.Alignments.{alignedIn, Searchable}
 use Rattle.search.specs.declared.Found.the-variants.{At, Nothing}
-use Rattle.search.specs.Search.{alignedBy, foundAs, Fair}
-use Rattle.search.specs.Tables.{Sums, sumFrom, sameBits}
+use Rattle.search.specs.Search.{foundAs}
+use Rattle.search.specs.Tables.{Sums, sumFrom}
 use Rattle.search.proofs.XorLaws.{xor-in, below-xor}
 use Rattle.search.proofs.OrderLaws.{pairAt, later, left, later-start, left-start, first-none, first-hit, first-miss, first-past, first-next}
 use Rattle.search.proofs.GateLaws.{agrees-is, off-scale, differing, qualified, k-off-dial, l-off-dial}
@@ -45,9 +46,9 @@ pub record AtStep (agrees : ℕ → Bool) (n last₀ last earlier k₀ k step : 
   pub earlier-in : earlier < n
   pub clear : below step (λ i. agrees (bitXor i last)) ≡ true
 
-module _ {us vs tu tv : List ℤ} {count : ℕ} {g : Levels} (f : Fair us vs count g) (u : Sums us 256 tu) (v : Sums vs 256 tv) where
+module _ {g : Alignment} {tu tv : List ℤ} (f : Searchable g) (u : Sums (g .us) 256 tu) (v : Sums (g .vs) 256 tv) where
   abbrev pub q : Pair → Bool
-  q = qualifiesOn (alignedBy us vs count g)
+  q = qualifiesOn (alignedIn g)
 
   -- ---- the loops begin and end
   pub begin : (n : ℕ) → 0 < n → AtSum q n 0 0 2
@@ -68,7 +69,7 @@ module _ {us vs tu tv : List ℤ} {count : ℕ} {g : Levels} (f : Fair us vs cou
     high = omega arith;
     last-in = a .last-in;
     earlier-in = a .earlier-in;
-    same = first-next q 16 sum k (λ i l. k-off-dial us vs count g i (sum - i) (omega arith)) ∙ a .same;
+    same = first-next q 16 sum k (λ i l. k-off-dial g i (sum - i) (omega arith)) ∙ a .same;
   }
 
   pub none : {n last earlier sum : ℕ} → AtSum q n last earlier sum → 64 < sum → foundAs Nothing ≡ first q pairs 16
@@ -88,24 +89,24 @@ module _ {us vs tu tv : List ℤ} {count : ℕ} {g : Levels} (f : Fair us vs cou
   missed {n} {last} {earlier} {last'} {earlier'} {sum} {k} a h j x y e = onward a h x y (first-miss q 16 sum k j e)
 
   pub off : {n last earlier sum k : ℕ} → AtCandidate q n last earlier sum k → k ≤ 32 → k < sum → 32 < sum - k → AtCandidate q n last earlier sum (k + 1)
-  off {n} {last} {earlier} {sum} {k} a h j o = missed a h j (a .last-in) (a .earlier-in) (l-off-dial us vs count g k (sum - k) o)
+  off {n} {last} {earlier} {sum} {k} a h j o = missed a h j (a .last-in) (a .earlier-in) (l-off-dial g k (sum - k) o)
 
   pub unscaled : {n last earlier sum k : ℕ} {b : Bool} → AtCandidate q n last earlier sum k → k ≤ 32 → k < sum
-      → b ≡ scaleFits (alignedBy us vs count g) k (sum - k) → not b ≡ true → AtCandidate q n last earlier sum (k + 1)
+      → b ≡ scaleFits (alignedIn g) k (sum - k) → not b ≡ true → AtCandidate q n last earlier sum (k + 1)
   unscaled {n} {last} {earlier} {sum} {k} {b} a h j e t =
-      missed a h j (a .last-in) (a .earlier-in) (off-scale us vs count g f k (sum - k) (sym e ∙ not-true b t))
+      missed a h j (a .last-in) (a .earlier-in) (off-scale g f k (sum - k) (sym e ∙ not-true b t))
 
   -- what a test of a setting says
-  tested : (n k l s : ℕ) {b : Bool} → n ≡ 2 ^ count → s < n → b ≡ sameBits g k l (sumFrom tu s) (sumFrom tv s) → b ≡ agreesOn (alignedBy us vs count g) k l s
-  tested n k l s e h t = t ∙ sym (agrees-is us vs count g f u v k l s (omega arith))
+  tested : (n k l s : ℕ) {b : Bool} → n ≡ 2 ^ g .count → s < n → b ≡ sameBits (g .thresholds) k l (sumFrom tu s) (sumFrom tv s) → b ≡ agreesOn (alignedIn g) k l s
+  tested n k l s e h t = t ∙ sym (agrees-is g f u v k l s (omega arith))
 
-  pub differs : {n last earlier last' earlier' sum k : ℕ} {b : Bool} (s : ℕ) → AtCandidate q n last earlier sum k → n ≡ 2 ^ count → k ≤ 32 → k < sum → s < n → last' < n → earlier' < n
-      → b ≡ sameBits g k (sum - k) (sumFrom tu s) (sumFrom tv s) → not b ≡ true → AtCandidate q n last' earlier' sum (k + 1)
+  pub differs : {n last earlier last' earlier' sum k : ℕ} {b : Bool} (s : ℕ) → AtCandidate q n last earlier sum k → n ≡ 2 ^ g .count → k ≤ 32 → k < sum → s < n → last' < n → earlier' < n
+      → b ≡ sameBits (g .thresholds) k (sum - k) (sumFrom tu s) (sumFrom tv s) → not b ≡ true → AtCandidate q n last' earlier' sum (k + 1)
   differs {n} {last} {earlier} {last'} {earlier'} {sum} {k} {b} s a e h j i x y t d =
-      missed a h j x y (differing us vs count g f k (sum - k) s (omega arith) (sym (tested n k (sum - k) s e i t) ∙ not-true b d))
+      missed a h j x y (differing g f k (sum - k) s (omega arith) (sym (tested n k (sum - k) s e i t) ∙ not-true b d))
 
   -- ---- the settings of a candidate
-  pub scanning : {n last earlier sum k : ℕ} → AtCandidate q n last earlier sum k → (l : ℕ) → AtStep (agreesOn (alignedBy us vs count g) k l) n last last earlier k k 0
+  pub scanning : {n last earlier sum k : ℕ} → AtCandidate q n last earlier sum k → (l : ℕ) → AtStep (agreesOn (alignedIn g) k l) n last last earlier k k 0
   scanning {n} {last} {earlier} {sum} {k} a l =
       record {
         kept = refl;
@@ -113,27 +114,27 @@ module _ {us vs tu tv : List ℤ} {count : ℕ} {g : Levels} (f : Fair us vs cou
         high = omega arith;
         last-in = a .last-in;
         earlier-in = a .earlier-in;
-        clear = below-none (λ i. agreesOn (alignedBy us vs count g) k l (bitXor i last));
+        clear = below-none (λ i. agreesOn (alignedIn g) k l (bitXor i last));
       }
 
-  pub passed : {n last₀ last earlier k₀ k step : ℕ} {b : Bool} (l : ℕ) → AtStep (agreesOn (alignedBy us vs count g) k l) n last₀ last earlier k₀ k step → n ≡ 2 ^ count → step < n
-      → b ≡ sameBits g k l (sumFrom tu (bitXor step last)) (sumFrom tv (bitXor step last)) → not b ≡ false → AtStep (agreesOn (alignedBy us vs count g) k l) n last₀ last earlier k₀ k (step + 1)
+  pub passed : {n last₀ last earlier k₀ k step : ℕ} {b : Bool} (l : ℕ) → AtStep (agreesOn (alignedIn g) k l) n last₀ last earlier k₀ k step → n ≡ 2 ^ g .count → step < n
+      → b ≡ sameBits (g .thresholds) k l (sumFrom tu (bitXor step last)) (sumFrom tv (bitXor step last)) → not b ≡ false → AtStep (agreesOn (alignedIn g) k l) n last₀ last earlier k₀ k (step + 1)
   passed {n} {last₀} {last} {earlier} {k₀} {k} {step} {b} l a e h t y =
-      let p : ℕ → Bool = λ i. agreesOn (alignedBy us vs count g) k l (bitXor i last) in
+      let p : ℕ → Bool = λ i. agreesOn (alignedIn g) k l (bitXor i last) in
       record {
         kept = a .kept;
         from = a .from;
         high = omega arith;
         last-in = a .last-in;
         earlier-in = a .earlier-in;
-        clear = below-more p step ∙ both-true (below step p) (p step) (a .clear) (sym (tested n k l (bitXor step last) e (xor-in count n step last e h (a .last-in)) t) ∙ not-false b y);
+        clear = below-more p step ∙ both-true (below step p) (p step) (a .clear) (sym (tested n k l (bitXor step last) e (xor-in (g .count) n step last e h (a .last-in)) t) ∙ not-false b y);
       }
 
   -- every setting agrees, and the candidate is the answer
-  pub found : {n last earlier sum k : ℕ} {b : Bool} → AtCandidate q n last earlier sum k → n ≡ 2 ^ count → k ≤ 32 → k < sum → sum - k ≤ 32
-      → b ≡ scaleFits (alignedBy us vs count g) k (sum - k) → not b ≡ false → below n (λ i. agreesOn (alignedBy us vs count g) k (sum - k) (bitXor i last)) ≡ true
+  pub found : {n last earlier sum k : ℕ} {b : Bool} → AtCandidate q n last earlier sum k → n ≡ 2 ^ g .count → k ≤ 32 → k < sum → sum - k ≤ 32
+      → b ≡ scaleFits (alignedIn g) k (sum - k) → not b ≡ false → below n (λ i. agreesOn (alignedIn g) k (sum - k) (bitXor i last)) ≡ true
       → foundAs (At k (sum - k)) ≡ first q pairs 16
   unfolding foundAs
   found {n} {last} {earlier} {sum} {k} {b} a e h j o t y c =
-      let p = agreesOn (alignedBy us vs count g) k (sum - k) in
-      sym (first-hit q 16 sum k j (qualified us vs count g f k (sum - k) (a .low) h (omega arith) o (sym t ∙ not-false b y) (rw e at (below-xor count n last p e (a .last-in) c)))) ∙ a .same
+      let p = agreesOn (alignedIn g) k (sum - k) in
+      sym (first-hit q 16 sum k j (qualified g f k (sum - k) (a .low) h (omega arith) o (sym t ∙ not-false b y) (rw e at (below-xor (g .count) n last p e (a .last-in) c)))) ∙ a .same

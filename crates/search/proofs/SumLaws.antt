@@ -16,7 +16,7 @@ use lib.Pow.{pow-mono, field, mod-mod-pow}
 use Rattle.integers.specs.IntegerLaws.{#, nat, _⊕_, eq-of}
 use Rattle.integers.specs.SizeLaws.{size-add}
 use Rattle.folding.specs.Aligned.{sumAt}
-use Rattle.search.specs.Search.{Small}
+use Rattle.alignment.specs.Alignments.{Small}
 use Rattle.search.specs.Tables.{Sums, sumFrom, Summable}
 
 -- a weight where its bit is 1

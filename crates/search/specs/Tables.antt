@@ -1,16 +1,10 @@
--- What the search's own functions say of each other: tables of sums, bits from two sums, and the sizes that keep sums from overflowing.
--- Nothing is proved here.
+-- Tables of the sums of a gate's weights by setting, and the sizes that keep sums from overflowing. Nothing is proved here.
 use mathlib.Core.Path.{_≡_}
-use mathlib.Core.Bool.{Bool, Bool·beq}
-use mathlib.Core.List.{List, []}
+use mathlib.Core.List.{List}
 use Prim.Native.Nat.{ℕ, _+_, _/_, _%_, _≤_, _<_}
 use lib.IntN.{ℤ, pos, natAbs, _+ℤ_}
 use lib.ListN.{length, getD, drop}
-use Rattle.folding.specs.Aligned.{Aligned, sumAt, composedBit, mergedBit}
-use Rattle.search.specs.declared.Levels.{Levels}
-use Rattle.search.specs.Search.{alignedBy}
-
--- ---- tables
+use Rattle.folding.specs.Aligned.{sumAt}
 
 -- on each setting j below n: at place j the sum of the first 8 weights, and at 256 + j the sum of the weights after them
 pub record Sums (weights : List ℤ) (n : ℕ) (sums : List ℤ) : Type 0 where
@@ -27,22 +21,3 @@ pub record Summable (sums : List ℤ) (setting : ℕ) : Type 0 where
   pub inside : setting < 65536
   pub low-small : natAbs (getD sums (setting % 256) (pos 0)) ≤ 8000000
   pub high-small : natAbs (getD sums (256 + setting / 256) (pos 0)) ≤ 8000000
-
--- ---- bits from two sums
-
--- two gates of which only the thresholds and b matter
-unfoldable pub bare : Levels → Aligned
-bare g = alignedBy [] [] 0 g
-
--- the merged gate and the composed pair have the same bit
-unfoldable pub sameBits : Levels → ℕ → ℕ → ℤ → ℤ → Bool
-sameBits g k l su sv = Bool·beq (mergedBit (bare g) k l su sv) (composedBit (bare g) su sv)
-
--- ---- sizes
-
--- two numbers of the size of a sum, and their multipliers
-pub record Mixable (k l : ℕ) (x y : ℤ) : Type 0 where
-  pub k-high : k ≤ 32
-  pub l-high : l ≤ 32
-  pub x-small : natAbs x ≤ 16000000
-  pub y-small : natAbs y ≤ 16000000

@@ -1,18 +1,21 @@
 // The pair search, by tables of sums and with the settings that ruled out earlier candidates tried first. Each call asks for at most 16
 // distinct feeds and for numbers on the scale.
 use crate::Found;
-use crate::Levels;
+use alignment::Alignment;
+use alignment::unchecked::mixed;
+use folding::Thresholds;
 use integers::widened;
 ghost use mathlib.Core.Path.{_≡_};
 ghost use mathlib.Core.Logic.{_⊎_};
 ghost use Prim.Native.Nat.{_+_, _^_, _≤_, _<_};
-ghost use lib.IntN.{pos, natAbs, _+ℤ_, _*ℤ_};
+ghost use lib.IntN.{pos, natAbs};
 ghost use lib.ListN.{getD};
 ghost use Rattle.network.specs.Limits.{inScale};
-ghost use Rattle.folding.specs.Aligned.{composedBit, level, mergedBit, agreesAll, scaleFits, qualifiesOn};
+ghost use Rattle.folding.specs.Aligned.{mix, composedBit, mixedThreshold, mergedBit, sameBits, agreesAll, scaleFits, qualifiesOn};
 ghost use Rattle.folding.specs.Pair.{pairs, first};
-ghost use Rattle.search.specs.Search.{alignedBy, foundAs, Small, Scaled, Fair, Dial};
-ghost use Rattle.search.specs.Tables.{Sums, sumFrom, Summable, bare, sameBits, Mixable};
+ghost use Rattle.alignment.specs.Alignments.{alignedIn, Small, Near, Searchable, Dial, Mixable};
+ghost use Rattle.search.specs.Search.{foundAs};
+ghost use Rattle.search.specs.Tables.{Sums, sumFrom, Summable};
 
 // The settings of `count` feeds.
 fn settings(count: usize) -> usize
@@ -61,44 +64,32 @@ fn sum_at(sums: &[i64; 512], setting: usize) -> i64
     sums[setting % 256] + sums[256 + setting / 256]
 }
 
-// k times x plus l times y.
-fn mixed(k: usize, l: usize, x: i64, y: i64) -> i64
-    requires { ⌜ Mixable k l x y ⌝ }
-    ensures { λ r. ⌜ r ≡ pos k *ℤ x +ℤ pos l *ℤ y ⌝ }
-{
-    (k as i64) * x + (l as i64) * y
-}
-
 // The merged gate's threshold.
-fn merged_level(levels: Levels, k: usize, l: usize) -> i64
-    requires { ⌜ Scaled levels ⌝ }
+fn merged_threshold(thresholds: Thresholds, k: usize, l: usize) -> i64
+    requires { ⌜ Near thresholds ⌝ }
     requires { ⌜ Dial k l ⌝ }
-    ensures { λ r. ⌜ r ≡ level (bare levels) k l ⌝ }
+    ensures { λ r. ⌜ r ≡ mixedThreshold thresholds k l ⌝ }
 {
-    let tu = levels.tu;
-    let rest = levels.tv - levels.b;
-    mixed(k, l, tu, rest)
+    mixed(k, l, widened(thresholds.own), widened(thresholds.on))
 }
 
 // The merged gate's bit, from the two sums.
-fn merged_bit(levels: Levels, k: usize, l: usize, su: i64, sv: i64) -> bool
-    requires { ⌜ Scaled levels ⌝ }
+fn merged_bit(thresholds: Thresholds, k: usize, l: usize, su: i64, sv: i64) -> bool
+    requires { ⌜ Near thresholds ⌝ }
     requires { ⌜ Mixable k l su sv ⌝ }
-    ensures { λ r. ⌜ r ≡ mergedBit (bare levels) k l su sv ⌝ }
+    ensures { λ r. ⌜ r ≡ mergedBit thresholds k l su sv ⌝ }
 {
-    mixed(k, l, su, sv) >= merged_level(levels, k, l)
+    mixed(k, l, su, sv) >= merged_threshold(thresholds, k, l)
 }
 
 // The composed pair's bit, from the two sums.
-fn composed_bit(levels: Levels, su: i64, sv: i64) -> bool
-    requires { ⌜ Scaled levels ⌝ }
-    requires { ⌜ natAbs sv ≤ 16000000 ⌝ }
-    ensures { λ r. ⌜ r ≡ composedBit (bare levels) su sv ⌝ }
+fn composed_bit(thresholds: Thresholds, su: i64, sv: i64) -> bool
+    ensures { λ r. ⌜ r ≡ composedBit thresholds su sv ⌝ }
 {
-    if su >= levels.tu {
-        sv + levels.b >= levels.tv
+    if su >= widened(thresholds.own) {
+        sv >= widened(thresholds.on)
     } else {
-        sv >= levels.tv
+        sv >= widened(thresholds.off)
     }
 }
 
@@ -106,51 +97,56 @@ fn composed_bit(levels: Levels, su: i64, sv: i64) -> bool
 fn agrees_at(
     sums_u: &[i64; 512],
     sums_v: &[i64; 512],
-    levels: Levels,
+    thresholds: Thresholds,
     k: usize,
     l: usize,
     setting: usize,
 ) -> bool
-    requires { ⌜ Scaled levels ⌝ }
+    requires { ⌜ Near thresholds ⌝ }
     requires { ⌜ Dial k l ⌝ }
     requires { ⌜ Summable (now «sums_u») setting ⌝ }
     requires { ⌜ Summable (now «sums_v») setting ⌝ }
-    ensures { λ r. ⌜ r ≡ sameBits levels k l (sumFrom (now («sums_u» .entry)) setting) (sumFrom (now («sums_v» .entry)) setting) ⌝ }
+    ensures { λ r. ⌜ r ≡ sameBits thresholds k l (sumFrom (now («sums_u» .entry)) setting) (sumFrom (now («sums_v» .entry)) setting) ⌝ }
 {
     let su = sum_at(sums_u, setting);
     let sv = sum_at(sums_v, setting);
-    merged_bit(levels, k, l, su, sv) == composed_bit(levels, su, sv)
+    merged_bit(thresholds, k, l, su, sv) == composed_bit(thresholds, su, sv)
 }
 
 // Whether a setting can only rule out a k too small for its l: neither u nor the composed pair is 1 on it. Every other setting can only
 // rule out a k too large.
-fn bounds_below(sums_u: &[i64; 512], sums_v: &[i64; 512], levels: Levels, setting: usize) -> bool
-    requires { ⌜ Scaled levels ⌝ }
+fn bounds_below(
+    sums_u: &[i64; 512],
+    sums_v: &[i64; 512],
+    thresholds: Thresholds,
+    setting: usize,
+) -> bool
     requires { ⌜ Summable (now «sums_u») setting ⌝ }
     requires { ⌜ Summable (now «sums_v») setting ⌝ }
 {
     let su = sum_at(sums_u, setting);
     let sv = sum_at(sums_v, setting);
-    !(su >= levels.tu) & !composed_bit(levels, su, sv)
+    !(su >= widened(thresholds.own)) & !composed_bit(thresholds, su, sv)
 }
 
 // Which of two remembered settings stays beside a new one: the last, unless it bounds k / l on the same side.
 fn beside(
     sums_u: &[i64; 512],
     sums_v: &[i64; 512],
-    levels: Levels,
+    thresholds: Thresholds,
     setting: usize,
     last: usize,
     earlier: usize,
 ) -> usize
-    requires { ⌜ Scaled levels ⌝ }
     requires { ⌜ Summable (now «sums_u») setting ⌝ }
     requires { ⌜ Summable (now «sums_v») setting ⌝ }
     requires { ⌜ Summable (now «sums_u») last ⌝ }
     requires { ⌜ Summable (now «sums_v») last ⌝ }
     ensures { λ r. ⌜ (r ≡ last) ⊎ (r ≡ earlier) ⌝ }
 {
-    if bounds_below(sums_u, sums_v, levels, setting) == bounds_below(sums_u, sums_v, levels, last) {
+    if bounds_below(sums_u, sums_v, thresholds, setting)
+        == bounds_below(sums_u, sums_v, thresholds, last)
+    {
         earlier
     } else {
         last
@@ -165,55 +161,44 @@ fn in_scale(z: i64) -> bool
 }
 
 // The merged gate's weight at a distinct feed.
-fn merged_weight(us: &[i32; 16], vs: &[i32; 16], k: usize, l: usize, feed: usize) -> i64
+fn merged_weight<'a>(us: &'a [i32; 16], vs: &'a [i32; 16], k: usize, l: usize, feed: usize) -> i64
     requires { ⌜ Small 1000000 (now us) ⌝ }
     requires { ⌜ Small 1000000 (now vs) ⌝ }
     requires { ⌜ Dial k l ⌝ }
     requires { ⌜ feed < 16 ⌝ }
-    ensures { λ r. ⌜ r ≡ pos k *ℤ getD (now (us .entry)) feed (pos 0) +ℤ pos l *ℤ getD (now (vs .entry)) feed (pos 0) ⌝ }
+    ensures { λ r. ⌜ r ≡ mix k l (getD (now (us .entry)) feed (pos 0)) (getD (now (vs .entry)) feed (pos 0)) ⌝ }
 {
     mixed(k, l, widened(us[feed]), widened(vs[feed]))
 }
 
 // Whether the merged gate's weights and threshold are on the scale.
-pub fn scale_fits(
-    us: &[i32; 16],
-    vs: &[i32; 16],
-    count: usize,
-    levels: Levels,
-    k: usize,
-    l: usize,
-) -> bool
-    requires { ⌜ Fair (now us) (now vs) count levels ⌝ }
+pub fn scale_fits(a: Alignment, k: usize, l: usize) -> bool
+    requires { ⌜ Searchable a ⌝ }
     requires { ⌜ Dial k l ⌝ }
-    ensures { λ r. ⌜ r ≡ scaleFits (alignedBy (now (us .entry)) (now (vs .entry)) count levels) k l ⌝ }
+    ensures { λ r. ⌜ r ≡ scaleFits (alignedIn a) k l ⌝ }
 {
+    let count = a.count;
     for feed in 0..count {
-        if !in_scale(merged_weight(us, vs, k, l, feed)) {
+        if !in_scale(merged_weight(&a.us, &a.vs, k, l, feed)) {
             return false;
         }
     }
-    in_scale(merged_level(levels, k, l))
+    let thresholds = a.thresholds;
+    in_scale(merged_threshold(thresholds, k, l))
 }
 
 // Whether the merged gate and the composed pair have the same bit on every setting.
-pub fn agrees_everywhere(
-    us: &[i32; 16],
-    vs: &[i32; 16],
-    count: usize,
-    levels: Levels,
-    k: usize,
-    l: usize,
-) -> bool
-    requires { ⌜ Fair (now us) (now vs) count levels ⌝ }
+pub fn agrees_everywhere(a: Alignment, k: usize, l: usize) -> bool
+    requires { ⌜ Searchable a ⌝ }
     requires { ⌜ Dial k l ⌝ }
-    ensures { λ r. ⌜ r ≡ agreesAll (alignedBy (now (us .entry)) (now (vs .entry)) count levels) k l ⌝ }
+    ensures { λ r. ⌜ r ≡ agreesAll (alignedIn a) k l ⌝ }
 {
-    let sums_u = table(us);
-    let sums_v = table(vs);
-    let n = settings(count);
+    let sums_u = table(&a.us);
+    let sums_v = table(&a.vs);
+    let thresholds = a.thresholds;
+    let n = settings(a.count);
     for setting in 0..n {
-        if !agrees_at(&sums_u, &sums_v, levels, k, l, setting) {
+        if !agrees_at(&sums_u, &sums_v, thresholds, k, l, setting) {
             return false;
         }
     }
@@ -223,20 +208,14 @@ pub fn agrees_everywhere(
 // The first pair that qualifies, from the tables of the two gates' sums. A candidate is tried first on two remembered settings, the
 // last ones that ruled candidates out from either side, then on every setting, from the last one outwards: each step changes the
 // feeds that are 1 in its number.
-fn scan(
-    us: &[i32; 16],
-    vs: &[i32; 16],
-    sums_u: &[i64; 512],
-    sums_v: &[i64; 512],
-    count: usize,
-    levels: Levels,
-) -> Found
-    requires { ⌜ Fair (now us) (now vs) count levels ⌝ }
-    requires { ⌜ Sums (now us) 256 (now «sums_u») ⌝ }
-    requires { ⌜ Sums (now vs) 256 (now «sums_v») ⌝ }
-    ensures { λ r. ⌜ foundAs r ≡ first (qualifiesOn (alignedBy (now (us .entry)) (now (vs .entry)) count levels)) pairs 16 ⌝ }
+fn scan(a: Alignment, sums_u: &[i64; 512], sums_v: &[i64; 512]) -> Found
+    requires { ⌜ Searchable a ⌝ }
+    requires { ⌜ Sums (a .us) 256 (now «sums_u») ⌝ }
+    requires { ⌜ Sums (a .vs) 256 (now «sums_v») ⌝ }
+    ensures { λ r. ⌜ foundAs r ≡ first (qualifiesOn (alignedIn a)) pairs 16 ⌝ }
 {
-    let n = settings(count);
+    let thresholds = a.thresholds;
+    let n = settings(a.count);
     let mut last: usize = 0;
     let mut earlier: usize = 0;
     for sum in 2..=64 {
@@ -248,19 +227,19 @@ fn scan(
             if 32 < l {
                 continue 'candidate;
             }
-            if !agrees_at(sums_u, sums_v, levels, k, l, last) {
+            if !agrees_at(sums_u, sums_v, thresholds, k, l, last) {
                 continue 'candidate;
             }
-            if !agrees_at(sums_u, sums_v, levels, k, l, earlier) {
+            if !agrees_at(sums_u, sums_v, thresholds, k, l, earlier) {
                 continue 'candidate;
             }
-            if !scale_fits(us, vs, count, levels, k, l) {
+            if !scale_fits(a, k, l) {
                 continue 'candidate;
             }
             for step in 0..n {
                 let setting = step ^ last;
-                if !agrees_at(sums_u, sums_v, levels, k, l, setting) {
-                    earlier = beside(sums_u, sums_v, levels, setting, last, earlier);
+                if !agrees_at(sums_u, sums_v, thresholds, k, l, setting) {
+                    earlier = beside(sums_u, sums_v, thresholds, setting, last, earlier);
                     last = setting;
                     continue 'candidate;
                 }
@@ -272,11 +251,11 @@ fn scan(
 }
 
 // The pair: the k and l with the least k + l, then the least k, that qualify.
-pub fn find_pair(us: &[i32; 16], vs: &[i32; 16], count: usize, levels: Levels) -> Found
-    requires { ⌜ Fair (now us) (now vs) count levels ⌝ }
-    ensures { λ r. ⌜ foundAs r ≡ first (qualifiesOn (alignedBy (now (us .entry)) (now (vs .entry)) count levels)) pairs 16 ⌝ }
+pub fn find_pair(a: Alignment) -> Found
+    requires { ⌜ Searchable a ⌝ }
+    ensures { λ r. ⌜ foundAs r ≡ first (qualifiesOn (alignedIn a)) pairs 16 ⌝ }
 {
-    let sums_u = table(us);
-    let sums_v = table(vs);
-    scan(us, vs, &sums_u, &sums_v, count, levels)
+    let sums_u = table(&a.us);
+    let sums_v = table(&a.vs);
+    scan(a, &sums_u, &sums_v)
 }

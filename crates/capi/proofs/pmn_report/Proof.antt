@@ -1,9 +1,9 @@
--- The read's refusal, then too few places, then the size of the file's network.
+-- The refusal, then the size of the file's network.
 use borrow.Author.Needs.{needs}
 use mathlib.Core.List.{[], _∷_}
-use Rattle.format.specs.LengthLaws.{bytes-of}
 use Rattle.capi.specs.Exports.{reportPlaces}
-use Rattle.capi.specs.AnswerLaws.{FileRead, file-sound, read-code, read-accepted, read-refused, read-short, refused-one, placed}
+use Rattle.capi.specs.AnswerLaws.{refused-one, placed}
+use Rattle.capi.specs.OpeningLaws.{file-sound, open-refused}
 use Rattle.capi.specs.ExportLaws.{report-answer}
 use Rattle.capi.proofs.pmn_report.Statement.{statement}
 use Rattle.capi.proofs.pmn_report.Tie as tie
@@ -11,49 +11,38 @@ use Rattle.capi.proofs.pmn_report.Tie as tie
 read-requires : tie.Need-read-requires
 read-requires c κs = search needs
 
+refusal-requires : tie.Need-refusal-requires
+refusal-requires c κs = (λ i. c .before .before .shared-slice-known .given i .fits, c .read .ensures)
+
 returns : tie.Need-returns
 unfolding reportPlaces
-returns c =
-    let a = c .before .before .before .before .args in
-    refused-one (a .answer .now) (read-refused (a .file .now) _ (read-code (a .file .now) (c .before .read .ensures)) (c .if1 .taken))
-
--- the file that was read
-file-read : (c : tie.Else1) → FileRead (c .before .before .before .before .args .file .now) (c .before .read .result .network)
-file-read c =
-    let s = c .before .before .before in
-    let file = s .before .args .file .now in
-    read-accepted file (bytes-of file (λ i. s .shared-slice-known .given i .fits)) (c .before .read .ensures) (c .if1 .left)
-
-returns-2 : tie.Need-returns-2
-unfolding reportPlaces
-returns-2 c =
-    let a = c .before .before .before .before .before .args in
-    refused-one (a .answer .now) (read-short (a .file .now) (file-read (c .before) .read) 3 (a .answer .now) _ _ (c .if2 .taken))
+returns c = refused-one (c .before .before .before .before .before .args .answer .now) (open-refused (c .before .refusal .ensures) _ (c .if1 .taken))
 
 size-of-requires : tie.Need-size-of-requires
-size-of-requires c κs = file-sound (file-read (c .before))
+size-of-requires c κs = file-sound (c .before .refusal .ensures .gives (c .if1 .left))
 
 put-three-requires : tie.Need-put-three-requires
-put-three-requires c κs = search needs
+put-three-requires c κs = let s = c .before .before in s .before .refusal .ensures .gives (s .if1 .left) .room
 
 same-length : tie.Need-same-length
 same-length c = search needs
 
-returns-3 : tie.Need-returns-3
-returns-3 c =
-    let a = c .before .before .before .before .before .before .before .before .before .before .args in
-    let s = c .before .before .before .before .size-of in
-    placed (s .result .code) (s .result .gates ∷ s .result .cost ∷ s .result .levels ∷ []) (a .answer .now)
-    (report-answer (file-read (c .before .before .before .before .before .before)) (a .answer .now) (c .before .before .before .before .before .if2 .left) (s .ensures)) (c .before .before .put-three .ensures)
+returns-2 : tie.Need-returns-2
+returns-2 c =
+    let g = c .before .before .before .before .size-of in
+    let s = c .before .before .before .before .before in
+    let a = s .before .before .before .before .before .args in
+    placed (g .result .code) (g .result .gates ∷ g .result .cost ∷ g .result .levels ∷ []) (a .answer .now)
+    (report-answer (a .answer .now) (s .before .refusal .ensures .gives (s .if1 .left)) (g .ensures)) (c .before .before .put-three .ensures)
 
 pub pmn-report-spec : {M : Type 1} → statement M
 pmn-report-spec =
     tie.close
     (tie.spec
     read-requires
+    refusal-requires
     returns
-    returns-2
     size-of-requires
     put-three-requires
     same-length
-    returns-3)
+    returns-2)

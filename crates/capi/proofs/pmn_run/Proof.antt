@@ -6,16 +6,19 @@ use mathlib.Core.Bool.{true}
 use mathlib.Core.List.{List}
 use Prim.Native.Nat.{ℕ}
 use Rattle.integers.specs.Refusals.{Answer, codeOf, stored}
-use Rattle.format.specs.LengthLaws.{bytes-of}
 use Rattle.runs.specs.Runs.{wellFormed, Ran}
 use Rattle.capi.specs.RunAnswers.{runAnswer, ranFile, ranNumbers}
-use Rattle.capi.specs.AnswerLaws.{FileRead, read-code, read-accepted, read-refused}
+use Rattle.capi.specs.Opening.{FileOpen}
+use Rattle.capi.specs.OpeningLaws.{read-refused}
 use Rattle.capi.specs.RunAnswerLaws.{RunLeft, run-refused, read-holds, run-unformed, enough, run-few, run-long, run-left}
 use Rattle.capi.proofs.pmn_run.Statement.{statement}
 use Rattle.capi.proofs.pmn_run.Tie as tie
 
 read-requires : tie.Need-read-requires
 read-requires c κs = search needs
+
+refusal-requires : tie.Need-refusal-requires
+refusal-requires c κs = (λ i. c .before .before .before .before .shared-slice-known .given i .fits, c .read .ensures)
 
 -- what a run leaves, as the contract has it
 left : {x : Answer Ran} {k m : ℕ} {answers numbers out bytes : List ℕ} → m ≡ k → RunLeft x k answers numbers out bytes
@@ -25,18 +28,15 @@ left e l = (e ∙ l .code, (l .places, l .file))
 returns : tie.Need-returns
 unfolding runAnswer
 returns c =
-    let a = c .before .before .before .before .before .before .args in
-    left refl (run-refused (a .answers .now) (a .out .now) (read-refused (a .file .now) _ (read-code (a .file .now) (c .before .read .ensures)) (c .if1 .taken)))
+    let a = c .before .before .before .before .before .before .before .args in
+    left refl (run-refused (a .answers .now) (a .out .now) (read-refused (c .before .refusal .ensures) _ (c .if1 .taken)))
 
 -- the file that was read
-file-read : (c : tie.Else1) → FileRead (c .before .before .before .before .before .before .args .file .now) (c .before .read .result .network)
-file-read c =
-    let s = c .before .before .before .before .before in
-    let file = s .before .args .file .now in
-    read-accepted file (bytes-of file (λ i. s .shared-slice-known .given i .fits)) (c .before .read .ensures) (c .if1 .left)
+file-open : (c : tie.Else1) → FileOpen (c .before .before .before .before .before .before .before .args .file .now) 0 0 (c .before .before .read .result .network)
+file-open c = c .before .refusal .ensures .gives (c .if1 .left)
 
 -- the list is well formed
-formed : (c : tie.Else2) → wellFormed (c .before .before .before .before .before .before .before .before .args .calls .now) ≡ true
+formed : (c : tie.Else2) → wellFormed (c .before .before .before .before .before .before .before .before .before .args .calls .now) ≡ true
 formed c = sym (c .before .is-well-formed .ensures) ∙ not-false _ (c .if2 .left)
 
 is-well-formed-requires : tie.Need-is-well-formed-requires
@@ -44,9 +44,10 @@ is-well-formed-requires c κs = search needs
 
 returns-2 : tie.Need-returns-2
 returns-2 c =
-    let a = c .before .before .before .before .before .before .before .before .args in
-    left refl (run-refused (a .answers .now) (a .out .now)
-    (run-unformed (file-read (c .before .before)) (a .calls .now) (a .answers .now) (a .out .now) (sym (c .before .is-well-formed .ensures) ∙ not-true _ (c .if2 .taken))))
+    let s = c .before .before in
+    let a = s .before .before .before .before .before .before .before .args in
+    let e = sym (c .before .is-well-formed .ensures) ∙ not-true _ (c .if2 .taken) in
+    left refl (run-refused (a .answers .now) (a .out .now) (run-unformed (file-open s) (a .calls .now) (a .answers .now) (a .out .now) e))
 
 mul-if3 : tie.Need-mul-if3
 mul-if3 c = search needs
@@ -56,25 +57,29 @@ add-if3 c = search needs
 
 returns-3 : tie.Need-returns-3
 returns-3 c =
-    let a = c .before .before .before .before .before .before .before .before .before .args in
+    let s = c .before .before .before in
+    let a = s .before .before .before .before .before .before .before .args in
     left refl (run-refused (a .answers .now) (a .out .now)
-    (run-few (file-read (c .before .before .before)) (a .calls .now) (a .answers .now) (a .out .now) (formed (c .before)) (c .if3 .taken)))
+    (run-few (file-open s) (a .calls .now) (a .answers .now) (a .out .now) (formed (c .before)) (c .if3 .taken)))
 
 has-room-requires : tie.Need-has-room-requires
-has-room-requires c κs = (read-holds (file-read (c .before .before .before)), formed (c .before))
+has-room-requires c κs = (read-holds (file-open (c .before .before .before)), formed (c .before))
 
 returns-4 : tie.Need-returns-4
 returns-4 c =
-    let a = c .before .before .before .before .before .before .before .before .before .before .before .args in
-    left refl (run-refused (a .answers .now) (a .out .now)
-    (run-long (file-read (c .before .before .before .before .before)) (a .calls .now) (a .answers .now) (a .out .now) (formed (c .before .before .before)) (sym (c .before .has-room .ensures) ∙ not-true _ (c .if4 .taken))))
+    let w = c .before .before .before in
+    let s = w .before .before in
+    let a = s .before .before .before .before .before .before .before .args in
+    let e = sym (c .before .has-room .ensures) ∙ not-true _ (c .if4 .taken) in
+    left refl (run-refused (a .answers .now) (a .out .now) (run-long (file-open s) (a .calls .now) (a .answers .now) (a .out .now) (formed w) e))
 
 run-storing-requires : tie.Need-run-storing-requires
 run-storing-requires c κs =
-    let a = c .before .before .before .before .before .before .before .before .before .before .before .before .args in
-    let f = file-read (c .before .before .before .before .before .before) in
-    let w = formed (c .before .before .before .before) in
-    (read-holds f, (w, enough f (a .calls .now) (a .answers .now) (a .out .now) w (c .before .before .before .if3 .left)))
+    let t = c .before .before .before in
+    let s = t .before .before .before in
+    let a = s .before .before .before .before .before .before .before .args in
+    let w = formed (t .before) in
+    (read-holds (file-open s), (w, enough (file-open s) (a .calls .now) (a .answers .now) (a .out .now) w (t .if3 .left)))
 
 write-requires : tie.Need-write-requires
 write-requires c κs = search needs
@@ -90,15 +95,17 @@ same-length-2 c = search needs
 
 returns-5 : tie.Need-returns-5
 returns-5 c =
-    let a = c .before .before .before .before .before .before .before .before .before .before .before .before .before .before .before .before .before .before .before .before .before .before .before .args in
-    let f = file-read (c .before .before .before .before .before .before .before .before .before .before .before .before .before .before .before .before .before) in
-    let w = formed (c .before .before .before .before .before .before .before .before .before .before .before .before .before .before .before) in
-    let s = c .before .before .before .before .before .before .before .before .before .before .run-storing in
-    let v = c .before .before .before .before .before .before .write in
     let p = c .before .before .put-one in
-    let places = enough f (a .calls .now) (a .answers .now) (a .out .now) w (c .before .before .before .before .before .before .before .before .before .before .before .before .before .before .if3 .left) in
-    let fits = sym (c .before .before .before .before .before .before .before .before .before .before .before .before .before .has-room .ensures) ∙ not-false _ (c .before .before .before .before .before .before .before .before .before .before .before .before .if4 .left) in
-    let l = run-left f (a .calls .now) (a .answers .now) (a .out .now) w places fits (s .ensures .0) (s .ensures .1) (v .ensures .0) (v .ensures .1) in
+    let v = c .before .before .before .before .before .before .write in
+    let r = c .before .before .before .before .before .before .before .before .before .before .run-storing in
+    let g = c .before .before .before .before .before .before .before .before .before .before .before .before in
+    let t = g .before .before in
+    let s = t .before .before .before in
+    let a = s .before .before .before .before .before .before .before .args in
+    let w = formed (t .before) in
+    let places = enough (file-open s) (a .calls .now) (a .answers .now) (a .out .now) w (t .if3 .left) in
+    let fits = sym (g .before .has-room .ensures) ∙ not-false _ (g .if4 .left) in
+    let l = run-left (file-open s) (a .calls .now) (a .answers .now) (a .out .now) w places fits (r .ensures .0) (r .ensures .1) (v .ensures .0) (v .ensures .1) in
     (p .ensures .0 ∙ l .code, (p .ensures .1 ∙ l .places, l .file))
 
 pub pmn-run-spec : {M : Type 1} → statement M
@@ -106,6 +113,7 @@ pmn-run-spec =
     tie.close
     (tie.spec
     read-requires
+    refusal-requires
     returns
     is-well-formed-requires
     returns-2

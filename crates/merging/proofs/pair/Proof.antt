@@ -1,11 +1,19 @@
 -- The record's own refusal, then those of u and v, then the pair of the two gates in its lent arrays. Assumes nothing.
-use mathlib.Core.Path.{_≡_, sym, _∙_}
+use mathlib.Core.Path.{_≡_, sym, ap, _∙_, subst}
 use mathlib.Core.Bool.{true}
 use borrow.Author.Tests.{not-true, not-false}
 use Rattle.integers.specs.TestLaws.{T-is}
 use Rattle.network.specs.Record.{soundRecord}
-use Rattle.merging.specs.Lent.{Lent}
+use Rattle.folding.specs.Merge.{Edge}
+use Rattle.folding.specs.AlignedLaws.{EdgeOk}
+use Rattle.alignment.specs.Alignments.{Fair}
+use Rattle.alignment.specs.AlignmentLaws.{aligned-fair}
+use Rattle.merging.specs.Answers.{asPair}
+use Rattle.merging.specs.Codes.{pairOn}
+use Rattle.merging.specs.Lent.{edgeIn, Lent, Joined}
 use Rattle.merging.specs.LentLaws.{lent-of}
+use Rattle.merging.specs.EdgeLaws.{joined-ok}
+use Rattle.merging.specs.AlignedLaws.{pair-on}
 use Rattle.merging.specs.CallLaws.{pair-broken, pair-apart, apart-none, pair-joined}
 use borrow.Author.Needs.{needs}
 use Rattle.merging.proofs.pair.Statement.{statement}
@@ -42,19 +50,36 @@ returns-2 c =
     let a = s .before .before .args in
     c .no-pair2 .ensures ∙ sym (pair-apart (a .t1) (tested s) (a .u) (a .v) _ (t .before .edge-code .ensures) (t .if2 .taken))
 
+-- past the second test u feeds v
+abbrev sound : tie.Else2 → tie.Else1
+sound c = c .before .before .before .before .before .before .before
+
+abbrev here : tie.Else2 → Edge
+here c = let a = sound c .before .before .args in edgeIn (a .t1 .fanins) (a .t1 .thresholds) (a .t1 .signals) (a .t1 .weights) (a .t1 .inputs) (a .u) (a .v)
+
+joined : (c : tie.Else2) → let a = sound c .before .before .args in Joined (a .t1 .fanins) (a .t1 .thresholds) (a .t1 .signals) (a .t1 .weights) (a .t1 .inputs) (a .t1 .gates) (a .u) (a .v)
+joined c =
+    let a = sound c .before .before .args in
+    apart-none (a .t1) (tested (sound c)) (a .u) (a .v) _ (c .before .edge-code .ensures) (c .if2 .left)
+
+edge-ok : (c : tie.Else2) → EdgeOk (here c)
+edge-ok c = joined-ok (lent (sound c)) (joined c)
+
+aligned-at-requires : tie.Need-aligned-at-requires
+aligned-at-requires c κs = let t = c .before .before .before .before .before in (lent (sound t), joined t)
+
 pair-of-requires : tie.Need-pair-of-requires
 pair-of-requires c κs =
-    let t = c .before .before .before .before .before in
-    let s = t .before .before .before .before .before .before .before in
-    let a = s .before .before .args in
-    (lent s, apart-none (a .t1) (tested s) (a .u) (a .v) _ (t .before .edge-code .ensures) (t .if2 .left))
+    let t = c .before .before .before .before .before .before in
+    subst Fair (sym (c .aligned-at .ensures)) (aligned-fair (here t) (edge-ok t))
 
 returns-3 : tie.Need-returns-3
 returns-3 c =
-    let t = c .before .before .before .before .before .before in
-    let s = t .before .before .before .before .before .before .before in
-    let a = s .before .before .args in
-    c .pair-of .ensures ∙ sym (pair-joined (a .t1) (tested s) (a .u) (a .v) _ (t .before .edge-code .ensures) (t .if2 .left))
+    let t = c .before .before .before .before .before .before .before in
+    let a = sound t .before .before .args in
+    c .pair-of .ensures
+    ∙ ap asPair (ap pairOn (c .before .aligned-at .ensures) ∙ pair-on (here t) (edge-ok t))
+    ∙ sym (pair-joined (a .t1) (tested (sound t)) (a .u) (a .v) _ (t .before .edge-code .ensures) (t .if2 .left))
 
 pub pair-spec : {M : Type 1} → statement M
 pair-spec =
@@ -66,5 +91,6 @@ pair-spec =
     edge-code-requires
     no-pair-requires-2
     returns-2
+    aligned-at-requires
     pair-of-requires
     returns-3)

@@ -3,17 +3,15 @@
 use crate::unchecked::readers::reads_gate;
 use alignment::Alignment;
 use alignment::unchecked::align;
-use integers::widened;
+use folding::Thresholds;
 use network::soundness::is_gate;
 use places::unchecked::gate_at;
-use search::Levels;
 ghost use mathlib.Core.Path.{_≡_};
-ghost use lib.Signed.{nonNeg};
 ghost use Rattle.folding.specs.Merge.{onDial};
+ghost use Rattle.folding.specs.Aligned.{votesFor};
 ghost use Rattle.alignment.specs.Alignments.{alignmentOf};
 ghost use Rattle.merging.specs.Lent.{edgeIn, Lent, Joined};
 ghost use Rattle.merging.specs.Codes.{firstFailing, edgeTestsIn};
-ghost use Rattle.merging.specs.Fitted.{levelsIn};
 
 // 11 or 12 if u or v is no gate or u doesn't feed v, else 0.
 pub fn edge_code<'a>(
@@ -59,11 +57,11 @@ pub fn aligned_at<'a>(
     align(gate_u, gate_v, u, v)
 }
 
-// Whether a weight is not negative.
-pub fn with_grain(b: i32) -> bool
-    ensures { λ r. ⌜ r ≡ nonNeg b ⌝ }
+// Whether u's vote is not against v.
+pub fn votes_for(thresholds: Thresholds) -> bool
+    ensures { λ r. ⌜ r ≡ votesFor thresholds ⌝ }
 {
-    0 <= b
+    thresholds.on <= thresholds.off
 }
 
 // Whether a multiplier is on the dial.
@@ -71,14 +69,4 @@ pub fn on_dial(k: usize) -> bool
     ensures { λ r. ⌜ r ≡ onDial k ⌝ }
 {
     (1 <= k) & (k <= 32)
-}
-
-// The thresholds and b of two aligned gates, in 64 bits.
-pub fn levels_of(a: Alignment) -> Levels
-    ensures { λ r. ⌜ r ≡ levelsIn a ⌝ }
-{
-    let tu = widened(a.tu);
-    let tv = widened(a.tv);
-    let b = widened(a.b);
-    Levels { tu, tv, b }
 }

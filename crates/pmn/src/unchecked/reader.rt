@@ -2,17 +2,17 @@
 // read, and that the next one starts at `next`; any other code is the refusal.
 use super::gate_reader::read_gate;
 use crate::Loaded;
+use format::HEADER_LENGTH;
 use integers::wide;
 use network::Network;
 use network::blank;
 use network::soundness::counts_sound;
-use places::unchecked::store_signals;
-use places::unchecked::store_weights;
+use places::unchecked::store_gate;
 ghost use mathlib.Core.Path.{_≡_};
 ghost use mathlib.Core.List.{[]};
 ghost use Prim.Native.Nat.{_≤_};
 ghost use lib.ListN.{length, drop};
-ghost use Rattle.format.specs.Format.{refused, parseGates, parseOutputs, parseBody};
+ghost use Rattle.format.specs.Format.{headerLength, refused, parseGates, parseOutputs, parseBody};
 ghost use Rattle.pmn.specs.Answers.{asLoaded};
 ghost use Rattle.pmn.specs.Seen.{Header, HeadSeen, Seen, gatesRecord, outputPlaces};
 
@@ -54,7 +54,7 @@ fn no_head(code: u8) -> HeadRead
 pub fn read_head(file: &[u8]) -> HeadRead
     ensures { λ r. ⌜ HeadSeen (now (file .entry)) (r .code) (r .inputs) (r .gates) (r .outputs) ⌝ }
 {
-    if file.len() < 8 {
+    if file.len() < HEADER_LENGTH {
         return no_head(1);
     }
     let mark = (file[0] == 80) & ((file[1] == 77) & (file[2] == 78));
@@ -109,14 +109,14 @@ pub fn read_gates(file: &[u8], start: usize, inputs: usize, gates: usize) -> Gat
             return no_gates(code);
         }
         let gate = r.gate;
-        let fanin = gate.fanin;
-        let threshold = gate.threshold;
-        let row_signals = gate.signals;
-        let row_weights = gate.weights;
-        fanins[g] = fanin;
-        thresholds[g] = threshold;
-        store_signals(&mut signals, 16 * g, row_signals);
-        store_weights(&mut weights, 16 * g, row_weights);
+        store_gate(
+            &mut fanins,
+            &mut thresholds,
+            &mut signals,
+            &mut weights,
+            g,
+            gate,
+        );
         at = r.next;
         g += 1;
     }
@@ -190,9 +190,9 @@ pub fn refuse(code: u8) -> Loaded
 // What follows the header of a file with so many inputs, gates and outputs.
 pub fn read_body(file: &[u8], inputs: usize, gates: usize, outputs: usize) -> Loaded
     requires { ⌜ Header (now file) inputs gates outputs ⌝ }
-    ensures { λ r. ⌜ r ≡ asLoaded (parseBody inputs gates outputs (drop 8 (now (file .entry)))) ⌝ }
+    ensures { λ r. ⌜ r ≡ asLoaded (parseBody inputs gates outputs (drop headerLength (now (file .entry)))) ⌝ }
 {
-    let gates_read = read_gates(file, 8, inputs, gates);
+    let gates_read = read_gates(file, HEADER_LENGTH, inputs, gates);
     let code = gates_read.code;
     if code != 0 {
         return refuse(code);

@@ -10,6 +10,7 @@ use Rattle.constraints.specs.Question.{Line}
 use Rattle.constraints.specs.Text.{lineText}
 use Rattle.constraints.specs.SizeLaws.{Narrow}
 use Rattle.lines.specs.Lines.{linesOf}
+use Rattle.lines.specs.TermLaws.{stands-line, stands-count}
 use Rattle.lines.specs.ComparableLaws.{small-counts, line-narrow, text-short, header-is, line-is}
 use Rattle.question.proofs.PutLaws.{put-text}
 use Rattle.question.proofs.put_question.Statement.{statement}
@@ -62,8 +63,8 @@ put-line-requires c κs =
     let made = c .before in
     let start = made .before .before .before in (
       record {
-        few = made .question-line .ensures .few;
-        narrow = subst (λ (l : Line). Narrow l) (sym (made .question-line .ensures .is)) (line-narrow (start .pre .0 .pair) (start .args .n - 1) (within (made .before)));
+        few = omega (arith, made .question-line .ensures .few, stands-count (made .question-line .ensures));
+        narrow = subst (λ (l : Line). Narrow l) (sym (stands-line (made .question-line .ensures))) (line-narrow (start .pre .0 .pair) (start .args .n - 1) (within (made .before)));
       },
       start .pre .1,
     )
@@ -76,7 +77,7 @@ returns-2 c =
     let done = c .before .before in
     let made = done .before .before in
     let a = made .before .before .before .args in
-    put-text (done .put-line .ensures) (ap lineText (made .question-line .ensures .is) ∙ line-is (netOf (a .first)) (netOf (a .second)) (a .n) (positive (made .before)))
+    put-text (done .put-line .ensures) (ap lineText (stands-line (made .question-line .ensures)) ∙ line-is (netOf (a .first)) (netOf (a .second)) (a .n) (positive (made .before)))
 
 pub put-question-spec : {M : Type 1} → statement M
 put-question-spec =

@@ -1,16 +1,18 @@
 -- `align` meets its contract: below s the distinct feeds are counted, and the first 16 listed. Assumes nothing.
-use mathlib.Core.Path.{_≡_, refl, sym, ap, _∙_}
+use mathlib.Core.Path.{_≡_, refl, sym, ap, ap₂, _∙_, subst}
 use mathlib.Core.Logic.{⊎-elim}
 use Prim.Native.Nat.{_≤_, _<_, _-_}
 use native.Mathlib.Omega.{arith}
-use lib.IntN.{pos}
+use lib.IntN.{ℤ, pos, _-ℤ_}
 use lib.ListN.{getD, set}
 use mir.Syntax.{w32}
-use mir.Val.{toZ, ofZ}
-use Rattle.integers.specs.SizeLaws.{read-back}
+use mir.Val.{SFits, toZ, ofZ}
+use mir.Facts.{toZ-ofZ}
+use Rattle.integers.specs.SizeLaws.{size-fits, read-back}
 use Rattle.network.specs.Record.{gateIn}
-use Rattle.folding.specs.Merge.{Edge, among}
-use Rattle.folding.specs.AlignedLaws.{edge-rises}
+use Rattle.folding.specs.Merge.{Edge, feedWeight, among}
+use Rattle.folding.specs.Aligned.{edgeThresholds, aligned}
+use Rattle.folding.specs.AlignedLaws.{aligned-small, edge-rises}
 use Rattle.alignment.specs.Alignments.{edgeBetween}
 use Rattle.alignment.proofs.Store.{fanin-is}
 use Rattle.alignment.proofs.Gather.{inU, inOther, table-at, other-at, among-is, other-is, Listed, listed-none, listed-few, listed-skip, listed-store, listed-full, listed-all}
@@ -141,18 +143,40 @@ loop-again c =
           (c .if1 .came),
     )
 
-returns : tie.Need-returns Inv-loop μ-loop
+-- the numbers of which the thresholds are made, as the machine reads them back
+b-is : (c : tie.After-b Inv-loop μ-loop) → toZ w32 (ofZ w32 (getD (c .before .spread2 .result) (c .before .before .before .args .u) (pos 0))) ≡ feedWeight (edge (c .before .before .before))
+b-is c =
+    let a = c .before .before .before in
+    read-back w32 {r = getD (c .before .spread2 .result) (a .args .u) (pos 0)} (c .b .given)
+    (ap (λ t. getD t (a .args .u) (pos 0)) (c .before .spread2 .ensures) ∙ table-at (edge a .gateV .feeds) (a .args .u) (u-low a))
+
+own-is : (c : tie.Start Inv-loop μ-loop) → toZ w32 (ofZ w32 (c .args .gate-u .threshold)) ≡ edge c .gateU .threshold
 unfolding gateIn
-returns c =
-    let a = c .before .before .before .before .before .before .before in
-    let l = c .before .before .before .loop in
-    let end : l .s ≡ a .args .v = omega (arith, l .inv .0, c .before .before .loop-test .left) in
+own-is c = read-back w32 {r = c .args .gate-u .threshold} (search needs) refl
+
+off-is : (c : tie.Start Inv-loop μ-loop) → toZ w32 (ofZ w32 (c .args .gate-v .threshold)) ≡ edge c .gateV .threshold
+unfolding gateIn
+off-is c = read-back w32 {r = c .args .gate-v .threshold} (search needs) refl
+
+on-fits : (c : tie.Start Inv-loop μ-loop) → SFits w32 (edge c .gateV .threshold -ℤ feedWeight (edge c))
+unfolding aligned edgeThresholds
+on-fits c = size-fits w32 _ (omega (arith, aligned-small (edge c) (c .pre .ok) .on))
+
+sub-on : tie.Need-sub-on Inv-loop μ-loop
+sub-on c =
     let n = c .before .before .before .before in
-    let b = read-back w32 {r = getD (n .before .spread2 .result) (a .args .u) (pos 0)} (n .b .given)
-    (ap (λ t. getD t (a .args .u) (pos 0)) (n .before .spread2 .ensures) ∙ table-at (edge a .gateV .feeds) (a .args .u) (u-low a)) in
-    let tu = read-back w32 {r = a .args .gate-u .threshold} (search needs) refl in
-    let tv = read-back w32 {r = a .args .gate-v .threshold} (search needs) refl in
-    (λ j. record { count = l .count; signals = l .signals; us = l .us; vs = l .vs; tu = tu j; tv = tv j; b = b j })
+    let a = n .before .before .before in
+    subst (SFits w32) (sym (ap₂ _-ℤ_ (off-is a) (b-is n))) (on-fits a)
+
+returns : tie.Need-returns Inv-loop μ-loop
+unfolding edgeThresholds
+returns c =
+    let l = c .before .before .before .loop in
+    let n = c .before .before .before .before in
+    let a = n .before .before .before in
+    let end : l .s ≡ a .args .v = omega (arith, l .inv .0, c .before .before .loop-test .left) in
+    let on = ap₂ (λ (x y : ℤ). toZ w32 (ofZ w32 (x -ℤ y))) (off-is a) (b-is n) ∙ toZ-ofZ (on-fits a) in
+    (λ j. record { count = l .count; signals = l .signals; us = l .us; vs = l .vs; thresholds = record { own = own-is a j; on = on j; off = off-is a j } })
     ∙ listed-all (edge a) (l .count) (l .signals) (l .us) (l .vs) (rw end at (l .inv .1))
 
 pub align-spec : {M : Type 1} → statement M
@@ -183,4 +207,5 @@ align-spec =
     add-s
     loop-less
     loop-again
+    sub-on
     returns)

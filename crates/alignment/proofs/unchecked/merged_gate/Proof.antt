@@ -4,16 +4,16 @@ use mathlib.Core.Logic.{⊎-elim}
 use Prim.Native.Nat.{_≤_, _<_, _-_}
 use native.Mathlib.Omega.{arith}
 use lib.IntN.{pos, natAbs}
-use lib.ListN.{length, getD}
+use lib.ListN.{getD}
 use mir.Syntax.{w32}
 use mir.Val.{toZ, ofZ}
-use borrow.Author.Needs.{sfits-of, needs}
+use borrow.Author.Needs.{needs}
 use borrow.Author.Tests.{eq-eqb, ne-eqb}
 use Rattle.integers.specs.SizeLaws.{read-back}
 use Rattle.network.specs.Limits.{isZero}
-use Rattle.folding.specs.Aligned.{level, mix}
-use Rattle.alignment.specs.Alignments.{alignedIn, Mixable}
-use Rattle.alignment.proofs.Combine.{mix-at, weight-mixable, level-mixable, Combined, combined-none, combined-few, combined-drop, combined-store, combined-all}
+use Rattle.folding.specs.Aligned.{mixedThreshold, mixedWeight}
+use Rattle.alignment.specs.Alignments.{alignedIn}
+use Rattle.alignment.proofs.Combine.{OnScale, mix-at, weight-mixable, threshold-mixable, Combined, combined-none, combined-few, combined-drop, combined-store, combined-all}
 use Rattle.alignment.proofs.unchecked.merged_gate.Statement.{statement}
 use Rattle.alignment.proofs.unchecked.merged_gate.Tie as tie
 
@@ -26,7 +26,7 @@ abbrev μ-loop : tie.MeasureT-loop
 
 -- bounds
 i-low : (c : tie.In-loop Inv-loop μ-loop) → c .before .loop .i < 16
-i-low c = omega (arith, c .loop-test .taken, c .before .before .pre .few)
+i-low c = omega (arith, c .loop-test .taken, c .before .before .pre .searchable .few)
 
 fanin-low : (c : tie.In-loop Inv-loop μ-loop) → c .before .loop .fanin < 16
 fanin-low c =
@@ -35,50 +35,46 @@ fanin-low c =
     omega (arith, i-low c, combined-few (a .t1) (a .k) (a .l) (l .i) (l .fanin) (l .signals) (l .weights) (l .inv .1))
 
 -- the two weights at i, and their mix
-x-is : (c : tie.After-mixed-weight-arg Inv-loop μ-loop) → toZ w32 (ofZ w32 (getD (c .before .before .before .args .t1 .us) (c .before .before .loop .i) (pos 0))) ≡ getD (c .before .before .before .args .t1 .us) (c .before .before .loop .i) (pos 0)
-x-is c = read-back w32 {r = getD (c .before .before .before .args .t1 .us) (c .before .before .loop .i) (pos 0)} (c .mixed-weight-arg .given) refl
+x-is : (c : tie.After-mixed-on-scale-arg Inv-loop μ-loop) → toZ w32 (ofZ w32 (getD (c .before .before .before .args .t1 .us) (c .before .before .loop .i) (pos 0))) ≡ getD (c .before .before .before .args .t1 .us) (c .before .before .loop .i) (pos 0)
+x-is c = read-back w32 {r = getD (c .before .before .before .args .t1 .us) (c .before .before .loop .i) (pos 0)} (c .mixed-on-scale-arg .given) refl
 
-y-is : (c : tie.After-mixed-weight-arg2 Inv-loop μ-loop) → toZ w32 (ofZ w32 (getD (c .before .before .before .before .args .t1 .vs) (c .before .before .before .loop .i) (pos 0))) ≡ getD (c .before .before .before .before .args .t1 .vs) (c .before .before .before .loop .i) (pos 0)
-y-is c = read-back w32 {r = getD (c .before .before .before .before .args .t1 .vs) (c .before .before .before .loop .i) (pos 0)} (c .mixed-weight-arg2 .given) refl
+y-is : (c : tie.After-mixed-on-scale-arg2 Inv-loop μ-loop) → toZ w32 (ofZ w32 (getD (c .before .before .before .before .args .t1 .vs) (c .before .before .before .loop .i) (pos 0))) ≡ getD (c .before .before .before .before .args .t1 .vs) (c .before .before .before .loop .i) (pos 0)
+y-is c = read-back w32 {r = getD (c .before .before .before .before .args .t1 .vs) (c .before .before .before .loop .i) (pos 0)} (c .mixed-on-scale-arg2 .given) refl
 
-mixable : (c : tie.After-mixed-weight-arg2 Inv-loop μ-loop) → Mixable (getD (c .before .before .before .before .args .t1 .us) (c .before .before .before .loop .i) (pos 0)) (getD (c .before .before .before .before .args .t1 .vs) (c .before .before .before .loop .i) (pos 0)) (c .before .before .before .before .args .k) (c .before .before .before .before .args .l)
+mixable : (c : tie.After-mixed-on-scale-arg2 Inv-loop μ-loop) → OnScale (c .before .before .before .before .args .k) (c .before .before .before .before .args .l) (getD (c .before .before .before .before .args .t1 .us) (c .before .before .before .loop .i) (pos 0)) (getD (c .before .before .before .before .args .t1 .vs) (c .before .before .before .loop .i) (pos 0))
 mixable c =
     let s = c .before .before .before .before in
-    let n : length (s .args .t1 .us) ≡ 16 = search needs in
-    weight-mixable (s .args .t1) (s .args .k) (s .args .l) (s .pre) n (c .before .before .before .loop .i) (c .before .before .loop-test .taken) (sfits-of (c .before .mixed-weight-arg .given)) (sfits-of (c .mixed-weight-arg2 .given))
+    weight-mixable (s .args .t1) (s .args .k) (s .args .l) (s .pre) (c .before .before .before .loop .i) (c .before .before .loop-test .taken)
 
-w-is : (c : tie.After-mixed-weight Inv-loop μ-loop) → toZ w32 (ofZ w32 (c .mixed-weight .result)) ≡ mix (alignedIn (c .before .before .before .before .before .args .t1)) (c .before .before .before .before .before .args .k) (c .before .before .before .before .before .args .l) (c .before .before .before .before .loop .i)
+w-is : (c : tie.After-mixed-on-scale Inv-loop μ-loop) → toZ w32 (ofZ w32 (c .mixed-on-scale .result)) ≡ mixedWeight (alignedIn (c .before .before .before .before .before .args .t1)) (c .before .before .before .before .before .args .k) (c .before .before .before .before .before .args .l) (c .before .before .before .before .loop .i)
 w-is c =
     let a = c .before .before .before .before .before .args in
-    read-back w32 (c .mixed-weight .ok) (rw (x-is (c .before .before), y-is (c .before)) at (c .mixed-weight .ensures) ∙ sym (mix-at (a .t1) (a .k) (a .l) (c .before .before .before .before .loop .i) (c .before .before .before .loop-test .taken)))
+    read-back w32 (c .mixed-on-scale .ok) (rw (x-is (c .before .before), y-is (c .before)) at (c .mixed-on-scale .ensures) ∙ sym (mix-at (a .t1) (a .k) (a .l) (c .before .before .before .before .loop .i) (c .before .before .before .loop-test .taken)))
 
--- the thresholds and b, as the machine reads them back
-tu-is : (c : tie.Start Inv-loop μ-loop) → toZ w32 (ofZ w32 (c .args .t1 .tu)) ≡ c .args .t1 .tu
-tu-is c = search needs
+-- the thresholds, as the machine reads them back
+own-is : (c : tie.Start Inv-loop μ-loop) → toZ w32 (ofZ w32 (c .args .t1 .thresholds .own)) ≡ c .args .t1 .thresholds .own
+own-is c = search needs
 
-tv-is : (c : tie.Start Inv-loop μ-loop) → toZ w32 (ofZ w32 (c .args .t1 .tv)) ≡ c .args .t1 .tv
-tv-is c = search needs
-
-b-is : (c : tie.Start Inv-loop μ-loop) → toZ w32 (ofZ w32 (c .args .t1 .b)) ≡ c .args .t1 .b
-b-is c = search needs
+on-is : (c : tie.Start Inv-loop μ-loop) → toZ w32 (ofZ w32 (c .args .t1 .thresholds .on)) ≡ c .args .t1 .thresholds .on
+on-is c = search needs
 
 loop-holds : tie.Need-loop-holds Inv-loop μ-loop
 loop-holds c = (omega arith, combined-none (c .args .t1) (c .args .k) (c .args .l))
 
-mul-mixed-weight : tie.Need-mul-mixed-weight Inv-loop μ-loop
-mul-mixed-weight c = search needs
+mul-mixed-on-scale : tie.Need-mul-mixed-on-scale Inv-loop μ-loop
+mul-mixed-on-scale c = search needs
 
-element-copy-out-mixed-weight : tie.Need-element-copy-out-mixed-weight Inv-loop μ-loop
-element-copy-out-mixed-weight c = i-low c
+element-copy-out-mixed-on-scale : tie.Need-element-copy-out-mixed-on-scale Inv-loop μ-loop
+element-copy-out-mixed-on-scale c = i-low c
 
-mul-mixed-weight-2 : tie.Need-mul-mixed-weight-2 Inv-loop μ-loop
-mul-mixed-weight-2 c = search needs
+mul-mixed-on-scale-2 : tie.Need-mul-mixed-on-scale-2 Inv-loop μ-loop
+mul-mixed-on-scale-2 c = search needs
 
-element-copy-out-mixed-weight-2 : tie.Need-element-copy-out-mixed-weight-2 Inv-loop μ-loop
-element-copy-out-mixed-weight-2 c = i-low (c .before)
+element-copy-out-mixed-on-scale-2 : tie.Need-element-copy-out-mixed-on-scale-2 Inv-loop μ-loop
+element-copy-out-mixed-on-scale-2 c = i-low (c .before)
 
-mixed-weight-requires : tie.Need-mixed-weight-requires Inv-loop μ-loop
-mixed-weight-requires c κs = rw (x-is (c .before), y-is c) (mixable c)
+mixed-on-scale-requires : tie.Need-mixed-on-scale-requires Inv-loop μ-loop
+mixed-on-scale-requires c κs = rw (x-is (c .before), y-is c) (mixable c)
 
 magnitude-requires : tie.Need-magnitude-requires Inv-loop μ-loop
 magnitude-requires c κs = search needs
@@ -110,7 +106,7 @@ loop-again c =
     let a = c .before .before .before .before .before .before .before .args in
     let l = c .before .before .before .before .before .before .loop in
     let m = c .before .before in
-    let z = toZ w32 (ofZ w32 (m .mixed-weight .result)) in
+    let z = toZ w32 (ofZ w32 (m .mixed-on-scale .result)) in
     let size = c .before .magnitude .ensures in (
       omega arith,
       ⊎-elim
@@ -123,25 +119,25 @@ loop-again c =
           (c .if1 .came),
     )
 
-mixed-level-requires : tie.Need-mixed-level-requires Inv-loop μ-loop
-mixed-level-requires c κs =
+mixed-on-scale-requires-2 : tie.Need-mixed-on-scale-requires-2 Inv-loop μ-loop
+mixed-on-scale-requires-2 c κs =
     let s = c .before .before .before .before .before in
-    rw (tu-is s, tv-is s, b-is s) (level-mixable (s .args .t1) (s .args .k) (s .args .l) (s .pre) (search needs) (search needs) (search needs))
+    rw (own-is s, on-is s) (threshold-mixable (s .args .t1) (s .args .k) (s .args .l) (s .pre))
 
-cast-t33 : tie.Need-cast-t33 Inv-loop μ-loop
-cast-t33 c =
+cast-t31 : tie.Need-cast-t31 Inv-loop μ-loop
+cast-t31 c =
     let a = c .before .before .before .before .before .before in
     let l = c .before .before .before .before .before .loop in
-    record { fits = omega (arith, a .pre .few, l .inv .0, combined-few (a .args .t1) (a .args .k) (a .args .l) (l .i) (l .fanin) (l .signals) (l .weights) (l .inv .1)) }
+    record { fits = omega (arith, a .pre .searchable .few, l .inv .0, combined-few (a .args .t1) (a .args .k) (a .args .l) (l .i) (l .fanin) (l .signals) (l .weights) (l .inv .1)) }
 
 returns : tie.Need-returns Inv-loop μ-loop
-unfolding level alignedIn
+unfolding mixedThreshold
 returns c =
     let s = c .before .before .before .before .before .before in
     let a = s .args in
     let l = c .before .before .before .before .before .loop in
     let end : l .i ≡ a .t1 .count = omega (arith, l .inv .0, c .before .before .before .before .loop-test .left) in
-    let t = read-back w32 (c .mixed-level .ok) (rw (tu-is s, tv-is s, b-is s) at (c .mixed-level .ensures)) in
+    let t = read-back w32 (c .mixed-on-scale2 .ok) (rw (own-is s, on-is s) at (c .mixed-on-scale2 .ensures)) in
     (λ j. record { fanin = l .fanin; threshold = t j; signals = l .signals; weights = l .weights })
     ∙ combined-all (a .t1) (a .k) (a .l) (l .fanin) (l .signals) (l .weights) (rw end at (l .inv .1))
 
@@ -152,11 +148,11 @@ merged-gate-spec =
     Inv-loop
     μ-loop
     loop-holds
-    mul-mixed-weight
-    element-copy-out-mixed-weight
-    mul-mixed-weight-2
-    element-copy-out-mixed-weight-2
-    mixed-weight-requires
+    mul-mixed-on-scale
+    element-copy-out-mixed-on-scale
+    mul-mixed-on-scale-2
+    element-copy-out-mixed-on-scale-2
+    mixed-on-scale-requires
     magnitude-requires
     element-copy-out-signals
     array-write-signals
@@ -166,6 +162,6 @@ merged-gate-spec =
     add-i
     loop-less
     loop-again
-    mixed-level-requires
-    cast-t33
+    mixed-on-scale-requires-2
+    cast-t31
     returns)

@@ -1,35 +1,61 @@
--- `mixed` meets its contract: products and sum fit 64 bits, and the mix fits 32. Assumes nothing.
+-- `mixed` meets its contract: 32 times a sum, twice, is far below the range of an i64. Assumes nothing.
+use Prim.Native.Nat.{ℕ, _≤_}
+use mathlib.Core.Path.{_≡_}
+use native.Mathlib.Nat.{mul-le-mul}
+use native.Mathlib.Omega.{arith}
+use lib.IntN.{ℤ, pos, natAbs, _+ℤ_, _*ℤ_}
+use mir.Syntax.{w64}
+use mir.Val.{SFits, toZ}
 use mir.Facts.{toZ-ofZ}
+use Rattle.integers.specs.SizeLaws.{size-add, size-mul, size-fits}
 use borrow.Author.Needs.{needs}
-use Rattle.alignment.proofs.Mix.{Fitting, fitting}
 use Rattle.alignment.proofs.unchecked.mixed.Statement.{statement}
 use Rattle.alignment.proofs.unchecked.mixed.Tie as tie
 
--- what is known of the arguments
-fit : (c : tie.Start) → Fitting (c .args .x) (c .args .y) (c .args .k) (c .args .l)
-fit c = fitting (c .args .x) (c .args .y) (c .args .k) (c .args .l) (c .pre)
+-- a multiple by at most 32 of a number of the size of a sum
+times : (k : ℕ) (z : ℤ) → k ≤ 32 → natAbs z ≤ 16000000 → natAbs (pos k *ℤ z) ≤ 512000000
+times k z h e = rw size-mul (mul-le-mul h e)
 
-cast-m : tie.Need-cast-m
-cast-m c = search needs
+-- a multiplier as the cast leaves it
+cast : (k : ℕ) → k ≤ 32 → toZ w64 k ≡ pos k
+cast k h = toZ-ofZ {z = pos k} (size-fits w64 (pos k) (omega arith))
 
-cast-n : tie.Need-cast-n
-cast-n c = search needs
+module _ (c : tie.Start) where
+  abbrev kx : ℤ
+  kx = pos (c .args .k) *ℤ c .args .x
 
-mul-result : tie.Need-mul-result
-mul-result c = simp (fit c .k-is, toZ-ofZ (c .fits .x)) (fit c .left)
+  abbrev ly : ℤ
+  ly = pos (c .args .l) *ℤ c .args .y
 
-mul-result-2 : tie.Need-mul-result-2
-mul-result-2 c = simp (fit c .l-is, toZ-ofZ (c .fits .y)) (fit c .right)
+  kx-fits : SFits w64 kx
+  kx-fits = size-fits w64 kx (omega (arith, times (c .args .k) (c .args .x) (c .pre .dial .k-high) (c .pre .x-small)))
 
-add-result : tie.Need-add-result
-add-result c = simp (fit c .k-is, fit c .l-is, toZ-ofZ (c .fits .x), toZ-ofZ (c .fits .y), toZ-ofZ (fit c .left), toZ-ofZ (fit c .right)) (fit c .both)
+  ly-fits : SFits w64 ly
+  ly-fits = size-fits w64 ly (omega (arith, times (c .args .l) (c .args .y) (c .pre .dial .l-high) (c .pre .y-small)))
+
+  sum-fits : SFits w64 (kx +ℤ ly)
+  sum-fits = size-fits w64 (kx +ℤ ly) (omega (arith, times (c .args .k) (c .args .x) (c .pre .dial .k-high) (c .pre .x-small), times (c .args .l) (c .args .y) (c .pre .dial .l-high) (c .pre .y-small), size-add kx ly))
 
 cast-result : tie.Need-cast-result
-cast-result c = simp (fit c .k-is, fit c .l-is, toZ-ofZ (c .fits .x), toZ-ofZ (c .fits .y), toZ-ofZ (fit c .left), toZ-ofZ (fit c .right), toZ-ofZ (fit c .both)) (fit c .result)
+cast-result c = search needs
+
+mul-result : tie.Need-mul-result
+mul-result c = simp (cast (c .args .k) (c .pre .dial .k-high), toZ-ofZ (c .fits .x)) (kx-fits c)
+
+cast-result-2 : tie.Need-cast-result-2
+cast-result-2 c = search needs
+
+mul-result-2 : tie.Need-mul-result-2
+mul-result-2 c = simp (cast (c .args .l) (c .pre .dial .l-high), toZ-ofZ (c .fits .y)) (ly-fits c)
+
+add-result : tie.Need-add-result
+add-result c =
+    simp (cast (c .args .k) (c .pre .dial .k-high), cast (c .args .l) (c .pre .dial .l-high), toZ-ofZ (c .fits .x), toZ-ofZ (c .fits .y), toZ-ofZ (kx-fits c), toZ-ofZ (ly-fits c))
+    (sum-fits c)
 
 returns : tie.Need-returns
-returns c = simp (fit c .k-is, fit c .l-is, toZ-ofZ (c .fits .x), toZ-ofZ (c .fits .y), toZ-ofZ (fit c .left), toZ-ofZ (fit c .right), toZ-ofZ (fit c .both), toZ-ofZ (fit c .result))
+returns c =
+    simp (cast (c .args .k) (c .pre .dial .k-high), cast (c .args .l) (c .pre .dial .l-high), toZ-ofZ (c .fits .x), toZ-ofZ (c .fits .y), toZ-ofZ (kx-fits c), toZ-ofZ (ly-fits c), toZ-ofZ (sum-fits c))
 
 pub mixed-spec : {M : Type 1} → statement M
-mixed-spec =
-    tie.close (tie.spec cast-m cast-n mul-result mul-result-2 add-result cast-result returns)
+mixed-spec = tie.close (tie.spec cast-result mul-result cast-result-2 mul-result-2 add-result returns)

@@ -8,8 +8,8 @@ use Rattle.network.specs.Threshold.{Gate}
 use Rattle.network.specs.Record.{gateFrom}
 use Rattle.folding.specs.Merge.{Edge}
 use Rattle.collapse.specs.Fusing.{edgeTo, readerPair}
-use Rattle.collapse.specs.FuseLaws.{readerPair-numbered, asPair-accepted, asPair-refused, pair-small, fusion-first}
-use Rattle.collapse.proofs.PairingLaws.{Found, found-more}
+use Rattle.collapse.specs.FuseLaws.{readerPair-numbered, asPair-accepted, asPair-refused, pair-small}
+use Rattle.collapse.proofs.PairingLaws.{Found, found-none, found-more}
 use Rattle.collapse.proofs.unchecked.reader_pairs.Statement.{statement}
 use Rattle.collapse.proofs.unchecked.reader_pairs.Tie as tie
 
@@ -21,7 +21,7 @@ abbrev μ-loop : tie.MeasureT-loop
 μ-loop fanins thresholds signals weights inputs gates u ks₀ ls₀ g₀ ks ls g = gates - g
 
 loop-holds : tie.Need-loop-holds Inv-loop μ-loop
-loop-holds c = (omega arith, record { long-ks = refl; long-ls = refl; each = λ i h. absurd (omega arith) })
+loop-holds c = (omega arith, found-none _ _ _)
 
 reader-pair-requires : tie.Need-reader-pair-requires Inv-loop μ-loop
 reader-pair-requires c κs = let pre = c .before .before .pre in (pre .0, pre .1, c .loop-test .taken)
@@ -38,9 +38,13 @@ returns c =
     let found = c .before .reader-pair in
     let loop = c .before .before .before .loop in
     record {
-      found = λ z. absurd (c .if1 .taken z);
-      none = λ n. fusion-first (gate (c .before .before)) _ _ _ _ (loop .g) _ (c .before .before .loop-test .taken) (loop .inv .1 .each) (asPair-refused (readerPair (tried (c .before .before))) (found .result) (found .ensures) n);
-      within = omega (arith, c .before .before .before .before .pre .0 .few-gates);
+      found = loop .inv .1 .each;
+      spare = loop .inv .1 .spare;
+      all = λ z. absurd (c .if1 .taken z);
+      refuses = λ n. record {
+        within = c .before .before .loop-test .taken;
+        refusal = asPair-refused (readerPair (tried (c .before .before))) (found .result) (found .ensures) n;
+      };
     }
 
 -- past the test gate g has its pair
@@ -73,10 +77,11 @@ loop-again c =
     (omega arith, found-more (loop .inv .1) _ _ (omega arith) (paired (c .before .before)))
 
 returns-2 : tie.Need-returns-2 Inv-loop μ-loop
-returns-2 c = record {
-  found = λ z. record { each = λ g h. c .before .loop .inv .1 .each g (omega arith) };
-  none = λ n. absurd (n refl);
-  within = omega arith;
+returns-2 c = let loop = c .before .loop in record {
+  found = λ g h. loop .inv .1 .each g (omega (arith, loop .inv .0, c .loop-test .left));
+  spare = λ g h. loop .inv .1 .spare g (omega (arith, loop .inv .0, c .loop-test .left));
+  all = λ z. refl;
+  refuses = λ n. absurd (n refl);
 }
 
 pub reader-pairs-spec : {M : Type 1} → statement M

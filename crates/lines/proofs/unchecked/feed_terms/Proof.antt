@@ -12,7 +12,7 @@ use borrow.Author.Needs.{needs}
 use Rattle.integers.specs.SizeLaws.{read-back}
 use Rattle.constraints.specs.Question.{secondVariable}
 use Rattle.lines.specs.Lines.{Stands}
-use Rattle.lines.specs.TermLaws.{firstTerms, first-none, first-step, first-all, first-count, stands-is, stands-count, scaled-at}
+use Rattle.lines.specs.TermLaws.{firstTerms, first-none, first-step, first-all, first-count, stands-line, stands-is, stands-extendable, scaled-at}
 use Rattle.lines.proofs.SumLaws.{small-back}
 use Rattle.lines.proofs.unchecked.feed_terms.Statement.{statement}
 use Rattle.lines.proofs.unchecked.feed_terms.Tie as tie
@@ -67,7 +67,7 @@ with-term-requires c κs =
     let l = in-loop .before .loop in
     let a = in-loop .before .before .before .before .args in
     let h = below in-loop in
-    omega (arith, stands-count (l .inv .1), first-count (a .negative) (secondVariable (a .inputs) (a .shift)) (a .t1) (toZ w32 (ofZ w32 (a .right))) (l .i))
+    stands-extendable (l .inv .1) (omega (arith, first-count (a .negative) (secondVariable (a .inputs) (a .shift)) (a .t1) (toZ w32 (ofZ w32 (a .right))) (l .i)))
 
 add-i : tie.Need-add-i Inv-loop μ-loop
 add-i c = let h = below (c .before .before .before .before .before .before) in record { fits = omega arith }
@@ -86,7 +86,7 @@ loop-again c =
     let w = getD (a .t1 .weights) (l .i) (pos 0) in
     let h = in-loop .loop-test .taken in (
       omega arith,
-      stands-is (first-step (a .negative) φ (a .t1) (toZ w32 (ofZ w32 (a .right))) (l .i) (l .inv .1 .is) (named .variable-of .ensures ∙ ap φ (named .before .wide2 .ensures .0))
+      stands-is (first-step (a .negative) φ (a .t1) (toZ w32 (ofZ w32 (a .right))) (l .i) (stands-line (l .inv .1)) (named .variable-of .ensures ∙ ap φ (named .before .wide2 .ensures .0))
           (read-back w32 (made .signed .ok) (made .signed .ensures ∙ ap (λ (z : ℤ). cond (a .negative) (negℤ z) z) (small-back w (small in-loop)))))
           (c .with-term .ensures),
     )

@@ -5,7 +5,7 @@ use native.Mathlib.Omega.{arith}
 use borrow.Author.Needs.{needs}
 use Rattle.constraints.specs.Question.{lastLine}
 use Rattle.lines.specs.Lines.{Stands}
-use Rattle.lines.specs.TermLaws.{last-none, last-more, last-count, stands-is, stands-next, stands-count}
+use Rattle.lines.specs.TermLaws.{last-none, last-more, last-count, stands-is, stands-extendable, stands-next}
 use Rattle.lines.proofs.unchecked.last_line.Statement.{statement}
 use Rattle.lines.proofs.unchecked.last_line.Tie as tie
 
@@ -25,7 +25,7 @@ add-with-term : tie.Need-add-with-term Inv-loop μ-loop
 add-with-term c = search needs
 
 with-term-requires : tie.Need-with-term-requires Inv-loop μ-loop
-with-term-requires c κs = let l = c .before .loop in omega (arith, stands-count (l .inv .1), last-count (c .before .before .before .args .d) (l .j))
+with-term-requires c κs = let l = c .before .loop in stands-extendable (l .inv .1) (omega (arith, last-count (c .before .before .before .args .d) (l .j)))
 
 add-j : tie.Need-add-j Inv-loop μ-loop
 add-j c = search needs

@@ -1,6 +1,5 @@
 -- The feeds with their weights, then y's term; the numbers fit 32 bits.
 use mathlib.Core.Path.{_≡_, ap, _∙_}
-use native.Mathlib.Omega.{arith}
 use mathlib.Core.Bool.{false}
 use mir.Syntax.{w32}
 use mir.Val.{toZ, ofZ}
@@ -8,7 +7,7 @@ use Rattle.integers.specs.SizeLaws.{read-back}
 use Rattle.network.specs.Record.{gateIn}
 use Rattle.constraints.specs.Question.{least, secondVariable}
 use Rattle.lines.specs.Lines.{feedTerms}
-use Rattle.lines.specs.TermLaws.{stands-is, stands-next, stands-count, feed-count, term-count, sided-least, lower-is}
+use Rattle.lines.specs.TermLaws.{stands-is, stands-next, feeds-extendable, sided-least, lower-is}
 use Rattle.lines.proofs.GateNumbers.{lower-own-fits, lower-own}
 use Rattle.lines.proofs.unchecked.lower_line.Statement.{statement}
 use Rattle.lines.proofs.unchecked.lower_line.Tie as tie
@@ -27,10 +26,7 @@ sub-with-term : tie.Need-sub-with-term
 sub-with-term c = let start = c .before .before .before in lower-own-fits (start .args .gate) (start .pre .0) (c .before .sum-of .result) (least-is (c .before))
 
 with-term-requires : tie.Need-with-term-requires
-with-term-requires c κs =
-    let start = c .before .before .before in
-    let a = start .args in
-    omega (arith, stands-count (c .feed-terms .ensures), term-count false (secondVariable (a .inputs) (a .shift)) (gateIn (a .gate)) (toZ w32 (ofZ w32 (c .before .sum-of .result))), feed-count (a .gate), start .pre .0 .few)
+with-term-requires c κs = feeds-extendable _ _ _ _ (c .before .before .before .pre .0) (c .feed-terms .ensures)
 
 returns : tie.Need-returns
 unfolding gateIn

@@ -5,7 +5,7 @@ use mir.Facts.{toZ-ofZ}
 use borrow.Author.Needs.{needs}
 use Rattle.constraints.specs.Question.{term}
 use Rattle.lines.specs.Lines.{Stands, noTerms, extended}
-use Rattle.lines.specs.TermLaws.{three-is, stands-is, stands-next, stands-count}
+use Rattle.lines.specs.TermLaws.{three-is, stands-is, stands-extendable, stands-next}
 use Rattle.lines.proofs.unchecked.three_terms.Statement.{statement}
 use Rattle.lines.proofs.unchecked.three_terms.Tie as tie
 
@@ -25,15 +25,15 @@ no-terms-requires c κs = search needs
 
 with-term-requires : tie.Need-with-term-requires
 unfolding noTerms
-with-term-requires c κs = omega (arith, stands-count (none c))
+with-term-requires c κs = stands-extendable (none c) (omega arith)
 
 with-term-requires-2 : tie.Need-with-term-requires-2
 unfolding noTerms extended
-with-term-requires-2 c κs = omega (arith, stands-count (first c))
+with-term-requires-2 c κs = stands-extendable (first c) (omega arith)
 
 with-term-requires-3 : tie.Need-with-term-requires-3
 unfolding noTerms extended
-with-term-requires-3 c κs = omega (arith, stands-count (second c))
+with-term-requires-3 c κs = stands-extendable (second c) (omega arith)
 
 returns : tie.Need-returns
 returns c =

@@ -1,15 +1,13 @@
 -- The feeds with minus their weights, then y's term; the numbers fit 32 bits.
 use mathlib.Core.Path.{_≡_, ap, _∙_}
-use native.Mathlib.Omega.{arith}
 use mathlib.Core.Bool.{true}
-use lib.IntN.{pos, _-ℤ_}
 use mir.Syntax.{w32}
 use mir.Val.{toZ, ofZ}
 use Rattle.integers.specs.SizeLaws.{read-back}
 use Rattle.network.specs.Record.{gateIn}
 use Rattle.constraints.specs.Question.{most, secondVariable}
 use Rattle.lines.specs.Lines.{feedTerms}
-use Rattle.lines.specs.TermLaws.{stands-is, stands-next, stands-count, feed-count, term-count, sided-most, upper-is}
+use Rattle.lines.specs.TermLaws.{stands-is, stands-next, feeds-extendable, sided-most, upper-is}
 use Rattle.lines.proofs.GateNumbers.{upper-side-fits, upper-side, upper-less-fits, upper-more-fits, upper-own}
 use Rattle.lines.proofs.unchecked.upper_line.Statement.{statement}
 use Rattle.lines.proofs.unchecked.upper_line.Tie as tie
@@ -34,10 +32,7 @@ add-with-term : tie.Need-add-with-term
 add-with-term c = let start = c .before .before .before in upper-more-fits (start .args .gate) (start .pre .0) (c .sum-of .result) (most-is c)
 
 with-term-requires : tie.Need-with-term-requires
-with-term-requires c κs =
-    let start = c .before .before .before in
-    let a = start .args in
-    omega (arith, stands-count (c .before .feed-terms .ensures), term-count true (secondVariable (a .inputs) (a .shift)) (gateIn (a .gate)) (toZ w32 (ofZ w32 (pos 1 -ℤ toZ w32 (ofZ w32 (a .gate .threshold))))), feed-count (a .gate), start .pre .0 .few)
+with-term-requires c κs = feeds-extendable _ _ _ _ (c .before .before .before .pre .0) (c .before .feed-terms .ensures)
 
 returns : tie.Need-returns
 unfolding gateIn

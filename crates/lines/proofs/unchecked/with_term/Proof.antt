@@ -1,6 +1,4 @@
 -- The term is stored at the first spare place.
-use mathlib.Core.Path.{_≡_}
-use lib.ListN.{length}
 use mir.Facts.{toZ-ofZ}
 use borrow.Author.Needs.{needs}
 use Rattle.lines.specs.TermLaws.{stands-more}
@@ -23,12 +21,7 @@ add-result : tie.Need-add-result
 add-result c = search needs
 
 returns : tie.Need-returns
-returns c =
-    let a = c .args in
-    let lv : length (a .line .variables) ≡ 17 = search needs in
-    let lc : length (a .line .coefficients) ≡ 17 = search needs in
-    rw (toZ-ofZ (c .fits .coefficient))
-    (stands-more (a .line .count) (a .line .variables) (a .line .coefficients) (a .line .right) (a .variable) (a .coefficient) (c .pre) lv lc)
+returns c = rw (toZ-ofZ (c .fits .coefficient)) (stands-more (c .args .line) (c .args .variable) (c .args .coefficient) (c .pre))
 
 pub with-term-spec : {M : Type 1} → statement M
 with-term-spec =

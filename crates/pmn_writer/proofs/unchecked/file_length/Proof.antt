@@ -1,15 +1,16 @@
--- The loop's invariant: the total is 8 and the length of the first g gates, at most 85 for each.
+-- The loop's invariant: the total is the length of the header and of the first g gates, at most 85 for each.
 use mathlib.Core.Path.{_≡_, ap}
 use Prim.Native.Nat.{_+_, _*_, _-_, _≤_, zero-le}
 use native.Mathlib.Omega.{arith}
 use borrow.Author.Needs.{needs}
+use Rattle.format.specs.Format.{headerLength}
 use Rattle.pmn_writer.specs.Writing.{gatesLength}
 use Rattle.pmn_writer.specs.WritingLaws.{gatesLength-none, gatesLength-more}
 use Rattle.pmn_writer.proofs.unchecked.file_length.Statement.{statement}
 use Rattle.pmn_writer.proofs.unchecked.file_length.Tie as tie
 
 abbrev Inv-loop : tie.InvT-loop
-Inv-loop fanins gates outputs total₀ g₀ total g = (g ≤ gates) × (total ≡ 8 + gatesLength fanins g) × (total ≤ 8 + 85 * g)
+Inv-loop fanins gates outputs total₀ g₀ total g = (g ≤ gates) × (total ≡ headerLength + gatesLength fanins g) × (total ≤ headerLength + 85 * g)
 
 abbrev μ-loop : tie.MeasureT-loop
 μ-loop fanins gates outputs total₀ g₀ total g = gates - g

@@ -9,7 +9,7 @@ use borrow.Rule.Slice.PartMut.{putMid}
 use borrow.Author.Needs.{needs}
 use Rattle.integers.specs.WriteLaws.{tail-length, write-on}
 use Rattle.network.specs.Record.{netOf}
-use Rattle.format.specs.Format.{fileBytes}
+use Rattle.format.specs.Format.{headerLength, fileBytes}
 use Rattle.pmn_writer.specs.Writing.{header, firstGates, gatesLength, firstOutputs}
 use Rattle.pmn_writer.specs.WritingLaws.{firstGates-length, firstOutputs-length, file-parts, file-length}
 use Rattle.pmn_writer.specs.WriteAnswerLaws.{Bounded, sound-bounded, write-short, write-whole, written-refused, written-whole}
@@ -28,25 +28,25 @@ length-is c = c .file-length .ensures ∙ sym (file-length (c .before .before .b
 abbrev body : tie.After-put-gates → List ℕ
 body c =
     let xs = c .before .before .before .before .before .before .before .before .before .put-header .last .0 in
-    putMid 8 (length xs - 8) xs (c .put-gates .last .0)
+    putMid headerLength (length xs - headerLength) xs (c .put-gates .last .0)
 
 body-is : (c : tie.After-put-gates)
     → let start = c .before .before .before .before .before .before .before .before .before .before .before .before .before .before .before .before in
     let r = start .args .t1 in
-    body c ≡ (header (r .inputs) (r .gates) (r .outputs) ++ firstGates (r .fanins) (r .thresholds) (r .signals) (r .weights) (r .gates)) ++ drop (8 + c .put-gates .result) (start .args .out .now)
+    body c ≡ (header (r .inputs) (r .gates) (r .outputs) ++ firstGates (r .fanins) (r .thresholds) (r .signals) (r .weights) (r .gates)) ++ drop (headerLength + c .put-gates .result) (start .args .out .now)
 body-is c =
     let put = c .before .before .before .before .before .before .before .before .before in
     let start = put .before .before .before .before .before .before .before in
     let r = start .args .t1 in
     write-on (start .args .out .now) (put .put-header .last .0) (c .put-gates .last .0) (header (r .inputs) (r .gates) (r .outputs))
-    (firstGates (r .fanins) (r .thresholds) (r .signals) (r .weights) (r .gates)) 8 (c .put-gates .result)
+    (firstGates (r .fanins) (r .thresholds) (r .signals) (r .weights) (r .gates)) headerLength (c .put-gates .result)
     (put .put-header .ensures) refl (firstGates-length (r .fanins) (r .thresholds) (r .signals) (r .weights) (r .gates) ∙ sym (c .put-gates .ensures .0)) (omega arith) (c .put-gates .ensures .1)
 
 -- the outputs end where the length found says, and that is in the lent bytes
 ends : (c : tie.After-put-gates)
     → let start = c .before .before .before .before .before .before .before .before .before .before .before .before .before .before .before .before in
-    (8 + c .put-gates .result + start .args .t1 .outputs ≡ c .before .before .before .before .before .before .before .before .before .before .before .before .file-length .result)
-    × (8 + c .put-gates .result + start .args .t1 .outputs ≤ length (start .args .out .now))
+    (headerLength + c .put-gates .result + start .args .t1 .outputs ≡ c .before .before .before .before .before .before .before .before .before .before .before .before .file-length .result)
+    × (headerLength + c .put-gates .result + start .args .t1 .outputs ≤ length (start .args .out .now))
 ends c =
     let put = c .before .before .before .before .before .before .before .before .before in
     let first = put .before .before .before in
@@ -85,7 +85,7 @@ put-gates-requires : tie.Need-put-gates-requires
 put-gates-requires c κs =
     let put = c .before .before .before .before .before .before .before .before in
     let start = put .before .before .before .before .before .before .before in
-    let t = tail-length 8 (put .put-header .last .0) in
+    let t = tail-length headerLength (put .put-header .last .0) in
     (bounded start .counted, omega arith)
 
 add-at : tie.Need-add-at
@@ -104,7 +104,7 @@ put-outputs-requires : tie.Need-put-outputs-requires
 put-outputs-requires c κs =
     let gates = c .before .before .before .before .before in
     let start = gates .before .before .before .before .before .before .before .before .before .before .before .before .before .before .before .before in
-    let at = 8 + gates .put-gates .result in
+    let at = headerLength + gates .put-gates .result in
     let t = tail-length at (body gates) in
     let l = c .before .before .before .before .out2 .given .1 in
     let k = gates .before .before .before .before .before .before .before .before .before .put-header .kept .0 in
@@ -129,13 +129,13 @@ returns-2 c =
     let em : m ≡ gatesLength (r .fanins) (r .gates) = gates .put-gates .ensures .0 in
     let lG = firstGates-length (r .fanins) (r .thresholds) (r .signals) (r .weights) (r .gates) in
     let lO = firstOutputs-length (r .drivers) (r .outputs) in
-    let lp : length (H ++ G) ≡ 8 + m = length-append H G ∙ ap (λ (k : ℕ). 8 + k) (lG ∙ sym em) in
+    let lp : length (H ++ G) ≡ headerLength + m = length-append H G ∙ ap (λ (k : ℕ). headerLength + k) (lG ∙ sym em) in
     let n = first .file-length .result in
     let e = ends gates in
     let el = length-is first in
     let w = written-whole r n x₀ (write-whole r (length x₀) (start .pre) (omega (arith, e .0, e .1, el))) el in (
       w .0,
-      write-on x₀ (body gates) (out .put-outputs .last .0) (H ++ G) O (8 + m) (r .outputs) (body-is gates) lp lO (e .1) (out .put-outputs .ensures)
+      write-on x₀ (body gates) (out .put-outputs .last .0) (H ++ G) O (headerLength + m) (r .outputs) (body-is gates) lp lO (e .1) (out .put-outputs .ensures)
           ∙ ap (λ (k : ℕ). ((H ++ G) ++ O) ++ drop k x₀) (e .0)
           ∙ ap (λ (l : List ℕ). l ++ drop n x₀) (append-assoc H G O ∙ sym (file-parts r))
           ∙ w .1,

@@ -11,10 +11,11 @@ use Rattle.network.specs.Record.{netOf}
 use Rattle.network.specs.RecordLaws.{netOf-layout, holds-layout}
 use Rattle.network.specs.declared.Network.{Network}
 use Rattle.format.specs.Format.{fileBytes}
+use Rattle.format.specs.LengthLaws.{longest}
 use Rattle.folding.specs.Calls.{calls}
 use Rattle.runs.specs.Runs.{callsIn}
 use Rattle.network.specs.Places.{Holds}
-use Rattle.runs.specs.RunLaws.{after-sound, longest}
+use Rattle.runs.specs.RunLaws.{after-sound}
 use Rattle.runs.proofs.unchecked.has_room.Statement.{statement}
 use Rattle.runs.proofs.unchecked.has_room.Tie as tie
 

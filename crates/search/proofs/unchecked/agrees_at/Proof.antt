@@ -1,8 +1,9 @@
 -- `search::unchecked::agrees_at` meets its contract: both bits are made of the two sums. Assumes nothing.
 use mir.Syntax.{w64}
 use Rattle.integers.specs.SizeLaws.{read-back}
-use Rattle.search.specs.Tables.{sameBits}
+use Rattle.folding.specs.Aligned.{sameBits}
 use Rattle.search.proofs.SumLaws.{from-small}
+use borrow.Author.Needs.{needs}
 use Rattle.search.proofs.unchecked.agrees_at.Statement.{statement}
 use Rattle.search.proofs.unchecked.agrees_at.Tie as tie
 
@@ -16,12 +17,10 @@ merged-bit-requires : tie.Need-merged-bit-requires
 merged-bit-requires c κs =
     let d = c .before .before in
     rw (read-back w64 (c .before .sum-at .ok) (c .before .sum-at .ensures), read-back w64 (c .sum-at2 .ok) (c .sum-at2 .ensures))
-    (d .pre .0, record { k-high = d .pre .1 .0 .k-high; l-high = d .pre .1 .0 .l-high; x-small = from-small (d .pre .1 .1 .0); y-small = from-small (d .pre .1 .1 .1) })
+    (d .pre .0, record { dial = d .pre .1 .0; x-small = from-small (d .pre .1 .1 .0); y-small = from-small (d .pre .1 .1 .1) })
 
 composed-bit-requires : tie.Need-composed-bit-requires
-composed-bit-requires c κs =
-    let d = c .before .before .before in
-    rw (read-back w64 (c .before .sum-at2 .ok) (c .before .sum-at2 .ensures)) (d .pre .0, from-small (d .pre .1 .1 .1))
+composed-bit-requires c κs = search needs
 
 returns : tie.Need-returns
 unfolding sameBits

@@ -5,10 +5,10 @@ use Rattle.search.proofs.unchecked.beside.Statement.{statement}
 use Rattle.search.proofs.unchecked.beside.Tie as tie
 
 bounds-below-requires : tie.Need-bounds-below-requires
-bounds-below-requires c κs = (c .pre .0, (c .pre .1 .0, c .pre .1 .1 .0))
+bounds-below-requires c κs = (c .pre .0, c .pre .1 .0)
 
 bounds-below-requires-2 : tie.Need-bounds-below-requires-2
-bounds-below-requires-2 c κs = (c .before .pre .0, c .before .pre .1 .1 .1)
+bounds-below-requires-2 c κs = c .before .pre .1 .1
 
 returns : tie.Need-returns
 returns c = inr refl

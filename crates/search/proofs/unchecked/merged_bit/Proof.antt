@@ -1,5 +1,4 @@
 -- `search::unchecked::merged_bit` meets its contract: the mix of the two sums reaches the merged gate's threshold. Assumes nothing.
-use native.Mathlib.Omega.{arith}
 use mir.Syntax.{w64}
 use mir.Facts.{toZ-ofZ}
 use Rattle.integers.specs.SizeLaws.{read-back}
@@ -10,15 +9,15 @@ use Rattle.search.proofs.unchecked.merged_bit.Tie as tie
 mixed-requires : tie.Need-mixed-requires
 mixed-requires c κs = simp (toZ-ofZ (c .fits .su), toZ-ofZ (c .fits .sv)) (c .pre .1)
 
-merged-level-requires : tie.Need-merged-level-requires
-merged-level-requires c κs = (c .before .pre .0, record { k-high = omega arith; l-high = omega arith })
+merged-threshold-requires : tie.Need-merged-threshold-requires
+merged-threshold-requires c κs = (c .before .pre .0, c .before .pre .1 .dial)
 
 returns : tie.Need-returns
 unfolding mergedBit
 returns c =
     let d = c .before .before in
     let sum = read-back w64 (c .before .mixed .ok) (simp (toZ-ofZ (d .fits .su), toZ-ofZ (d .fits .sv)) at (c .before .mixed .ensures)) in
-    rw (sum, read-back w64 (c .merged-level .ok) (c .merged-level .ensures))
+    rw (sum, read-back w64 (c .merged-threshold .ok) (c .merged-threshold .ensures))
 
 pub merged-bit-spec : {M : Type 1} → statement M
-merged-bit-spec = tie.close (tie.spec mixed-requires merged-level-requires returns)
+merged-bit-spec = tie.close (tie.spec mixed-requires merged-threshold-requires returns)

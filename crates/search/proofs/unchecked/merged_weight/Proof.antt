@@ -45,7 +45,7 @@ mixed-requires c κs =
     let p = start c .pre in
     let i = start c .args .feed in
     rw (u-held c, v-held c)
-    (record { k-high = p .1 .1 .0 .k-high; l-high = p .1 .1 .0 .l-high; x-small = omega (arith, p .0 i); y-small = omega (arith, p .1 .0 i) })
+    (record { dial = p .1 .1 .0; x-small = omega (arith, p .0 i); y-small = omega (arith, p .1 .0 i) })
 
 returns : tie.Need-returns
 returns c = read-back w64 (c .mixed .ok) (rw (u-held (c .before), v-held (c .before)) at (c .mixed .ensures))

@@ -7,7 +7,7 @@ use native.Mathlib.Omega.{arith}
 use lib.Pow.{pow-pos}
 use lib.Bits.{bitXor}
 use Rattle.folding.specs.Aligned.{agreesOn, qualifiesOn}
-use Rattle.search.specs.Search.{alignedBy, Dial}
+use Rattle.alignment.specs.Alignments.{alignedIn, Dial}
 use Rattle.search.specs.Tables.{Summable}
 use Rattle.search.proofs.XorLaws.{xor-in}
 use Rattle.search.proofs.GateLaws.{readable}
@@ -16,36 +16,36 @@ use Rattle.search.proofs.unchecked.scan.Statement.{statement}
 use Rattle.search.proofs.unchecked.scan.Tie as tie
 
 abbrev Inv-loop2 : tie.InvT-loop2
-Inv-loop2 us vs sums-u sums-v count levels n last₀ earlier₀ sum k₀ l step₀ last earlier k step =
-    AtStep (agreesOn (alignedBy us vs count levels) k l) n last₀ last earlier k₀ k step
+Inv-loop2 a sums-u sums-v thresholds n last₀ earlier₀ sum k₀ l step₀ last earlier k step =
+    AtStep (agreesOn (alignedIn a) k l) n last₀ last earlier k₀ k step
 
 abbrev μ-loop2 : tie.MeasureT-loop2
-μ-loop2 us vs sums-u sums-v count levels n last₀ earlier₀ sum k₀ l step₀ last earlier k step = n - step
+μ-loop2 a sums-u sums-v thresholds n last₀ earlier₀ sum k₀ l step₀ last earlier k step = n - step
 
 abbrev Inv-candidate : tie.InvT-candidate
-Inv-candidate us vs sums-u sums-v count levels n last₀ earlier₀ sum k₀ last earlier k =
-    AtCandidate (qualifiesOn (alignedBy us vs count levels)) n last earlier sum k
+Inv-candidate a sums-u sums-v thresholds n last₀ earlier₀ sum k₀ last earlier k =
+    AtCandidate (qualifiesOn (alignedIn a)) n last earlier sum k
 
 abbrev μ-candidate : tie.MeasureT-candidate
-μ-candidate us vs sums-u sums-v count levels n last₀ earlier₀ sum k₀ last earlier k = 33 - k
+μ-candidate a sums-u sums-v thresholds n last₀ earlier₀ sum k₀ last earlier k = 33 - k
 
 abbrev Inv-loop : tie.InvT-loop
-Inv-loop us vs sums-u sums-v count levels n last₀ earlier₀ sum₀ last earlier sum = AtSum (qualifiesOn (alignedBy us vs count levels)) n last earlier sum
+Inv-loop a sums-u sums-v thresholds n last₀ earlier₀ sum₀ last earlier sum = AtSum (qualifiesOn (alignedIn a)) n last earlier sum
 
 abbrev μ-loop : tie.MeasureT-loop
-μ-loop us vs sums-u sums-v count levels n last₀ earlier₀ sum₀ last earlier sum = 65 - sum
+μ-loop a sums-u sums-v thresholds n last₀ earlier₀ sum₀ last earlier sum = 65 - sum
 
 settings-requires : tie.Need-settings-requires Inv-loop2 μ-loop2 Inv-candidate μ-candidate Inv-loop μ-loop
-settings-requires c κs = c .pre .0 .few
+settings-requires c κs = c .before .pre .0 .few
 
 loop-holds : tie.Need-loop-holds Inv-loop2 μ-loop2 Inv-candidate μ-candidate Inv-loop μ-loop
 loop-holds c =
-    let p = c .before .pre in
-    begin (p .0) (p .1 .0) (p .1 .1) (c .settings .result) (omega (arith, pow-pos (c .before .args .count), c .settings .ensures))
+    let p = c .before .before .pre in
+    begin (p .0) (p .1 .0) (p .1 .1) (c .settings .result) (omega (arith, pow-pos (c .before .before .args .a .count), c .settings .ensures))
 
 candidate-holds : tie.Need-candidate-holds Inv-loop2 μ-loop2 Inv-candidate μ-candidate Inv-loop μ-loop
 candidate-holds c =
-    let p = c .before .before .before .pre in
+    let p = c .before .before .before .before .pre in
     turn (p .0) (p .1 .0) (p .1 .1) (c .before .loop .inv) (c .loop-test .taken)
 
 -- a candidate
@@ -53,7 +53,7 @@ abbrev Here : Type 0
 Here = tie.In-candidate Inv-loop2 μ-loop2 Inv-candidate μ-candidate Inv-loop μ-loop
 
 abbrev start : Here → tie.Start Inv-loop2 μ-loop2 Inv-candidate μ-candidate Inv-loop μ-loop
-start d = d .before .before .before .before .before
+start d = d .before .before .before .before .before .before
 
 abbrev n : Here → ℕ
 n d = d .before .before .before .before .settings .result
@@ -98,7 +98,7 @@ Tried = tie.Else2 Inv-loop2 μ-loop2 Inv-candidate μ-candidate Inv-loop μ-loop
 abbrev here : Tried → Here
 here e = e .before .before
 
-n-is : (e : Tried) → n (here e) ≡ 2 ^ (start (here e) .args .count)
+n-is : (e : Tried) → n (here e) ≡ 2 ^ (start (here e) .args .a .count)
 n-is e = here e .before .before .before .before .settings .ensures
 
 dial : (e : Tried) → Dial (k (here e)) (sum (here e) - k (here e))
@@ -108,10 +108,10 @@ asks : (e : Tried) (s : ℕ) → s < n (here e) → Summable (start (here e) .ar
 asks e s h =
     let a = start (here e) .args in
     let p = start (here e) .pre in
-    readable (a .us .now) (a .vs .now) (a .count) (a .levels) (p .0) (p .1 .0) (p .1 .1) s (omega (arith, n-is e))
+    readable (a .a) (p .0) (p .1 .0) (p .1 .1) s (omega (arith, n-is e))
 
 agrees-at-requires : tie.Need-agrees-at-requires Inv-loop2 μ-loop2 Inv-candidate μ-candidate Inv-loop μ-loop
-agrees-at-requires c κs = (start (here c) .pre .0 .levels, (dial c, asks c (here c .before .candidate .last) (here c .before .candidate .inv .last-in)))
+agrees-at-requires c κs = (start (here c) .pre .0 .fair .near, (dial c, asks c (here c .before .candidate .last) (here c .before .candidate .inv .last-in)))
 
 add-k-3 : tie.Need-add-k-3 Inv-loop2 μ-loop2 Inv-candidate μ-candidate Inv-loop μ-loop
 add-k-3 c = omega arith
@@ -129,7 +129,7 @@ candidate-again-3 c =
 agrees-at-requires-2 : tie.Need-agrees-at-requires-2 Inv-loop2 μ-loop2 Inv-candidate μ-candidate Inv-loop μ-loop
 agrees-at-requires-2 c κs =
     let e = c .before .before in
-    (start (here e) .pre .0 .levels, (dial e, asks e (here e .before .candidate .earlier) (here e .before .candidate .inv .earlier-in)))
+    (start (here e) .pre .0 .fair .near, (dial e, asks e (here e .before .candidate .earlier) (here e .before .candidate .inv .earlier-in)))
 
 add-k-4 : tie.Need-add-k-4 Inv-loop2 μ-loop2 Inv-candidate μ-candidate Inv-loop μ-loop
 add-k-4 c = omega arith
@@ -177,13 +177,13 @@ tried d = d .before .before .before .before .before .before .before .before
 inside : (d : Step) → bitXor (d .before .loop2 .step) (d .before .loop2 .last) < n (here (tried d))
 inside d =
     let at = d .before .loop2 in
-    xor-in (start (here (tried d)) .args .count) (n (here (tried d))) (at .step) (at .last) (n-is (tried d)) (d .loop2-test .taken) (at .inv .last-in)
+    xor-in (start (here (tried d)) .args .a .count) (n (here (tried d))) (at .step) (at .last) (n-is (tried d)) (d .loop2-test .taken) (at .inv .last-in)
 
 agrees-at-requires-3 : tie.Need-agrees-at-requires-3 Inv-loop2 μ-loop2 Inv-candidate μ-candidate Inv-loop μ-loop
 agrees-at-requires-3 c κs =
     let e = tried c in
     let at = c .before .loop2 in
-    (start (here e) .pre .0 .levels, (rw (at .inv .kept) (dial e), asks e (bitXor (at .step) (at .last)) (inside c)))
+    (start (here e) .pre .0 .fair .near, (rw (at .inv .kept) (dial e), asks e (bitXor (at .step) (at .last)) (inside c)))
 
 beside-requires : tie.Need-beside-requires Inv-loop2 μ-loop2 Inv-candidate μ-candidate Inv-loop μ-loop
 beside-requires c κs =
@@ -191,7 +191,7 @@ beside-requires c κs =
     let e = tried d in
     let at = d .before .loop2 in
     let new = asks e (bitXor (at .step) (at .last)) (inside d) in
-    (start (here e) .pre .0 .levels, (new .0, (new .1, asks e (at .last) (at .inv .last-in))))
+    (new .0, (new .1, asks e (at .last) (at .inv .last-in)))
 
 add-k-6 : tie.Need-add-k-6 Inv-loop2 μ-loop2 Inv-candidate μ-candidate Inv-loop μ-loop
 add-k-6 c = let d = c .before .before .before in omega (arith, d .before .loop2 .inv, here (tried d) .candidate-test .taken)
@@ -240,12 +240,12 @@ loop-less c = omega arith
 
 loop-again : tie.Need-loop-again Inv-loop2 μ-loop2 Inv-candidate μ-candidate Inv-loop μ-loop
 loop-again c =
-    let p = c .before .before .before .before .before .pre in
+    let p = c .before .before .before .before .before .before .pre in
     next-sum (p .0) (p .1 .0) (p .1 .1) (c .before .candidate .inv) (c .before .before .before .loop .inv .low) (c .before .before .loop-test .taken) (c .candidate-test .left)
 
 returns-2 : tie.Need-returns-2 Inv-loop2 μ-loop2 Inv-candidate μ-candidate Inv-loop μ-loop
 returns-2 c =
-    let p = c .before .before .before .pre in
+    let p = c .before .before .before .before .pre in
     none (p .0) (p .1 .0) (p .1 .1) (c .before .loop .inv) (c .loop-test .left)
 
 pub scan-spec : {M : Type 1} → statement M

@@ -12,6 +12,7 @@ use Rattle.folding.specs.Sweep.{readers, sweepFrom, sweepOnce}
 use Rattle.integers.specs.Refusals.{Refused}
 use Rattle.merging.specs.Readers.{occurs}
 use Rattle.merging.specs.LentLaws.{lent-of, lent-counted}
+use Rattle.collapse.specs.FuseLaws.{tried-refused}
 use Rattle.sweeping.proofs.TurnLaws.{turn-end, sweep-start, pass-barred, pass-refused, taken}
 use Rattle.sweeping.proofs.unchecked.lowest_foldable.Statement.{statement}
 use Rattle.sweeping.proofs.unchecked.lowest_foldable.Tie as tie
@@ -90,7 +91,9 @@ returns c =
     }
 
 cast-hints : tie.Need-cast-hints Inv-loop μ-loop
-cast-hints c = omega (arith, c .before .hinted-pairs .ensures .within)
+cast-hints c =
+    let turn = c .before .before .before .before .before .before .before .before .before .before .before .before .before .before .before .before .before in
+    omega (arith, c .before .hinted-pairs .ensures .refuses (c .if2 .left) .within, sized-of _ (turn .before .before .pre) .few-gates)
 
 element-write-hints : tie.Need-element-write-hints Inv-loop μ-loop
 element-write-hints c = under (c .before .before .before .before .before .before .before .before .before .before .before .before .before .before .before .before .before)
@@ -109,7 +112,7 @@ loop-again-2 c =
     let loop = turn .before .loop in (
       omega (arith, turn .loop-test .taken),
       sym (pass-refused (start .args .t1) (start .args .b) (loop .g) (start .pre) (turn .loop-test .taken) (sym (test (else .before)) ∙ else .if1 .left)
-          (c .before .hinted-pairs .ensures .none (c .if2 .left))) ∙ loop .inv .1,
+          (tried-refused _ _ _ _ _ (c .before .hinted-pairs .ensures) (c .if2 .left))) ∙ loop .inv .1,
     )
 
 no-pairs-requires : tie.Need-no-pairs-requires Inv-loop μ-loop

@@ -2,7 +2,6 @@
 use borrow.Author.Needs.{needs}
 use native.Mathlib.Omega.{arith}
 use Prim.Native.Nat.{_-_}
-use mir.Facts.{toZ-ofZ}
 use Rattle.pmn.proofs.SeenLaws.{seen-refused, found, failed}
 use Rattle.pmn.proofs.GatesLoop.{GatesSoFar, gates-start, gates-bad, gates-got, gates-end}
 use Rattle.pmn.proofs.unchecked.reader.read_gates.Statement.{statement}
@@ -34,26 +33,8 @@ returns c =
     let bad = c .before .if1 .taken in
     seen-refused (at-read .read-gate .result .code) (omega arith) (c .no-gates .ensures) (gates-bad (at-read .before .before .loop .inv) (omega arith) (failed (at-read .read-gate .ensures) bad))
 
-array-write-fanins : tie.Need-array-write-fanins Inv-loop μ-loop
-array-write-fanins c = search needs
-
-mul-thresholds : tie.Need-mul-thresholds Inv-loop μ-loop
-mul-thresholds c = search needs
-
-array-set-from-thresholds : tie.Need-array-set-from-thresholds Inv-loop μ-loop
-array-set-from-thresholds c = search needs
-
-mul-store-signals : tie.Need-mul-store-signals Inv-loop μ-loop
-mul-store-signals c = search needs
-
-store-signals-requires : tie.Need-store-signals-requires Inv-loop μ-loop
-store-signals-requires c κs = search needs
-
-mul-store-weights : tie.Need-mul-store-weights Inv-loop μ-loop
-mul-store-weights c = search needs
-
-store-weights-requires : tie.Need-store-weights-requires Inv-loop μ-loop
-store-weights-requires c κs = search needs
+store-gate-requires : tie.Need-store-gate-requires Inv-loop μ-loop
+store-gate-requires c κs = search needs
 
 add-g : tie.Need-add-g Inv-loop μ-loop
 add-g c = search needs
@@ -63,12 +44,10 @@ loop-less c = search needs
 
 loop-again : tie.Need-loop-again Inv-loop μ-loop
 loop-again c =
-    let at-else = c .before .before .before .before .before .before .before .before in
+    let at-else = c .before .before .before .before .before .before in
     let at-read = at-else .before in
     let r = at-read .read-gate in
-    gates-got (at-read .before .before .loop .inv) (omega arith) (omega arith) (found (r .ensures) (at-else .if1 .left)) (r .ensures .inside)
-    (toZ-ofZ (record { sfits = c .before .before .before .before .before .before .struct-told .given .1 .0 .1 }))
-    (c .before .before .store-signals .ensures) (c .store-weights .ensures)
+    gates-got (at-read .before .before .loop .inv) (omega arith) (omega arith) (found (r .ensures) (at-else .if1 .left)) (r .ensures .inside) (c .store-gate .ensures)
 
 returns-2 : tie.Need-returns-2 Inv-loop μ-loop
 returns-2 c = gates-end (c .before .loop .inv) (omega arith)
@@ -84,13 +63,7 @@ read-gates-spec =
     read-gate-requires
     no-gates-requires
     returns
-    array-write-fanins
-    mul-thresholds
-    array-set-from-thresholds
-    mul-store-signals
-    store-signals-requires
-    mul-store-weights
-    store-weights-requires
+    store-gate-requires
     add-g
     loop-less
     loop-again

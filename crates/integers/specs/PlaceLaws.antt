@@ -1,4 +1,4 @@
--- Laws of tables and of the 16 places of a list: a store, and one member more. Assumes nothing.
+-- Laws of tables and of the places of a list: a store, and one member more. Assumes nothing.
 use mathlib.Core.Path.{_≡_, refl, sym, ap, _∙_}
 use mathlib.Core.Bool.{Bool, true, false, cond}
 use mathlib.Core.List.{List, [], _∷_, _++_, map}
@@ -8,9 +8,8 @@ use lib.Dec.{eqb, eqb·zero-suc, eqb·suc-zero, eqb·suc-suc}
 use lib.ListN.{length, getD, take, set, replicate, length-set, length-map}
 use lib.Seq.{length-take-le, ext-getD, getD-set-same, getD-set-other, getD-take, set-out}
 use borrow.Author.Tests.{eqb-true, eqb-false}
-use Rattle.integers.specs.Lists.{keep, tab}
+use Rattle.integers.specs.Lists.{keep, tab, places}
 use Rattle.integers.specs.ListLaws.{length-tab, getD-tab, tab-same, tab-replicate}
-use Rattle.alignment.specs.Alignments.{places}
 
 module _ {A : Type 0} where
   -- ---- a store into a table
@@ -46,34 +45,34 @@ module _ {A : Type 0} where
       swap false true = refl
       swap false false = refl
 
-  -- ---- the 16 places
+  -- ---- the places of a list
 
-  pub length-places : (d : A) (xs : List A) → length (places d xs) ≡ 16
+  pub length-places : (n : ℕ) (d : A) (xs : List A) → length (places n d xs) ≡ n
   unfolding places
-  length-places d xs = length-tab 16 (λ i. getD xs i d)
+  length-places n d xs = length-tab n (λ i. getD xs i d)
 
-  pub places-none : (d : A) → replicate 16 d ≡ places d []
+  pub places-none : (n : ℕ) (d : A) → replicate n d ≡ places n d []
   unfolding places
-  places-none d = sym (tab-replicate 16 d)
+  places-none n d = sym (tab-replicate n d)
 
   -- a store behind the last member; behind the last place it changes nothing
-  pub places-last : (d : A) (xs : List A) (x : A) → set (places d xs) (length xs) x ≡ places d (xs ++ (x ∷ []))
+  pub places-last : (n : ℕ) (d : A) (xs : List A) (x : A) → set (places n d xs) (length xs) x ≡ places n d (xs ++ (x ∷ []))
   unfolding places
-  places-last d xs x = set-tab 16 (λ i. getD xs i d) (length xs) x ∙ tab-same 16 _ _ (λ i h. sym (getD-last xs x d i))
+  places-last n d xs x = set-tab n (λ i. getD xs i d) (length xs) x ∙ tab-same n _ _ (λ i h. sym (getD-last xs x d i))
 
-  pub places-full : (d : A) (xs : List A) (x : A) → 16 ≤ length xs → places d xs ≡ places d (xs ++ (x ∷ []))
-  places-full d xs x h = sym (set-out (places d xs) (length xs) x (omega (arith, length-places d xs))) ∙ places-last d xs x
+  pub places-full : (n : ℕ) (d : A) (xs : List A) (x : A) → n ≤ length xs → places n d xs ≡ places n d (xs ++ (x ∷ []))
+  places-full n d xs x h = sym (set-out (places n d xs) (length xs) x (omega (arith, length-places n d xs))) ∙ places-last n d xs x
 
-  pub getD-places : (d : A) (xs : List A) (i : ℕ) → i < 16 → getD (places d xs) i d ≡ getD xs i d
+  pub getD-places : (n : ℕ) (d : A) (xs : List A) (i : ℕ) → i < n → getD (places n d xs) i d ≡ getD xs i d
   unfolding places
-  getD-places d xs i h = getD-tab d 16 (λ i. getD xs i d) i h
+  getD-places n d xs i h = getD-tab d n (λ i. getD xs i d) i h
 
-  -- at most 16 members are all there
-  pub take-places : (d : A) (xs : List A) → length xs ≤ 16 → take (length xs) (places d xs) ≡ xs
-  take-places d xs h = ext-getD d (take (length xs) (places d xs)) xs
-      (length-take-le (length xs) (places d xs) (omega (arith, length-places d xs)))
-      λ i k. let l : i < length xs = omega (arith, k, length-take-le (length xs) (places d xs) (omega (arith, length-places d xs))) in
-      getD-take (length xs) (places d xs) i d l ∙ getD-places d xs i (omega arith)
+  -- members that have all their places are all there
+  pub take-places : (n : ℕ) (d : A) (xs : List A) → length xs ≤ n → take (length xs) (places n d xs) ≡ xs
+  take-places n d xs h = ext-getD d (take (length xs) (places n d xs)) xs
+      (length-take-le (length xs) (places n d xs) (omega (arith, length-places n d xs)))
+      λ i k. let l : i < length xs = omega (arith, k, length-take-le (length xs) (places n d xs) (omega (arith, length-places n d xs))) in
+      getD-take (length xs) (places n d xs) i d l ∙ getD-places n d xs i (omega arith)
 
 -- ---- one property of each member
 
@@ -81,13 +80,13 @@ pub map-last : {A B : Type 0} (f : A → B) (xs : List A) (x : A) → map f (xs 
 map-last f [] x = refl
 map-last f (y ∷ ys) x = ap (λ l. f y ∷ l) (map-last f ys x)
 
--- the 16 places of one property of each member, with a member more: stored, or with no room
-module _ {A B : Type 0} (d : B) (f : A → B) (xs : List A) (x : A) (n : ℕ) (t : List B) (same : t ≡ places d (map f xs)) (counted : n ≡ length xs) where
-  long : n ≡ length (map f xs)
+-- the places of one property of each member, with a member more: stored, or with no room
+module _ {A B : Type 0} (n : ℕ) (d : B) (f : A → B) (xs : List A) (x : A) (count : ℕ) (t : List B) (same : t ≡ places n d (map f xs)) (counted : count ≡ length xs) where
+  long : count ≡ length (map f xs)
   long = counted ∙ sym (length-map xs f)
 
-  pub placed-last : (y : B) → y ≡ f x → set t n y ≡ places d (map f (xs ++ (x ∷ [])))
-  placed-last y e = rw (same, long, e, map-last f xs x) (places-last d (map f xs) (f x))
+  pub placed-last : (y : B) → y ≡ f x → set t count y ≡ places n d (map f (xs ++ (x ∷ [])))
+  placed-last y e = rw (same, long, e, map-last f xs x) (places-last n d (map f xs) (f x))
 
-  pub placed-full : 16 ≤ n → t ≡ places d (map f (xs ++ (x ∷ [])))
-  placed-full h = rw (same, map-last f xs x) (places-full d (map f xs) (f x) (omega (arith, long)))
+  pub placed-full : n ≤ count → t ≡ places n d (map f (xs ++ (x ∷ [])))
+  placed-full h = rw (same, map-last f xs x) (places-full n d (map f xs) (f x) (omega (arith, long)))

@@ -1,0 +1,69 @@
+-- The tests of a merge and of a pair as facts, each by its name. Assumes nothing.
+use Prim.Native.Nat.{ℕ}
+use lib.Dec.{T}
+use Rattle.integers.specs.TestLaws.{T-and, and-T}
+use Rattle.integers.specs.Refusals.{Passed}
+use Rattle.network.specs.Threshold.{Net}
+use Rattle.network.specs.Limits.{scaleOk, isGate, sound}
+use Rattle.network.specs.Changes.{gateAt}
+use Rattle.folding.specs.Merge.{Edge, edge, reads, merged, onDial, withGrain, narrow, feedTests, limits}
+use Rattle.folding.specs.Pair.{pairTests}
+
+-- ---- two gates of a sound network, of which u feeds v
+pub record Fed (N : Net) (u v : ℕ) : Type 0 where
+  pub is-sound : T (sound N)
+  pub u-gate : T (isGate N u)
+  pub v-gate : T (isGate N v)
+  pub joined : T (reads u (gateAt N v))
+
+pub fed-of : (N : Net) (u v : ℕ) → Passed (feedTests N u v) → Fed N u v
+unfolding feedTests
+fed-of N u v p = let g = T-and (isGate N u) (isGate N v) (p .1 .0) in
+    record { is-sound = p .0; u-gate = g .0; v-gate = g .1; joined = p .1 .1 .0 }
+
+pub of-fed : (N : Net) (u v : ℕ) → Fed N u v → Passed (feedTests N u v)
+unfolding feedTests
+of-fed N u v f = (f .is-sound, (and-T (isGate N u) (isGate N v) (f .u-gate) (f .v-gate), (f .joined, tt)))
+
+-- ---- two gates whose pair is searched for
+pub record Searched (e : Edge) : Type 0 where
+  pub with-grain : T (withGrain e)
+  pub is-narrow : T (narrow e)
+
+pub searched-of : (e : Edge) → Passed (pairTests e) → Searched e
+unfolding pairTests
+searched-of e p = record { with-grain = p .0; is-narrow = p .1 .0 }
+
+pub of-searched : (e : Edge) → Searched e → Passed (pairTests e)
+unfolding pairTests
+of-searched e s = (s .with-grain, (s .is-narrow, tt))
+
+-- ---- a merge within the limits
+pub record Limited (N : Net) (u v k l : ℕ) : Type 0 where
+  pub fed : Fed N u v
+  pub searched : Searched (edge N u v)
+  pub k-dial : T (onDial k)
+  pub l-dial : T (onDial l)
+  pub scaled : T (scaleOk (merged (edge N u v) k l))
+
+pub limited-of : (N : Net) (u v k l : ℕ) → Passed (limits N u v k l) → Limited N u v k l
+unfolding limits
+limited-of N u v k l p =
+    let g = T-and (isGate N u) (isGate N v) (p .1 .0) in
+    let d = T-and (onDial k) (onDial l) (p .1 .1 .1 .1 .0) in
+    record {
+      fed = record { is-sound = p .0; u-gate = g .0; v-gate = g .1; joined = p .1 .1 .0 };
+      searched = record { with-grain = p .1 .1 .1 .0; is-narrow = p .1 .1 .1 .1 .1 .0 };
+      k-dial = d .0;
+      l-dial = d .1;
+      scaled = p .1 .1 .1 .1 .1 .1 .0;
+    }
+
+pub of-limited : (N : Net) (u v k l : ℕ) → Limited N u v k l → Passed (limits N u v k l)
+unfolding limits
+of-limited N u v k l h =
+    let f = h .fed in
+    let s = h .searched in (
+      f .is-sound,
+      (and-T (isGate N u) (isGate N v) (f .u-gate) (f .v-gate), (f .joined, (s .with-grain, (and-T (onDial k) (onDial l) (h .k-dial) (h .l-dial), (s .is-narrow, (h .scaled, tt)))))),
+    )

@@ -1,0 +1,63 @@
+-- The tests of two gates by their distinct feeds are those of the merge and of the pair. Assumes nothing.
+use mathlib.Core.Path.{_≡_, refl, sym, ap, _∙_}
+use mathlib.Core.Bool.{Bool, true, false, cond, _&&_}
+use mathlib.Core.List.{List, [], _∷_}
+use Prim.Native.Nat.{ℕ, _≤_}
+use lib.Dec.{T, leb, leb→le}
+use lib.ListN.{length}
+use Rattle.integers.specs.Refusals.{Answer, refused, Test, _else_, checks}
+use Rattle.network.specs.Limits.{scaleOk}
+use Rattle.network.specs.Record.{gateRecord}
+use Rattle.folding.specs.Merge.{Edge, distinct, merged, agrees, onDial, narrow}
+use Rattle.folding.specs.Pair.{Pair, pairs, qualifies, first, pairTests, pairOf}
+use Rattle.folding.specs.Aligned.{Aligned, aligned, votesFor, qualifiesOn}
+use Rattle.folding.specs.AlignedLaws.{EdgeOk, scaleOk-fits, grain-on, agrees-all, first-on}
+use Rattle.folding.specs.PairLaws.{qualified-of, dial-of}
+use Rattle.folding.specs.StepLaws.{narrow-few}
+use Rattle.alignment.specs.Alignments.{alignmentOf, alignedIn, mergedOf, Mergeable}
+use Rattle.alignment.specs.AlignmentLaws.{aligned-in, merged-is, mergeable}
+use Rattle.merging.specs.Codes.{firstFailing, mergeTests, fitTests, mergeTestsOn, pairOn}
+
+module _ (e : Edge) (ok : EdgeOk e) where
+  -- 6 and 15, where 7 does not apply
+  fit-is : length (distinct e) ≤ 16 → (k l : ℕ) → fitTests (alignedIn (alignmentOf e)) k l ≡ (scaleOk (merged e k l) else 6) ∷ (agrees e k l else 15) ∷ []
+  unfolding fitTests
+  fit-is few k l = ap (λ (a : Aligned). fitTests a k l) (aligned-in e few) ∙ rw (scaleOk-fits e k l, agrees-all e ok k l)
+
+  -- the first pair, where 7 does not apply
+  first-is : length (distinct e) ≤ 16 → first (qualifiesOn (alignedIn (alignmentOf e))) pairs 16 ≡ first (qualifies e) pairs 16
+  first-is few = ap (λ (a : Aligned). first (qualifiesOn a) pairs 16) (aligned-in e few) ∙ sym (first-on e ok)
+
+  -- what follows a test counts only where the test holds
+  after-test : (b : Bool) (c : ℕ) {ts us : List Test} → (T b → ts ≡ us) → firstFailing ((b else c) ∷ ts) ≡ firstFailing ((b else c) ∷ us)
+  unfolding firstFailing
+  after-test true c h = ap firstFailing (h tt)
+  after-test false c h = refl
+
+  after-checks : {A : Type 0} (b : Bool) (c : ℕ) {r q : Answer A} → (T b → r ≡ q) → checks ((b else c) ∷ []) r ≡ checks ((b else c) ∷ []) q
+  unfolding checks
+  after-checks true c h = h tt
+  after-checks false c h = refl
+
+  pub tests-on : (k l : ℕ) → firstFailing (mergeTestsOn (alignmentOf e) k l) ≡ firstFailing (mergeTests e k l)
+  unfolding firstFailing mergeTestsOn mergeTests narrow alignmentOf
+  tests-on k l = rw (grain-on e)
+      (ap (λ (n : ℕ). cond (votesFor (aligned e .thresholds)) (cond (onDial k && onDial l) n 14) 13)
+      (after-test (leb (length (distinct e)) 16) 7 (λ t. fit-is (leb→le (length (distinct e)) 16 t) k l)))
+
+  pub pair-on : pairOn (alignmentOf e) ≡ pairOf e
+  unfolding pairOn pairOf pairTests narrow alignmentOf checks
+  pair-on = rw (grain-on e)
+      (ap (λ (r : Answer Pair). cond (votesFor (aligned e .thresholds)) r (refused 13))
+      (after-checks (leb (length (distinct e)) 16) 7 (λ t. first-is (leb→le (length (distinct e)) 16 t))))
+
+-- ---- the merged gate of k and l that qualify
+module _ (e : Edge) (ok : EdgeOk e) (k l : ℕ) (t : T (narrow e)) where
+  -- it can be made
+  pub qualified-mergeable : T (qualifies e (record { k = k; l = l })) → Mergeable (alignmentOf e) k l
+  qualified-mergeable h =
+      let q = qualified-of e (record { k = k; l = l }) h in
+      mergeable e k l ok (narrow-few e t) (dial-of k (q .k-dial) .1) (dial-of l (q .l-dial) .1) (q .scaled)
+
+  pub mergedOf-is : gateRecord (mergedOf (alignmentOf e) k l) ≡ gateRecord (merged e k l)
+  mergedOf-is = ap gateRecord (merged-is e k l (narrow-few e t))
