@@ -1,6 +1,7 @@
 /* The folder's functions for C: threshold networks in PMN files (libcapi.a).
  *
- * Every function takes whole files and numbers, and answers 0 or the number of a refusal (the table of codes in document 01).
+ * Every function takes whole files and numbers, and answers 0 or the number of a refusal (the table of codes in document 01). The
+ * number 13 is never given.
  * A slice is a pointer and then a length, in bytes for uint8_t and in numbers for uint64_t. A slice that is written overlaps
  * no other slice of the same call. A pointer is not null, even where the length is 0.
  *
@@ -25,7 +26,7 @@ uint8_t pmn_frame(const uint8_t *file, size_t file_length, uint64_t frame,
                   uint64_t *answer, size_t answer_length);
 
 /* The pair for the gates with signals u and v. answer[0]: k; answer[1]: l.
- * Codes in order: as read, 18 where answer has under 2 places, 11, 12, 13, 7, 16. */
+ * Codes in order: as read, 18 where answer has under 2 places, 11, 12, 7, 16. */
 uint8_t pmn_pair(const uint8_t *file, size_t file_length, uint64_t u, uint64_t v,
                  uint64_t *answer, size_t answer_length);
 
@@ -56,7 +57,7 @@ uint8_t pmn_line(const uint8_t *first, size_t first_length,
 
 /* Runs a list of calls on the network of a file, and puts the file of the network after the list at the front of out.
  * calls has five numbers for each call: a kind and four numbers, of which a kind passes over those that it does not use.
- *     0, u, v, k, l   merge of u into v with k and l
+ *     0, u, v, k, l   merge of u into v with k and l; of u's complement, where u feeds v with a negative weight
  *     1, s            drop of s
  *     2, s            collapse of s
  *     3, B            sweep with reader limit B

@@ -56,13 +56,26 @@ def full_rack():
 
 
 def corner_pin():
-    """One corner pin of eight patches, with a shadow that votes against: the shadow's gate does not fold."""
+    """One corner pin of eight patches, with a shadow that votes against: the shadow's gate folds, those of head and body do not."""
     mask = Mask(8)
     head = mask.at_least(2, [0, 1, 2])
     body = mask.at_least(2, [3, 4, 5])
     shadow = mask.at_least(2, [6, 7])
     pin = mask.gate([(head, 2), (body, 2), (shadow, -1)], 2)
     mask.write("corner_pin.pmn", [pin])
+
+
+def shadow_rack():
+    """Ten pins of four patches each: a lit foot votes against the pin's shadow, and the shadow against the pin. A pin stands if its two
+    upper patches are both lit, or one of them without a shadow."""
+    mask = Mask(40)
+    pins = []
+    for pin in range(10):
+        upper, lower = [4 * pin, 4 * pin + 1], [4 * pin + 2, 4 * pin + 3]
+        foot = mask.at_least(1, lower)
+        shadow = mask.gate([(foot, -1)], 0)
+        pins.append(mask.gate([(upper[0], 1), (upper[1], 1), (shadow, -1)], 1))
+    mask.write("shadow_rack.pmn", pins)
 
 
 def far_fold():
@@ -86,5 +99,5 @@ def no_fold():
 
 
 if __name__ == "__main__":
-    for sample in (f, full_rack, corner_pin, far_fold, no_fold):
+    for sample in (f, full_rack, corner_pin, shadow_rack, far_fold, no_fold):
         sample()

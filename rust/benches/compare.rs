@@ -2,7 +2,9 @@
 use std::hint::black_box;
 use std::time::{Duration, Instant};
 use yovrenik_tests as library;
-use yovrenik_tests::generate::{folding_chain, full_folding, full_standing, largest, last_setting_only, mixed_chain, standing_chain, Random};
+use yovrenik_tests::generate::{
+    folding_chain, full_folding, full_standing, largest, last_setting_only, mirrored, mixed_chain, standing_chain, Random,
+};
 use yovrenik_tests::reference::{self, Net};
 
 /// The least mean time of one call over many short runs, so that other work of the machine counts little; a call that takes long is made
@@ -33,11 +35,19 @@ fn text(t: Duration) -> String {
     }
 }
 
+/// How many times the first the second is.
+fn ratio(first: Duration, second: Duration) -> String {
+    let ratio = second.as_nanos() as f64 / first.as_nanos().max(1) as f64;
+    if ratio < 10.0 {
+        format!("{ratio:.2}")
+    } else {
+        format!("{ratio:.0}")
+    }
+}
+
 /// One row: the library's time, the independent implementation's, and how many times the library's the latter is.
 fn row(name: &str, ours: Duration, theirs: Duration) {
-    let ratio = theirs.as_nanos() as f64 / ours.as_nanos().max(1) as f64;
-    let ratio = if ratio < 10.0 { format!("{ratio:.2}") } else { format!("{ratio:.0}") };
-    println!("| {name} | {} | {} | {ratio} |", text(ours), text(theirs));
+    println!("| {name} | {} | {} | {} |", text(ours), text(theirs), ratio(ours, theirs));
 }
 
 fn file_rows() {
@@ -69,13 +79,27 @@ fn file_rows() {
     row("soundness and frame on a full network (read and frame)", frame, read_too + frame_too);
 }
 
-fn pair_row(n: usize) {
-    let net = last_setting_only(n);
-    let file = reference::write(&net);
+/// The row of a pair of the two gates of a network, and its two times.
+fn pair_row(name: &str, net: &Net) -> (Duration, Duration) {
+    let file = reference::write(net);
+    let (u, v) = (net.inputs as u64, net.inputs as u64 + 1);
     let mut answer = [0u64; 2];
-    let ours = time(|| assert_eq!(library::pair(black_box(&file), n as u64, n as u64 + 1, &mut answer), 16));
-    let theirs = time(|| assert_eq!(reference::pair(black_box(&net), n as u64, n as u64 + 1), Err(16)));
-    row(&format!("pair, {n} distinct feeds, no pair, each disagrees on the last setting only"), ours, theirs);
+    let ours = time(|| assert_eq!(library::pair(black_box(&file), u, v, &mut answer), 16));
+    let theirs = time(|| assert_eq!(reference::pair(black_box(net), u, v), Err(16)));
+    row(name, ours, theirs);
+    (ours, theirs)
+}
+
+fn pair_rows() {
+    let name = |n: usize| format!("pair, {n} distinct feeds, no pair, each disagrees on the last setting only");
+    for n in [8, 10, 12, 14] {
+        pair_row(&name(n), &last_setting_only(n));
+    }
+    // u's complement with the opposite vote: both searches see the same numbers
+    let net = last_setting_only(16);
+    let (ours, theirs) = pair_row(&name(16), &net);
+    let (ours_against, theirs_against) = pair_row("the same, mirrored: u votes against", &mirrored(&net, 16).unwrap());
+    println!("| a vote against to a vote for | {} | {} | |", ratio(ours, ours_against), ratio(theirs, theirs_against));
 }
 
 /// The library's sweep: how many gates it collapses, and its time with the read and the write.
@@ -90,7 +114,7 @@ fn swept(net: &Net) -> (u64, Duration) {
 fn sweep_row(name: &str, net: &Net, folds: u64) {
     let (count, ours) = swept(net);
     let mut same = 0;
-    let theirs = time(|| same = reference::sweep(black_box(net), 128).unwrap().1);
+    let theirs = time(|| same = reference::sweep(black_box(net), 128).unwrap().1.len() as u64);
     assert_eq!((count, same), (folds, folds));
     row(name, ours, theirs);
 }
@@ -105,9 +129,7 @@ fn library_row(name: &str, net: &Net, folds: u64) {
 fn main() {
     println!("| on | library | independent | ratio |\n|---|---|---|---|");
     file_rows();
-    for n in [8, 10, 12, 14, 16] {
-        pair_row(n);
-    }
+    pair_rows();
     sweep_row("sweep of a full network, nothing folds", &full_standing(&mut Random::new(5)), 0);
     sweep_row("sweep of a full network that folds into one gate", &full_folding(), 127);
     for gates in [16, 32, 64, 128] {

@@ -26,6 +26,36 @@ impl Random {
     }
 }
 
+/// How many votes of a network are against, in quarters: none, some, half or all.
+fn quarters_against(r: &mut Random) -> u64 {
+    [0, 1, 2, 4][r.below(4) as usize]
+}
+
+/// A weight of a size, against in so many cases of four.
+fn vote(r: &mut Random, size: i64, against: u64) -> i64 {
+    if r.below(4) < against {
+        -size
+    } else {
+        size
+    }
+}
+
+fn on_scale(z: i64) -> i64 {
+    z.clamp(-1_000_000, 1_000_000)
+}
+
+/// The least and the greatest sum of the feeds that are 1.
+fn ends(feeds: &[(usize, i64)]) -> (i64, i64) {
+    (feeds.iter().map(|f| f.1.min(0)).sum(), feeds.iter().map(|f| f.1.max(0)).sum())
+}
+
+/// The signals in rising order, each once and with a weight.
+fn with_weights(r: &mut Random, mut signals: Vec<usize>, weight: impl Fn(&mut Random) -> i64) -> Vec<(usize, i64)> {
+    signals.sort();
+    signals.dedup();
+    signals.into_iter().map(|s| (s, weight(r))).collect()
+}
+
 fn feeds(r: &mut Random, own: usize, most: u64, weight: impl Fn(&mut Random) -> i64) -> Vec<(usize, i64)> {
     let count = r.below(most.min(own as u64) + 1);
     let mut signals: Vec<usize> = vec![];
@@ -34,45 +64,33 @@ fn feeds(r: &mut Random, own: usize, most: u64, weight: impl Fn(&mut Random) -> 
         let s = if r.below(2) == 0 { r.below(own as u64) as usize } else { own - 1 - r.below(own.min(6) as u64) as usize };
         signals.push(s);
     }
-    signals.sort();
-    signals.dedup();
-    signals
-        .into_iter()
-        .map(|s| loop {
-            let w = weight(r);
-            if w != 0 {
-                break (s, w);
-            }
-        })
-        .collect()
+    with_weights(r, signals, weight)
 }
 
-/// A network of small gates, many of which fold: votes whose thresholds lie near the ends of their sums.
+/// A network of small gates, many of which fold: votes for and against whose thresholds lie near the ends of their sums.
 pub fn network(r: &mut Random, most_gates: u64, most_feeds: u64) -> Net {
     let most_inputs = if r.below(4) == 0 { 40 } else { 6 };
     let inputs = 1 + r.below(most_inputs) as usize;
     let gates = 1 + r.below(most_gates) as usize;
     let mut net = Net { inputs, gates: vec![], outputs: vec![] };
     let style = r.below(4);
+    let against = quarters_against(r);
     for g in 0..gates {
-        let feeds = feeds(r, inputs + g, most_feeds, |r| match style {
-            0 => 1,
-            1 => r.between(1, 4),
-            2 => r.between(-2, 3),
-            _ => {
-                if r.below(20) == 0 {
-                    r.between(-1_000_000, 1_000_000)
-                } else {
-                    r.between(-3, 9)
-                }
-            }
+        let feeds = feeds(r, inputs + g, most_feeds, |r| {
+            let size = match style {
+                0 => 1,
+                1 => r.between(1, 4),
+                2 => r.between(1, 3),
+                _ if r.below(20) == 0 => r.between(1, 1_000_000),
+                _ => r.between(1, 9),
+            };
+            vote(r, size, against)
         });
-        let high: i64 = feeds.iter().map(|f| f.1.max(0)).sum();
-        let low: i64 = feeds.iter().map(|f| f.1.min(0)).sum();
+        let (low, high) = ends(&feeds);
         let threshold = match r.below(4) {
-            0 => high.max(-1_000_000).min(1_000_000),
-            1 => (low + 1).max(-1_000_000).min(1_000_000),
-            _ => r.between((low - 1).max(-1_000_000), (high + 1).min(1_000_000)),
+            0 => on_scale(high),
+            1 => on_scale(low + 1),
+            _ => r.between(on_scale(low - 1), on_scale(high + 1)),
         };
         net.gates.push(Gate { feeds, threshold });
     }
@@ -83,6 +101,139 @@ pub fn network(r: &mut Random, most_gates: u64, most_feeds: u64) -> Net {
         net.outputs.push(inputs + if r.below(3) == 0 { top as usize } else { gates - 1 });
     }
     net
+}
+
+/// A chain: each gate reads the gate before it, a few inputs and now and then the gate before that, for or against, and asks for all of
+/// them or for one. Most gates fold until k or l leaves the dial. Now and then a threshold is off by one: a near miss.
+pub fn chain(r: &mut Random) -> Net {
+    let inputs = 1 + r.below(8) as usize;
+    let gates = 2 + r.below(7) as usize;
+    let largest = [1, 1, 3, 9][r.below(4) as usize];
+    let against = quarters_against(r);
+    let mut net = Net { inputs, gates: vec![], outputs: vec![inputs + gates - 1] };
+    for g in 0..gates {
+        let own = inputs + g;
+        let mut signals: Vec<usize> = (0..r.below(4)).map(|_| r.below(inputs as u64) as usize).collect();
+        if g > 0 {
+            signals.push(own - 1);
+        }
+        if g > 1 && r.below(4) == 0 {
+            signals.push(own - 2);
+        }
+        let feeds = with_weights(r, signals, |r| {
+            let size = r.between(1, largest);
+            vote(r, size, against)
+        });
+        let (low, high) = ends(&feeds);
+        let miss = if r.below(6) == 0 { r.between(-1, 1) } else { 0 };
+        let threshold = miss + if r.below(2) == 0 { high } else { low + 1 };
+        net.gates.push(Gate { feeds, threshold });
+    }
+    net
+}
+
+/// A chain of inverters: each gate is 1 if the gate before it is 0, or now and then another gate below it. The weights go up to 1, 4, 40
+/// or the scale's end, so that pairs have 1 and 1, or more, or there is none.
+pub fn inverters(r: &mut Random) -> Net {
+    let gates = 2 + r.below(9) as usize;
+    let largest = [1, 4, 40, 1_000_000][r.below(4) as usize];
+    let mut net = Net { inputs: 1, gates: vec![], outputs: vec![gates] };
+    for g in 0..gates {
+        let below = if r.below(6) == 0 { r.below(g as u64 + 1) as usize } else { g };
+        let size = r.between(1, largest);
+        net.gates.push(Gate { feeds: vec![(below, -size)], threshold: -r.between(0, size - 1) });
+    }
+    net
+}
+
+/// Two gates, or three, of which the first votes against the second and for or against the third, and which share feeds.
+pub fn against(r: &mut Random) -> Net {
+    let inputs = 1 + r.below(4) as usize;
+    let readers = 1 + r.below(2) as usize;
+    let any_weight = |r: &mut Random| {
+        let size = r.between(1, 4);
+        vote(r, size, 2)
+    };
+    let some_inputs = |r: &mut Random| (0..1 + r.below(inputs as u64)).map(|_| r.below(inputs as u64) as usize).collect();
+    let signals = some_inputs(r);
+    let feeds = with_weights(r, signals, any_weight);
+    let (low, high) = ends(&feeds);
+    let mut net = Net { inputs, gates: vec![Gate { feeds: feeds.clone(), threshold: r.between(low, high + 1) }], outputs: vec![] };
+    for reader in 0..readers {
+        let mut own = if r.below(3) == 0 {
+            // the first gate's own feeds: their weights may cancel
+            feeds.clone()
+        } else {
+            let signals = some_inputs(r);
+            with_weights(r, signals, any_weight)
+        };
+        let size = r.between(1, 6);
+        own.push((inputs, if reader == 0 { -size } else { vote(r, size, 2) }));
+        let (low, high) = ends(&own);
+        net.gates.push(Gate { feeds: own, threshold: r.between(low, high + 1) });
+        net.outputs.push(inputs + 1 + reader);
+    }
+    net
+}
+
+/// Two gates of which the first votes against the second, with numbers that are off the scale, or just not, once they are multiplied.
+pub fn heavy(r: &mut Random) -> Net {
+    let heavy = |r: &mut Random| {
+        let size = on_scale(1_000_000 / r.between(1, 4) + r.between(-1, 1));
+        vote(r, size, 2)
+    };
+    let weight = |r: &mut Random| if r.below(2) == 0 { heavy(r) } else { vote(r, 1, 2) };
+    let threshold = |r: &mut Random, feeds: &[(usize, i64)]| match r.below(5) {
+        0 => on_scale(ends(feeds).0 + 1),
+        1 => on_scale(ends(feeds).1),
+        2 => r.between(0, 1),
+        // 1 less the threshold of the complement
+        3 => on_scale(1 - heavy(r)),
+        _ => heavy(r),
+    };
+    let signals = (0..1 + r.below(2)).map(|_| r.below(2) as usize).collect();
+    let feeds = with_weights(r, signals, weight);
+    let u = Gate { threshold: threshold(r, &feeds), feeds };
+    let signals = (0..r.below(3)).map(|_| r.below(3) as usize).collect();
+    let mut feeds = with_weights(r, signals, weight);
+    feeds.push((3, -weight(r).abs()));
+    let v = Gate { threshold: threshold(r, &feeds), feeds };
+    Net { inputs: 3, gates: vec![u, v], outputs: vec![4] }
+}
+
+/// Two gates with 15, 16 or 17 distinct feeds, each of which asks for all or for one of its feeds; the first votes for or against.
+pub fn wide(r: &mut Random) -> Net {
+    let inputs = 15 + r.below(3) as usize;
+    let split = r.between(2, inputs as i64 - 1) as usize;
+    let mut gate = |signals: Vec<usize>| {
+        let feeds = with_weights(r, signals, |r| vote(r, 1, 2));
+        let (low, high) = ends(&feeds);
+        Gate { threshold: if r.below(2) == 0 { high } else { low + 1 }, feeds }
+    };
+    let gates = vec![gate((0..split).collect()), gate((split..=inputs).collect())];
+    Net { inputs, gates, outputs: vec![inputs + 1] }
+}
+
+/// The network said the other way round: gate u, which is no output, replaced by its complement, and each vote of it by the opposite one,
+/// so that all other gates are as they were. None where a number would leave the scale.
+pub fn mirrored(net: &Net, u: usize) -> Option<Net> {
+    let mut other = net.clone();
+    let gate = &mut other.gates[u - net.inputs];
+    gate.threshold = 1 - gate.threshold;
+    gate.feeds.iter_mut().for_each(|f| f.1 = -f.1);
+    for reader in &mut other.gates {
+        if let Some(feed) = reader.feeds.iter_mut().find(|f| f.0 == u) {
+            reader.threshold -= feed.1;
+            feed.1 = -feed.1;
+        }
+    }
+    other.gates.iter().all(|g| g.threshold == on_scale(g.threshold)).then_some(other)
+}
+
+/// The network with every second gate said the other way round: in a chain, every vote of a gate becomes the opposite one.
+pub fn alternating(net: &Net) -> Net {
+    let gates = (net.inputs..net.inputs + net.gates.len()).step_by(2);
+    gates.filter(|u| !net.outputs.contains(u)).fold(net.clone(), |net, u| mirrored(&net, u).unwrap())
 }
 
 /// A file with some bytes changed, taken away or added.
@@ -124,7 +275,10 @@ pub fn largest(r: &mut Random) -> Net {
             }
         }
         signals.sort();
-        let feeds = signals.into_iter().map(|s| (s, 1 + r.below(1_000_000) as i64)).collect();
+        let feeds = with_weights(r, signals, |r| {
+            let size = r.between(1, 1_000_000);
+            vote(r, size, 1)
+        });
         net.gates.push(Gate { feeds, threshold: 500_000 });
     }
     net.outputs = (0..16).map(|j| inputs + 112 + j).collect();

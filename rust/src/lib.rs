@@ -1,4 +1,4 @@
-//! The proved library as Rust calls it, and an independent implementation of document 01 to compare it with.
+//! The proved library as Rust calls it, and an independent implementation of the papers to compare it with.
 pub mod generate;
 pub mod reference;
 

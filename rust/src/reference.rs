@@ -1,5 +1,5 @@
-//! Document 01 written out as it stands, with no regard for speed: what the library is compared with. It was written from the paper
-//! and shares nothing with the library.
+//! Document 01, as the requests of document 02 that have landed change it, written out as it stands, with no regard for speed: what the
+//! library is compared with. It was written from the papers and shares nothing with the library.
 
 /// A gate: its feeds, each a signal with a weight, and its threshold.
 #[derive(Clone, PartialEq, Eq, Debug)]
@@ -134,13 +134,18 @@ impl Net {
         &self.gates[signal - self.inputs]
     }
 
-    fn readers(&self, signal: usize) -> Vec<usize> {
+    pub fn readers(&self, signal: usize) -> Vec<usize> {
         (self.inputs..self.inputs + self.gates.len()).filter(|&v| self.gate(v).weight(signal).is_some()).collect()
+    }
+
+    /// The readers that a gate votes against.
+    pub fn voted_against(&self, signal: usize) -> Vec<usize> {
+        self.readers(signal).into_iter().filter(|&v| self.gate(v).weight(signal).is_some_and(|b| b < 0)).collect()
     }
 }
 
 impl Gate {
-    fn weight(&self, signal: usize) -> Option<i64> {
+    pub fn weight(&self, signal: usize) -> Option<i64> {
         self.feeds.iter().find(|f| f.0 == signal).map(|f| f.1)
     }
 
@@ -184,9 +189,6 @@ fn edge(net: &Net, u: u64, v: u64) -> Answer<Edge<'_>> {
     let (u, v) = (u as usize, v as usize);
     let (gate_u, gate_v) = (net.gate(u), net.gate(v));
     let b = gate_v.weight(u).ok_or(12)?;
-    if b < 0 {
-        return Err(13);
-    }
     let mut distinct: Vec<usize> = gate_u.feeds.iter().chain(&gate_v.feeds).map(|f| f.0).filter(|&s| s != u).collect();
     distinct.sort();
     distinct.dedup();
@@ -194,9 +196,13 @@ fn edge(net: &Net, u: u64, v: u64) -> Answer<Edge<'_>> {
 }
 
 fn merged(e: &Edge, k: i64, l: i64) -> Answer<Gate> {
-    let weight = |s: usize| k * e.gate_u.weight(s).unwrap_or(0) + l * e.gate_v.weight(s).unwrap_or(0);
+    let (times, threshold) = if e.b < 0 {
+        (-k, k * (1 - e.gate_u.threshold) + l * e.gate_v.threshold)
+    } else {
+        (k, k * e.gate_u.threshold + l * (e.gate_v.threshold - e.b))
+    };
+    let weight = |s: usize| times * e.gate_u.weight(s).unwrap_or(0) + l * e.gate_v.weight(s).unwrap_or(0);
     let feeds: Vec<(usize, i64)> = e.distinct.iter().map(|&s| (s, weight(s))).filter(|f| f.1 != 0).collect();
-    let threshold = k * e.gate_u.threshold + l * (e.gate_v.threshold - e.b);
     if off_scale(threshold) || feeds.iter().any(|f| off_scale(f.1)) {
         return Err(6);
     }
@@ -294,24 +300,24 @@ pub fn collapse(net: &Net, s: u64) -> Answer<Net> {
     Ok(without(&out, u))
 }
 
-/// The network after a sweep, and the number of collapses.
-pub fn sweep(net: &Net, b: u64) -> Answer<(Net, u64)> {
+/// The network after a sweep, and its collapses: for each the network that it got, and the gate's signal.
+pub fn sweep(net: &Net, b: u64) -> Answer<(Net, Vec<(Net, u64)>)> {
     if b > 128 {
         return Err(14);
     }
     let mut net = net.clone();
-    let mut count = 0;
+    let mut collapses = vec![];
     'again: loop {
         for u in net.inputs..net.inputs + net.gates.len() {
             if net.readers(u).len() as u64 <= b {
                 if let Ok(next) = collapse(&net, u as u64) {
+                    collapses.push((net, u as u64));
                     net = next;
-                    count += 1;
                     continue 'again;
                 }
             }
         }
-        return Ok((net, count));
+        return Ok((net, collapses));
     }
 }
 
@@ -377,26 +383,32 @@ pub fn question(first: &Net, second: &Net) -> Answer<Vec<String>> {
 
 // ---- the program
 
-/// What `fold` prints for a file.
-pub fn fold(file: &[u8]) -> String {
-    let net = match read(file) {
-        Ok(net) => net,
-        Err(code) => return format!("refused {code}\n"),
-    };
-    let (after, count) = sweep(&net, 128).unwrap();
+/// What `fold` prints for a network, and for what so many collapses made of it.
+pub fn folded(net: &Net, after: &Net, collapses: usize) -> String {
     let mut out = format!(
-        "gates {} {}\ncost {} {}\nlevels {} {}\nfolded {count}\n",
+        "gates {} {}\ncost {} {}\nlevels {} {}\nfolded {collapses}\n",
         net.gates.len(),
         after.gates.len(),
-        cost(&net),
-        cost(&after),
-        levels(&net),
-        levels(&after),
+        cost(net),
+        cost(after),
+        levels(net),
+        levels(after),
     );
-    for line in question(&net, &after).unwrap() {
+    for line in question(net, after).unwrap() {
         out += &line;
     }
     out
+}
+
+/// What `fold` prints for a file.
+pub fn fold(file: &[u8]) -> String {
+    match read(file) {
+        Ok(net) => {
+            let (after, collapses) = sweep(&net, 128).unwrap();
+            folded(&net, &after, collapses.len())
+        }
+        Err(code) => format!("refused {code}\n"),
+    }
 }
 
 #[cfg(test)]
@@ -433,5 +445,7 @@ mod tests {
         let p11 = net(&[(0, 1), (1, 1)], 1, &[(0, 1), (3, 1)], 2);
         assert_eq!(merge(&p11, 3, 4, 1, 1).unwrap().gates[1], Gate { feeds: vec![(0, 2), (1, 1)], threshold: 2 });
         assert_eq!((frame(&f, 7), frame(&f, 8)), (Ok((1, 1)), Err(10)));
+        let against = net(&[(0, 1), (1, 1)], 2, &[(3, -1)], 0);
+        assert_eq!(merge(&against, 3, 4, 1, 1).unwrap().gates[1], Gate { feeds: vec![(0, -1), (1, -1)], threshold: -1 });
     }
 }

@@ -2,8 +2,8 @@
 //! damaged, overlong and empty files.
 use std::io::Write;
 use std::process::{Command, Stdio};
-use yovrenik_tests::generate::{damaged, folding_chain, largest, network, Random};
-use yovrenik_tests::reference as paper;
+use yovrenik_tests::generate::{alternating, chain, damaged, folding_chain, inverters, largest, network, Random};
+use yovrenik_tests::reference::{self as paper, Net};
 
 /// What the program prints for a file on standard input.
 fn printed(file: &[u8]) -> String {
@@ -20,11 +20,18 @@ fn agrees(file: &[u8]) {
     assert_eq!(printed(file), paper::fold(file), "{file:?}");
 }
 
+/// The same for the file of a network; the answer is how many gates that vote against a reader are folded.
+fn agrees_on(net: &Net) -> usize {
+    let (after, collapses) = paper::sweep(net, 128).unwrap();
+    assert_eq!(printed(&paper::write(net)), paper::folded(net, &after, collapses.len()), "{net:?}");
+    collapses.iter().filter(|(before, u)| !before.voted_against(*u as usize).is_empty()).count()
+}
+
 #[test]
 fn samples() {
     let folder = concat!(env!("CARGO_MANIFEST_DIR"), "/../samples");
     let files: Vec<_> = std::fs::read_dir(folder).unwrap().map(|f| f.unwrap().path()).filter(|p| p.extension().is_some_and(|e| e == "pmn")).collect();
-    assert!(files.len() >= 5);
+    assert!(files.len() >= 6);
     for path in files {
         agrees(&std::fs::read(path).unwrap());
     }
@@ -33,11 +40,18 @@ fn samples() {
 #[test]
 fn random_networks() {
     let mut r = Random::new(21);
-    for _ in 0..200 {
-        let file = paper::write(&network(&mut r, 20, 6));
-        agrees(&file);
-        agrees(&damaged(&mut r, &file));
+    let mut against = 0;
+    for round in 0..200 {
+        let net = match round % 8 {
+            0 | 1 => chain(&mut r),
+            2 => inverters(&mut r),
+            _ => network(&mut r, 16, 5),
+        };
+        against += agrees_on(&net);
+        agrees(&damaged(&mut r, &paper::write(&net)));
     }
+    println!("{against} gates that voted against a reader were folded");
+    assert!(against >= 300);
 }
 
 #[test]
@@ -45,6 +59,8 @@ fn ends_of_the_format() {
     agrees(b"");
     agrees(b"PMN");
     agrees(&paper::write(&folding_chain(128)));
+    // half of it with every vote of a gate against
+    assert_eq!(agrees_on(&alternating(&folding_chain(64))), 63);
     // the largest file, whose gates are too wide to fold, one byte less, and with a tail of several lengths
     let file = paper::write(&largest(&mut Random::new(3)));
     assert_eq!(file.len(), 10_904);

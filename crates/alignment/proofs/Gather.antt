@@ -14,9 +14,8 @@ use Rattle.integers.specs.ListLaws.{length-keep, length-range, range-more, getD
 use Rattle.network.specs.Threshold.{Feed}
 use Rattle.network.specs.Limits.{isZero}
 use Rattle.folding.specs.Merge.{Edge, weightOf, among, distinct}
-use Rattle.folding.specs.Aligned.{edgeThresholds, aligned}
 use Rattle.folding.specs.AlignedLaws.{EdgeOk, reads-weight, u-apart}
-use Rattle.alignment.specs.Alignments.{weightTable, alignmentOf}
+use Rattle.alignment.specs.Alignments.{weightTable, withU}
 use Rattle.integers.specs.PlaceLaws.{set-tab, keep-last, places-none, places-last, places-full, placed-last, placed-full}
 use Rattle.alignment.specs.declared.Alignment.{Alignment}
 
@@ -123,6 +122,6 @@ module _ (e : Edge) where
 
   -- below v there are all
   pub listed-all : (count : ℕ) (signals : List ℕ) (us vs : List ℤ) → Listed e (e .v) count signals us vs
-      → _≡_ {A = Alignment} (record { count = count; signals = signals; us = us; vs = vs; thresholds = edgeThresholds e }) (alignmentOf e)
-  unfolding alignmentOf aligned distinct
-  listed-all count signals us vs l = λ j. record { count = l .counted j; signals = l .named j; us = l .in-u j; vs = l .in-v j; thresholds = edgeThresholds e }
+      → _≡_ {A = Alignment} (record { count = count; signals = signals; us = us; vs = vs; thresholds = withU e .thresholds }) (withU e)
+  unfolding withU distinct
+  listed-all count signals us vs l = λ j. record { count = l .counted j; signals = l .named j; us = l .in-u j; vs = l .in-v j; thresholds = withU e .thresholds }

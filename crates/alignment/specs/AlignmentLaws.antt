@@ -1,23 +1,26 @@
 -- Laws of the record of two gates by their distinct feeds: what it stands for, and that its merged gate is that of document 01.
 -- Assumes nothing.
-use mathlib.Core.Path.{_≡_, sym, ap, ap₂, _∙_, subst}
-use mathlib.Core.List.{List, map}
+use mathlib.Core.Path.{_≡_, refl, sym, ap, ap₂, _∙_, subst}
+use mathlib.Core.Bool.{true, false}
+use mathlib.Core.List.{List, [], _∷_, map}
 use Prim.Native.Nat.{ℕ, _≤_, _<_}
 use native.Mathlib.Decide.{decLt}
 use native.Mathlib.Omega.{arith}
 use lib.Dec.{T}
-use lib.IntN.{ℤ, pos, natAbs}
+use lib.IntN.{ℤ, pos, natAbs, negℤ}
+use lib.Signed.{leZ}
 use lib.ListN.{length, getD, take, length-map, List·getD-map, List·getD-eq-default}
-use Rattle.integers.specs.Lists.{keep, places}
+use Rattle.integers.specs.Lists.{keep, tab, places}
 use Rattle.integers.specs.ListLaws.{tab-of, tab-same}
-use Rattle.network.specs.Threshold.{Gate}
+use Rattle.network.specs.Threshold.{Feed, negated, Gate}
 use Rattle.network.specs.Limits.{signalsOf, scaleOk}
 use Rattle.network.specs.Record.{noFeed, gateRecord}
-use Rattle.folding.specs.Merge.{Edge, weightOf, distinct, mergedFeed, stays, mergedThreshold, merged}
+use Rattle.folding.specs.Merge.{Edge, weightOf, feedWeight, distinct, complement, votesFor, voter, whereOn, whereOff, mergedFeed, stays, mergedThreshold, merged}
 use Rattle.folding.specs.Aligned.{Aligned, edgeThresholds, aligned, mix, mixedThreshold, mixedWeight}
-use Rattle.folding.specs.AlignedLaws.{EdgeOk, scaleOk-fits, us-length, vs-length, aligned-small}
-use Rattle.alignment.specs.Alignments.{alignmentOf, alignedIn, mixedFeed, mergedOf, Small, Fair, Searchable, Mergeable}
-use Rattle.integers.specs.TableLaws.{getD-map}
+use Rattle.folding.specs.AlignedLaws.{EdgeOk, scaleOk-fits, us-length, vs-length, fed-small, aligned-small, vote-for}
+use Rattle.folding.specs.WeightLaws.{weight-negated}
+use Rattle.alignment.specs.Alignments.{alignmentOf, withU, complementIn, alignedIn, mixedFeed, mergedOf, Small, Fair, Searchable, Mergeable}
+use Rattle.integers.specs.TableLaws.{getD-map, map-tab}
 use Rattle.integers.specs.PlaceLaws.{length-places, getD-places, take-places}
 
 -- the record of an edge with at most 16 distinct feeds stands for its two gates
@@ -34,7 +37,7 @@ unfolding mixedFeed mergedFeed mixedWeight aligned alignmentOf
 feed-is e k l h i n =
     let s = getD-places 16 0 (distinct e) i (omega arith) in
     let m = ap (λ (a : Aligned). mixedWeight a k l i) (aligned-in e h) in
-    let f = getD-map (λ x. weightOf x (e .gateU .feeds)) (distinct e) i 0 (pos 0) n in
+    let f = getD-map (λ x. weightOf x (voter e .feeds)) (distinct e) i 0 (pos 0) n in
     let g = getD-map (λ x. weightOf x (e .gateV .feeds)) (distinct e) i 0 (pos 0) n in
     let w = m ∙ ap₂ (mix k l) f g in
     (λ j. record { signal = s j; weight = w j }) ∙ sym (getD-map (mergedFeed e k l) (distinct e) i 0 noFeed n)
@@ -47,6 +50,34 @@ merged-is e k l h =
     (λ i n. feed-is e k l h i (omega (arith, n, length-map (distinct e) (mergedFeed e k l)))) in
     λ j. record { feeds = keep stays (feeds j); threshold = mixedThreshold (aligned e .thresholds) k l }
 
+-- ---- the gate that votes
+
+-- minus each number of a list's places
+places-negated : (fs : List Feed) (ds : List ℕ) → places 16 (pos 0) (map (λ x. weightOf x (map negated fs)) ds) ≡ map negℤ (places 16 (pos 0) (map (λ x. weightOf x fs) ds))
+unfolding places
+places-negated fs ds =
+    ap (λ (ws : List ℤ). tab 16 (λ i. getD ws i (pos 0))) (list-ext ds)
+    ∙ tab-same 16 _ _ (λ i h. List·getD-map negℤ (map (λ x. weightOf x fs) ds) i (pos 0))
+    ∙ sym (map-tab negℤ 16 (λ i. getD (map (λ x. weightOf x fs) ds) i (pos 0)))
+  where
+    list-ext : (xs : List ℕ) → map (λ x. weightOf x (map negated fs)) xs ≡ map negℤ (map (λ x. weightOf x fs) xs)
+    list-ext [] = refl
+    list-ext (x ∷ xs) = ap₂ (λ (z : ℤ) (zs : List ℤ). z ∷ zs) (weight-negated x fs) (list-ext xs)
+
+-- where b is not negative, u votes; else its complement
+pub for-u : (e : Edge) → votesFor e ≡ true → alignmentOf e ≡ withU e
+unfolding alignmentOf withU aligned edgeThresholds voter whereOn whereOff
+for-u e h = rw h
+
+pub against-u : (e : Edge) → votesFor e ≡ false → alignmentOf e ≡ complementIn (withU e)
+unfolding alignmentOf withU complementIn aligned edgeThresholds voter whereOn whereOff complement
+against-u e h = rw (h, places-negated (e .gateU .feeds) (distinct e))
+
+-- the sign of b, by the two thresholds
+pub sign-is : (e : Edge) → votesFor e ≡ leZ (withU e .thresholds .on) (withU e .thresholds .off)
+unfolding votesFor withU
+sign-is e = vote-for (e .gateV .threshold) (feedWeight e)
+
 -- ---- what callers have tested
 
 -- a spare place holds 0, so no place holds more than the list
@@ -56,7 +87,18 @@ places-small n xs h i = elim (decLt i 16) as (λ d. natAbs (getD (places 16 (pos
   | no k ↦ rw (List·getD-eq-default (places 16 (pos 0) xs) (pos 0) {n = i} (omega (arith, length-places 16 (pos 0) xs))) (omega arith)
 ]
 
--- two gates within the limits have numbers that can be added
+-- two gates within the limits have numbers that can be added, whichever gate votes
+pub withU-fair : (e : Edge) → EdgeOk e → Fair (withU e)
+unfolding withU
+withU-fair e ok =
+    let s = fed-small e ok in
+    record {
+      placed = omega (arith, length-places 16 (pos 0) (map (λ x. weightOf x (e .gateU .feeds)) (distinct e)));
+      us-small = places-small 1000000 _ (s .us);
+      vs-small = places-small 1000000 _ (s .vs);
+      near = record { own-small = s .own; on-small = s .on; off-small = s .off };
+    }
+
 pub aligned-fair : (e : Edge) → EdgeOk e → Fair (alignmentOf e)
 unfolding alignmentOf
 aligned-fair e ok =

@@ -2,13 +2,13 @@
 use mathlib.Core.List.{List, map}
 use Prim.Native.Nat.{ℕ, _≤_}
 use lib.Dec.{T}
-use lib.IntN.{ℤ, pos, natAbs}
+use lib.IntN.{ℤ, pos, natAbs, negℤ, _-ℤ_}
 use lib.ListN.{length, getD, take}
 use Rattle.integers.specs.Lists.{keep, range, tab, places}
 use Rattle.network.specs.Threshold.{Feed, Gate}
 use Rattle.network.specs.Record.{gateIn}
 use Rattle.network.specs.declared.GateRecord.{GateRecord}
-use Rattle.folding.specs.Merge.{Edge, edgeOf, weightOf, distinct, stays}
+use Rattle.folding.specs.Merge.{Edge, edgeOf, weightOf, feedWeight, distinct, stays}
 use Rattle.folding.specs.Aligned.{Aligned, aligned, mixedThreshold, mixedWeight, scaleFits}
 use Rattle.folding.specs.AlignedLaws.{EdgeOk}
 use Rattle.folding.specs.declared.Thresholds.{Thresholds}
@@ -35,6 +35,26 @@ alignmentOf e = record {
   us = places 16 (pos 0) (aligned e .us);
   vs = places 16 (pos 0) (aligned e .vs);
   thresholds = aligned e .thresholds;
+}
+
+-- the same with u itself as the gate that votes, whatever the sign of b
+unfoldable pub withU : Edge → Alignment
+withU e = record {
+  count = length (distinct e);
+  signals = places 16 0 (distinct e);
+  us = places 16 (pos 0) (map (λ s. weightOf s (e .gateU .feeds)) (distinct e));
+  vs = places 16 (pos 0) (map (λ s. weightOf s (e .gateV .feeds)) (distinct e));
+  thresholds = record { own = e .gateU .threshold; on = e .gateV .threshold -ℤ feedWeight e; off = e .gateV .threshold };
+}
+
+-- the complement of the gate that votes in its place
+unfoldable pub complementIn : Alignment → Alignment
+complementIn a = record {
+  count = a .count;
+  signals = a .signals;
+  us = map negℤ (a .us);
+  vs = a .vs;
+  thresholds = record { own = pos 1 -ℤ a .thresholds .own; on = a .thresholds .off; off = a .thresholds .on };
 }
 
 -- what a record stands for

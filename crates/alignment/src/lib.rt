@@ -1,7 +1,8 @@
 // The two gates of a merge by their distinct feeds, and the merged gate made from them.
 use folding::Thresholds;
 
-// The number of distinct feeds, the first 16 of them, u's and v's weights on each, and the two gates' thresholds. Spare places hold 0.
+// The number of distinct feeds, the first 16 of them, the weights on each of the gate that votes (u, or its complement) and of v, and the
+// two gates' thresholds. Spare places hold 0.
 pub struct Alignment {
     pub count: usize,
     pub signals: [u8; 16],

@@ -7,12 +7,15 @@ use integers::widened;
 use network::GateRecord;
 ghost use mathlib.Core.Path.{_≡_};
 ghost use mathlib.Core.Bool.{not, _||_};
+ghost use mathlib.Core.List.{map};
 ghost use Prim.Native.Nat.{_≤_};
 ghost use lib.Dec.{T};
+ghost use lib.IntN.{negℤ};
+ghost use lib.ListN.{length};
 ghost use Rattle.network.specs.Limits.{isZero, inScale};
 ghost use Rattle.network.specs.Record.{gateIn, gateRecord};
 ghost use Rattle.folding.specs.Aligned.{mix};
-ghost use Rattle.alignment.specs.Alignments.{weightTable, edgeBetween, Alignable, alignmentOf, Mixable, mergedOf, Mergeable};
+ghost use Rattle.alignment.specs.Alignments.{weightTable, edgeBetween, Alignable, withU, complementIn, alignmentOf, Small, Fair, Mixable, mergedOf, Mergeable};
 
 // The weight of each signal, 0 where it is no feed. The last feed is stored first.
 fn spread(gate: GateRecord) -> [i32; 256]
@@ -36,11 +39,11 @@ fn either(x: i32, y: i32) -> bool
     (magnitude(x) != 0) | (magnitude(y) != 0)
 }
 
-// Two gates by their distinct feeds: all are counted, and the first 16 listed. u is none of them, so its weight in v is taken out
-// before.
-pub fn align(gate_u: GateRecord, gate_v: GateRecord, u: usize, v: usize) -> Alignment
+// Two gates by their distinct feeds, u itself being the gate that votes: all feeds are counted, and the first 16 listed. u is none of
+// them, so its weight in v is taken out before.
+fn align_with_u(gate_u: GateRecord, gate_v: GateRecord, u: usize, v: usize) -> Alignment
     requires { ⌜ Alignable (edgeBetween «gate_u» «gate_v» u v) ⌝ }
-    ensures { λ r. ⌜ r ≡ alignmentOf (edgeBetween «gate_u» «gate_v» u v) ⌝ }
+    ensures { λ r. ⌜ r ≡ withU (edgeBetween «gate_u» «gate_v» u v) ⌝ }
 {
     let in_u = spread(gate_u);
     let mut in_v = spread(gate_v);
@@ -73,6 +76,57 @@ pub fn align(gate_u: GateRecord, gate_v: GateRecord, u: usize, v: usize) -> Alig
         vs,
         thresholds,
     }
+}
+
+// Minus each number.
+fn negated(numbers: &[i32; 16]) -> [i32; 16]
+    requires { ⌜ Small 1000000 (now numbers) × (length (now numbers) ≡ 16) ⌝ }
+    ensures { λ r. ⌜ r ≡ map negℤ (now (numbers .entry)) ⌝ }
+{
+    let mut result = [0i32; 16];
+    let mut i: usize = 0;
+    while i < 16 {
+        let number = 0 - numbers[i];
+        result[i] = number;
+        i = i + 1;
+    }
+    result
+}
+
+// The same two gates with the complement as the gate that votes.
+fn complemented(a: Alignment) -> Alignment
+    requires { ⌜ Fair a ⌝ }
+    ensures { λ r. ⌜ r ≡ complementIn a ⌝ }
+{
+    let count = a.count;
+    let signals = a.signals;
+    let us = negated(&a.us);
+    let vs = a.vs;
+    let t = a.thresholds;
+    let own = 1 - t.own;
+    let on = t.off;
+    let off = t.on;
+    let thresholds = Thresholds { own, on, off };
+    Alignment {
+        count,
+        signals,
+        us,
+        vs,
+        thresholds,
+    }
+}
+
+// Two gates by their distinct feeds. Where u's vote would raise what v's other feeds must reach, its complement votes.
+pub fn align(gate_u: GateRecord, gate_v: GateRecord, u: usize, v: usize) -> Alignment
+    requires { ⌜ Alignable (edgeBetween «gate_u» «gate_v» u v) ⌝ }
+    ensures { λ r. ⌜ r ≡ alignmentOf (edgeBetween «gate_u» «gate_v» u v) ⌝ }
+{
+    let a = align_with_u(gate_u, gate_v, u, v);
+    let t = a.thresholds;
+    if t.on <= t.off {
+        return a;
+    }
+    complemented(a)
 }
 
 // k times x plus l times y.

@@ -30,7 +30,7 @@ use Rattle.folding.specs.Merge.{reads}
 use Rattle.folding.specs.Pair.{Pair, pair}
 use Rattle.merging.specs.Answers.{onRecord, asPair, pairFound}
 use Rattle.folding.specs.RefusalLaws.{Numbered}
-use Rattle.folding.specs.PairLaws.{pair-numbered}
+use Rattle.folding.specs.NumberLaws.{pair-numbered}
 use Rattle.merging.specs.declared.PairFound.{PairFound}
 use Rattle.report.specs.Size.{cost, levels, reportOf, reported}
 use Rattle.report.specs.declared.SizeReport.{SizeReport}

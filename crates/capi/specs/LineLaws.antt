@@ -14,7 +14,7 @@ use Rattle.network.specs.Sound.{Sound}
 use Rattle.network.specs.Record.{layout, soundRecord}
 use Rattle.network.specs.RecordLaws.{netOf-layout, sound-layout}
 use Rattle.network.specs.declared.Network.{Network}
-use Rattle.folding.specs.RefusalLaws.{Numbered, checks-numbered}
+use Rattle.folding.specs.RefusalLaws.{Numbered, checks-never}
 use Rattle.constraints.specs.Question.{question, alike}
 use Rattle.constraints.specs.Text.{questionText}
 use Rattle.question.specs.Answers.{lineAnswer, asLineWritten}
@@ -60,6 +60,6 @@ line-answer n out lent a b e d =
     let x = checks (lineTests N M n (length out)) (accepted (questionText N M n)) in
     let same = (λ i. lineAnswer (a .laid i) (b .laid i) n (length out)) ∙ line-layout N M (a .sound) (b .sound) n (length out) in
     let left = e ∙ ap asLineWritten same in
-    let numbered : Numbered x = checks-numbered (lineTests N M n (length out)) (accepted (questionText N M n)) (omega arith, (omega arith, (omega arith, tt))) tt in
+    let numbered : Numbered x = checks-never 0 (lineTests N M n (length out)) (accepted (questionText N M n)) (omega arith, (omega arith, (omega arith, tt))) tt in
     wrote-same (read-on a _ ∙ open-on b _) (ap (λ (z : LineWritten). z .code) left) (ap (λ (z : LineWritten). z .length) left)
     (d ∙ ap (λ (z : Answer (List ℕ)). stored z out) same) (line-gives x numbered out lent)

@@ -23,8 +23,9 @@ use Rattle.folding.specs.Merge.{Edge, edgeOf, silent, reads, merged, narrow}
 use Rattle.folding.specs.Pair.{Pair, qualifies, pairOf}
 use Rattle.folding.specs.Collapse.{fuse, fuseAll}
 use Rattle.folding.specs.RefusalLaws.{Numbered}
+use Rattle.folding.specs.NumberLaws.{pairOf-numbered}
 use Rattle.folding.specs.SoundLaws.{merged-ok, reader-above}
-use Rattle.folding.specs.PairLaws.{qualified-of, dial-of, pairOf-found, pairOf-numbered}
+use Rattle.folding.specs.PairLaws.{qualified-of, dial-of, pairOf-found}
 use Rattle.merging.specs.Answers.{asPair}
 use Rattle.collapse.specs.Fusing.{folded, edgeTo, noPair, readerPair, fused, fusion, pairAt, AllPairs, ReaderPairs, TriedPairs, fusedGates, foldedBy}
 use Rattle.merging.specs.declared.PairFound.{PairFound}

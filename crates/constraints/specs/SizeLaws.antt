@@ -13,11 +13,11 @@ use Rattle.integers.specs.Lists.{all, range, Each}
 use Rattle.integers.specs.ListLaws.{each-of, each-imp, each-getD, length-range}
 use Rattle.integers.specs.SizeLaws.{size-neg, size-add, size-sub}
 use Rattle.integers.specs.TestLaws.{T-and}
-use Rattle.network.specs.Threshold.{Feed, Gate, Net}
+use Rattle.network.specs.Threshold.{Feed, negated, Gate, Net}
 use Rattle.network.specs.Limits.{signalsOf, inScale, weightOk, scaleOk}
 use Rattle.network.specs.Sound.{GateOk, Gates, Has, Sound}
 use Rattle.network.specs.LimitLaws.{rise-below}
-use Rattle.constraints.specs.Question.{Line, most, least, term, negated, upper, lower, secondVariable, overGate, gateLines, someLine, notBothLine, outputLines, lastLine, firstDifference, question, variables}
+use Rattle.constraints.specs.Question.{Line, most, least, term, upper, lower, secondVariable, overGate, gateLines, someLine, notBothLine, outputLines, lastLine, firstDifference, question, variables}
 use Rattle.constraints.specs.Text.{termsText, lineText, noLine, variableWord, constraintWord, headerText, questionText}
 use Rattle.constraints.specs.Demand.{Named}
 use Rattle.constraints.specs.Stretches.{secondOf, firstLines, secondLines, pairLines, lastOf}

@@ -6,7 +6,7 @@ use Rattle.integers.specs.Refusals.{Passed}
 use Rattle.network.specs.Threshold.{Net}
 use Rattle.network.specs.Limits.{scaleOk, isGate, sound}
 use Rattle.network.specs.Changes.{gateAt}
-use Rattle.folding.specs.Merge.{Edge, edge, reads, merged, onDial, withGrain, narrow, feedTests, limits}
+use Rattle.folding.specs.Merge.{Edge, edge, reads, merged, onDial, narrow, feedTests, limits}
 use Rattle.folding.specs.Pair.{pairTests}
 
 -- ---- two gates of a sound network, of which u feeds v
@@ -27,16 +27,15 @@ of-fed N u v f = (f .is-sound, (and-T (isGate N u) (isGate N v) (f .u-gate) (f .
 
 -- ---- two gates whose pair is searched for
 pub record Searched (e : Edge) : Type 0 where
-  pub with-grain : T (withGrain e)
   pub is-narrow : T (narrow e)
 
 pub searched-of : (e : Edge) → Passed (pairTests e) → Searched e
 unfolding pairTests
-searched-of e p = record { with-grain = p .0; is-narrow = p .1 .0 }
+searched-of e p = record { is-narrow = p .0 }
 
 pub of-searched : (e : Edge) → Searched e → Passed (pairTests e)
 unfolding pairTests
-of-searched e s = (s .with-grain, (s .is-narrow, tt))
+of-searched e s = (s .is-narrow, tt)
 
 -- ---- a merge within the limits
 pub record Limited (N : Net) (u v k l : ℕ) : Type 0 where
@@ -50,13 +49,13 @@ pub limited-of : (N : Net) (u v k l : ℕ) → Passed (limits N u v k l) → Lim
 unfolding limits
 limited-of N u v k l p =
     let g = T-and (isGate N u) (isGate N v) (p .1 .0) in
-    let d = T-and (onDial k) (onDial l) (p .1 .1 .1 .1 .0) in
+    let d = T-and (onDial k) (onDial l) (p .1 .1 .1 .0) in
     record {
       fed = record { is-sound = p .0; u-gate = g .0; v-gate = g .1; joined = p .1 .1 .0 };
-      searched = record { with-grain = p .1 .1 .1 .0; is-narrow = p .1 .1 .1 .1 .1 .0 };
+      searched = record { is-narrow = p .1 .1 .1 .1 .0 };
       k-dial = d .0;
       l-dial = d .1;
-      scaled = p .1 .1 .1 .1 .1 .1 .0;
+      scaled = p .1 .1 .1 .1 .1 .0;
     }
 
 pub of-limited : (N : Net) (u v k l : ℕ) → Limited N u v k l → Passed (limits N u v k l)
@@ -65,5 +64,5 @@ of-limited N u v k l h =
     let f = h .fed in
     let s = h .searched in (
       f .is-sound,
-      (and-T (isGate N u) (isGate N v) (f .u-gate) (f .v-gate), (f .joined, (s .with-grain, (and-T (onDial k) (onDial l) (h .k-dial) (h .l-dial), (s .is-narrow, (h .scaled, tt)))))),
+      (and-T (isGate N u) (isGate N v) (f .u-gate) (f .v-gate), (f .joined, (and-T (onDial k) (onDial l) (h .k-dial) (h .l-dial), (s .is-narrow, (h .scaled, tt))))),
     )

@@ -4,3 +4,5 @@ pub mod Lists
 pub mod Questions
 pub mod QuestionLaws
 pub mod ListLaws
+pub mod Thirteen
+pub mod ThirteenLaws

@@ -13,6 +13,7 @@ ghost use Rattle.folding.specs.declared.Call.{Call};
 ghost use Rattle.guarantees.specs.Files.{Accepted, SoundIsDescribed, WrittenIsRead, ReadIsWritten};
 ghost use Rattle.guarantees.specs.Questions.{Questions};
 ghost use Rattle.guarantees.specs.Lists.{ListClaim};
+ghost use Rattle.guarantees.specs.Thirteen.{NeverThirteen};
 
 // A record is sound exactly when some file's reading gives it.
 pub fn sound_is_described(network: Network)
@@ -52,7 +53,12 @@ pub fn pairs_are_least()
     ensures { λ _. ⌜ ((net : Net) (u v : ℕ) → PairClaim net u v) ⌝ }
 {}
 
-// The bench gates P1 to P11: what the definitions say is what the paper says.
+// Document 02, No. 2: no merge, pair, drop, collapse, sweep or call of a list answers 13, on any record and with any numbers.
+pub fn thirteen_is_never_given(network: Network)
+    ensures { λ _. ⌜ NeverThirteen network ⌝ }
+{}
+
+// The bench gates P1 to P11 and the example of document 02, No. 2: what the definitions say is what the papers say.
 pub fn bench_gates()
     ensures { λ _. ⌜ map (λ row. reply (row .ask)) bench ≡ map (λ row. row .want) bench ⌝ }
 {}

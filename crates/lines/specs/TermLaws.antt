@@ -12,11 +12,11 @@ use Rattle.integers.specs.Lists.{range, places}
 use Rattle.integers.specs.ListLaws.{each-getD, length-range, range-more}
 use Rattle.integers.specs.PlaceLaws.{places-none, getD-places, placed-last}
 use Rattle.integers.specs.TableLaws.{getD-map}
-use Rattle.network.specs.Threshold.{Feed, Gate}
+use Rattle.network.specs.Threshold.{Feed, negated, Gate}
 use Rattle.network.specs.Record.{feedAt, feedsFrom, gateIn, noFeed}
 use Rattle.network.specs.PlaceLaws.{length-feeds, feeds-at, feeds-back}
 use Rattle.network.specs.declared.GateRecord.{GateRecord}
-use Rattle.constraints.specs.Question.{Line, term, most, least, negated, upper, lower, overGate, someLine, notBothLine, lastLine}
+use Rattle.constraints.specs.Question.{Line, term, most, least, upper, lower, overGate, someLine, notBothLine, lastLine}
 use Rattle.lines.specs.declared.LineRecord.{LineRecord}
 use Rattle.lines.specs.Lines.{lineIn, lineRecord, Stands, Extendable, noTerms, extended, feedTerm, feedTerms, sidePart, oneSided, InLimits, threeTerms}
 use Rattle.lines.specs.FeedLaws.{feeds-none, feeds-more}

@@ -5,13 +5,13 @@ use mathlib.Core.List.{List, [], _∷_}
 use Prim.Native.Nat.{ℕ, _≤_}
 use lib.Dec.{T, leb, leb→le}
 use lib.ListN.{length}
-use Rattle.integers.specs.Refusals.{Answer, refused, Test, _else_, checks}
+use Rattle.integers.specs.Refusals.{Answer, Test, _else_, checks}
 use Rattle.network.specs.Limits.{scaleOk}
 use Rattle.network.specs.Record.{gateRecord}
 use Rattle.folding.specs.Merge.{Edge, distinct, merged, agrees, onDial, narrow}
-use Rattle.folding.specs.Pair.{Pair, pairs, qualifies, first, pairTests, pairOf}
-use Rattle.folding.specs.Aligned.{Aligned, aligned, votesFor, qualifiesOn}
-use Rattle.folding.specs.AlignedLaws.{EdgeOk, scaleOk-fits, grain-on, agrees-all, first-on}
+use Rattle.folding.specs.Pair.{pairs, qualifies, first, pairTests, pairOf}
+use Rattle.folding.specs.Aligned.{Aligned, qualifiesOn}
+use Rattle.folding.specs.AlignedLaws.{EdgeOk, scaleOk-fits, agrees-all, first-on}
 use Rattle.folding.specs.PairLaws.{qualified-of, dial-of}
 use Rattle.folding.specs.StepLaws.{narrow-few}
 use Rattle.alignment.specs.Alignments.{alignmentOf, alignedIn, mergedOf, Mergeable}
@@ -41,15 +41,11 @@ module _ (e : Edge) (ok : EdgeOk e) where
 
   pub tests-on : (k l : ℕ) → firstFailing (mergeTestsOn (alignmentOf e) k l) ≡ firstFailing (mergeTests e k l)
   unfolding firstFailing mergeTestsOn mergeTests narrow alignmentOf
-  tests-on k l = rw (grain-on e)
-      (ap (λ (n : ℕ). cond (votesFor (aligned e .thresholds)) (cond (onDial k && onDial l) n 14) 13)
-      (after-test (leb (length (distinct e)) 16) 7 (λ t. fit-is (leb→le (length (distinct e)) 16 t) k l)))
+  tests-on k l = ap (λ (n : ℕ). cond (onDial k && onDial l) n 14) (after-test (leb (length (distinct e)) 16) 7 (λ t. fit-is (leb→le (length (distinct e)) 16 t) k l))
 
   pub pair-on : pairOn (alignmentOf e) ≡ pairOf e
-  unfolding pairOn pairOf pairTests narrow alignmentOf checks
-  pair-on = rw (grain-on e)
-      (ap (λ (r : Answer Pair). cond (votesFor (aligned e .thresholds)) r (refused 13))
-      (after-checks (leb (length (distinct e)) 16) 7 (λ t. first-is (leb→le (length (distinct e)) 16 t))))
+  unfolding pairOn pairOf pairTests narrow alignmentOf
+  pair-on = after-checks (leb (length (distinct e)) 16) 7 (λ t. first-is (leb→le (length (distinct e)) 16 t))
 
 -- ---- the merged gate of k and l that qualify
 module _ (e : Edge) (ok : EdgeOk e) (k l : ℕ) (t : T (narrow e)) where

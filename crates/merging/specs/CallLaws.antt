@@ -95,7 +95,7 @@ module _ (r : Network) (s : soundRecord r ≡ true) (u v : ℕ) where
       merge-joined k l = merge-sound k l ∙ ap (asChanged r) (passed-checks (edgeTests (netOf r) u v) _ feeds
           ∙ ap (λ (e : Edge). checks (mergeTests e k l) (accepted (withGate (netOf r) v (merged e k l)))) (sym here-is))
 
-      -- 13, 14, 7, 6 or 15
+      -- 14, 7, 6 or 15
       pub merge-refused : (k l m : ℕ) → m ≡ firstFailing (mergeTests here k l) → (m ≡ 0 → ⊥) → mergedRecord r u v k l ≡ asChanged r (refused m)
       merge-refused k l m e h = merge-joined k l ∙ ap (asChanged r) (code-refused (mergeTests here k l) _ (λ z. h (e ∙ z)) ∙ ap refused (sym e))
 
@@ -105,7 +105,7 @@ module _ (r : Network) (s : soundRecord r ≡ true) (u v : ℕ) where
 -- ---- where the tests of a merge hold
 pub merge-passed : (e : Edge) (k l m : ℕ) → m ≡ firstFailing (mergeTests e k l) → m ≡ 0 → Passed (mergeTests e k l)
 unfolding mergeTests
-merge-passed e k l m same none = code-passed (mergeTests e k l) (omega arith, (omega arith, (omega arith, (omega arith, (omega arith, tt))))) (sym same ∙ none)
+merge-passed e k l m same none = code-passed (mergeTests e k l) (omega arith, (omega arith, (omega arith, (omega arith, tt)))) (sym same ∙ none)
 
 -- the tests as facts, each by its name
 pub record MergeFits (e : Edge) (k l : ℕ) : Type 0 where
@@ -117,12 +117,12 @@ pub record MergeFits (e : Edge) (k l : ℕ) : Type 0 where
 
 pub merge-fits : (e : Edge) (k l : ℕ) → Passed (mergeTests e k l) → MergeFits e k l
 unfolding mergeTests
-merge-fits e k l p = let d = T-and (onDial k) (onDial l) (p .1 .0) in record {
-  searched = record { with-grain = p .0; is-narrow = p .1 .1 .0 };
+merge-fits e k l p = let d = T-and (onDial k) (onDial l) (p .0) in record {
+  searched = record { is-narrow = p .1 .0 };
   k-dial = d .0;
   l-dial = d .1;
-  scaled = p .1 .1 .1 .0;
-  agreed = p .1 .1 .1 .1 .0;
+  scaled = p .1 .1 .0;
+  agreed = p .1 .1 .1 .0;
 }
 
 module _ (e : Edge) (k l : ℕ) (f : MergeFits e k l) where

@@ -10,9 +10,9 @@ use Rattle.network.specs.Limits.{scaleOk, isGate}
 use Rattle.network.specs.Changes.{gateAt}
 use Rattle.network.specs.Record.{gateFrom}
 use Rattle.network.specs.RecordTests.{gateSignal}
-use Rattle.folding.specs.Merge.{Edge, reads, merged, agrees, onDial, withGrain, narrow}
+use Rattle.folding.specs.Merge.{Edge, reads, merged, agrees, onDial, narrow}
 use Rattle.folding.specs.Pair.{Pair, pairs, first}
-use Rattle.folding.specs.Aligned.{Aligned, agreesAll, votesFor, scaleFits, qualifiesOn}
+use Rattle.folding.specs.Aligned.{Aligned, agreesAll, scaleFits, qualifiesOn}
 use Rattle.alignment.specs.Alignments.{alignedIn}
 use Rattle.alignment.specs.declared.Alignment.{Alignment}
 
@@ -31,11 +31,10 @@ edgeTestsIn fanins thresholds signals weights inputs gates u v =
     (gateSignal inputs gates u && gateSignal inputs gates v else 11)
     ∷ (reads u (gateFrom fanins thresholds signals weights (v - inputs)) else 12) ∷ []
 
--- 13, 14, 7, 6 and 15: what is tested of the two gates and of k and l
+-- 14, 7, 6 and 15: what is tested of the two gates and of k and l
 unfoldable pub mergeTests : Edge → ℕ → ℕ → List Test
 mergeTests e k l =
-    (withGrain e else 13) ∷ (onDial k && onDial l else 14) ∷ (narrow e else 7) ∷ (scaleOk (merged e k l) else 6)
-    ∷ (agrees e k l else 15) ∷ []
+    (onDial k && onDial l else 14) ∷ (narrow e else 7) ∷ (scaleOk (merged e k l) else 6) ∷ (agrees e k l else 15) ∷ []
 
 -- ---- of two gates by their distinct feeds
 
@@ -43,11 +42,10 @@ mergeTests e k l =
 unfoldable pub fitTests : Aligned → ℕ → ℕ → List Test
 fitTests a k l = (scaleFits a k l else 6) ∷ (agreesAll a k l else 15) ∷ []
 
--- 13, 14, 7, 6 and 15
+-- 14, 7, 6 and 15
 unfoldable pub mergeTestsOn : Alignment → ℕ → ℕ → List Test
-mergeTestsOn a k l =
-    (votesFor (a .thresholds) else 13) ∷ (onDial k && onDial l else 14) ∷ (leb (a .count) 16 else 7) ∷ fitTests (alignedIn a) k l
+mergeTestsOn a k l = (onDial k && onDial l else 14) ∷ (leb (a .count) 16 else 7) ∷ fitTests (alignedIn a) k l
 
--- 13, 7 and 16
+-- 7 and 16
 unfoldable pub pairOn : Alignment → Answer Pair
-pairOn a = checks ((votesFor (a .thresholds) else 13) ∷ (leb (a .count) 16 else 7) ∷ []) (first (qualifiesOn (alignedIn a)) pairs 16)
+pairOn a = checks ((leb (a .count) 16 else 7) ∷ []) (first (qualifiesOn (alignedIn a)) pairs 16)

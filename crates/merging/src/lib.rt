@@ -27,7 +27,7 @@ pub struct PairFound {
 }
 
 // The pair for u and v: the k and l with the least k + l, then the least k, whose merge is within the limits and agrees. Refusals:
-// 20 broken record, 11 no such gate, 12 not a feed, 13 against the grain, 7 too wide, 16 no pair.
+// 20 broken record, 11 no such gate, 12 not a feed, 7 too wide, 16 no pair.
 pub fn pair(network: Network, u: usize, v: usize) -> PairFound
     ensures { λ r. ⌜ r ≡ pairFound network u v ⌝ }
 {
@@ -62,8 +62,8 @@ pub fn pair(network: Network, u: usize, v: usize) -> PairFound
     pair_of(a)
 }
 
-// The network with u merged into v with k and l. Refusals: 20 broken record, 11 no such gate, 12 not a feed, 13 against the grain,
-// 14 off the dial, 7 too wide, 6 off the scale, 15 disagrees.
+// The network with u merged into v with k and l; where u votes against v, its complement is merged. Refusals: 20 broken record, 11 no
+// such gate, 12 not a feed, 14 off the dial, 7 too wide, 6 off the scale, 15 disagrees.
 pub fn merge(network: Network, u: usize, v: usize, k: usize, l: usize) -> Changed
     ensures { λ r. ⌜ r ≡ mergedRecord network u v k l ⌝ }
 {

@@ -113,8 +113,8 @@ fn agrees_at(
     merged_bit(thresholds, k, l, su, sv) == composed_bit(thresholds, su, sv)
 }
 
-// Whether a setting can only rule out a k too small for its l: neither u nor the composed pair is 1 on it. Every other setting can only
-// rule out a k too large.
+// Whether a setting can only rule out a k too small for its l: neither the gate that votes nor the composed pair is 1 on it. Every other
+// setting can only rule out a k too large.
 fn bounds_below(
     sums_u: &[i64; 512],
     sums_v: &[i64; 512],

@@ -3,7 +3,7 @@
 //!
 //!     questions FOLDER COUNT
 use std::{env, fs, path::Path};
-use yovrenik_tests::generate::{network, Random};
+use yovrenik_tests::generate::{chain, inverters, network, Random};
 use yovrenik_tests::reference::{self, Net};
 use yovrenik_tests::{line, run};
 
@@ -56,10 +56,15 @@ fn main() {
     let words: Vec<String> = env::args().collect();
     let [_, folder, count] = words.as_slice() else { panic!("questions FOLDER COUNT") };
     let folder = Path::new(folder);
+    let count: usize = count.parse().unwrap();
     let mut r = Random::new(11);
-    let mut number = 0;
-    while number < 2 * count.parse::<usize>().unwrap() {
-        let net = network(&mut r, 12, 5);
+    let (mut number, mut against) = (0, 0);
+    while number < 2 * count {
+        let net = match r.below(8) {
+            0 | 1 => chain(&mut r),
+            2 => inverters(&mut r),
+            _ => network(&mut r, 12, 5),
+        };
         if net.inputs > 12 {
             continue;
         }
@@ -67,5 +72,9 @@ fn main() {
         store(folder, number, &net, &after);
         store(folder, number + 1, &net, &moved(&mut r, &after));
         number += 2;
+        let collapses = reference::sweep(&net, 128).unwrap().1;
+        against += collapses.iter().any(|(before, u)| !before.voted_against(*u as usize).is_empty()) as usize;
     }
+    println!("in {against} of {count} random networks the sweep folds a gate that votes against a reader");
+    assert!(count < 100 || 4 * against >= count);
 }

@@ -3,12 +3,10 @@
 use crate::unchecked::readers::reads_gate;
 use alignment::Alignment;
 use alignment::unchecked::align;
-use folding::Thresholds;
 use network::soundness::is_gate;
 use places::unchecked::gate_at;
 ghost use mathlib.Core.Path.{_≡_};
 ghost use Rattle.folding.specs.Merge.{onDial};
-ghost use Rattle.folding.specs.Aligned.{votesFor};
 ghost use Rattle.alignment.specs.Alignments.{alignmentOf};
 ghost use Rattle.merging.specs.Lent.{edgeIn, Lent, Joined};
 ghost use Rattle.merging.specs.Codes.{firstFailing, edgeTestsIn};
@@ -55,13 +53,6 @@ pub fn aligned_at<'a>(
     let gate_u = gate_at(fanins, thresholds, signals, weights, u - inputs);
     let gate_v = gate_at(fanins, thresholds, signals, weights, v - inputs);
     align(gate_u, gate_v, u, v)
-}
-
-// Whether u's vote is not against v.
-pub fn votes_for(thresholds: Thresholds) -> bool
-    ensures { λ r. ⌜ r ≡ votesFor thresholds ⌝ }
-{
-    thresholds.on <= thresholds.off
 }
 
 // Whether a multiplier is on the dial.

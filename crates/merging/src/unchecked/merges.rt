@@ -1,6 +1,5 @@
 // The tests of a merge after that of the record and that u feeds v, on the two gates by their distinct feeds.
 use crate::unchecked::edges::on_dial;
-use crate::unchecked::edges::votes_for;
 use alignment::Alignment;
 use search::unchecked::agrees_everywhere;
 use search::unchecked::scale_fits;
@@ -25,15 +24,11 @@ fn fit_code(a: Alignment, k: usize, l: usize) -> u8
     0
 }
 
-// The first refusal among 13, 14, 7, 6 and 15 of two gates with k and l, 0 if there is none.
+// The first refusal among 14, 7, 6 and 15 of two gates with k and l, 0 if there is none.
 pub fn merge_code(a: Alignment, k: usize, l: usize) -> u8
     requires { ⌜ Fair a ⌝ }
     ensures { λ r. ⌜ r ≡ firstFailing (mergeTestsOn a k l) ⌝ }
 {
-    let thresholds = a.thresholds;
-    if !votes_for(thresholds) {
-        return 13;
-    }
     let dial = on_dial(k) & on_dial(l);
     if !dial {
         return 14;

@@ -1,6 +1,5 @@
 // The pair of two gates by their distinct feeds, as an answer.
 use crate::PairFound;
-use crate::unchecked::edges::votes_for;
 use alignment::Alignment;
 use search::Found;
 use search::unchecked::find_pair;
@@ -28,15 +27,11 @@ fn answered(found: Found) -> PairFound
     }
 }
 
-// The pair of two gates by their distinct feeds. Refusals: 13 against the grain, 7 too wide, 16 no pair.
+// The pair of two gates by their distinct feeds. Refusals: 7 too wide, 16 no pair.
 pub fn pair_of(a: Alignment) -> PairFound
     requires { ⌜ Fair a ⌝ }
     ensures { λ r. ⌜ r ≡ asPair (pairOn a) ⌝ }
 {
-    let thresholds = a.thresholds;
-    if !votes_for(thresholds) {
-        return no_pair(13);
-    }
     let count = a.count;
     if 16 < count {
         return no_pair(7);

@@ -1,26 +1,14 @@
--- The first three tests in their order, then the last two. Assumes nothing.
+-- The first two tests in their order, then the last two. Assumes nothing.
 use mathlib.Core.Path.{_≡_, sym, _∙_}
 use mathlib.Core.Bool.{true, _&&_}
 use borrow.Author.Tests.{not-true, not-false, le-leb, lt-leb}
 use Rattle.integers.specs.TestLaws.{T-is, T-and}
 use Rattle.folding.specs.Merge.{onDial}
 use Rattle.folding.specs.PairLaws.{dial-of}
-use Rattle.folding.specs.Aligned.{votesFor}
 use Rattle.merging.specs.Codes.{firstFailing, mergeTestsOn}
 use borrow.Author.Needs.{needs}
 use Rattle.merging.proofs.unchecked.merges.merge_code.Statement.{statement}
 use Rattle.merging.proofs.unchecked.merges.merge_code.Tie as tie
-
-votes-for-requires : tie.Need-votes-for-requires
-votes-for-requires c κs = search needs
-
-returns : tie.Need-returns
-unfolding firstFailing mergeTestsOn
-returns c = rw (sym (c .before .votes-for .ensures) ∙ not-true _ (c .if1 .taken))
-
--- past the first test u votes for v
-for : (c : tie.Else1) → votesFor (c .before .before .before .args .a .thresholds) ≡ true
-for c = sym (c .before .votes-for .ensures) ∙ not-false _ (c .if1 .left)
 
 on-dial-requires : tie.Need-on-dial-requires
 on-dial-requires c κs = search needs
@@ -28,42 +16,38 @@ on-dial-requires c κs = search needs
 on-dial-requires-2 : tie.Need-on-dial-requires-2
 on-dial-requires-2 c κs = search needs
 
--- what the second test found
-dial : (c : tie.After-on-dial2) → let a = c .before .before .before .before .before .args in (c .before .on-dial .result && c .on-dial2 .result) ≡ (onDial (a .k) && onDial (a .l))
+-- what the first test found
+dial : (c : tie.After-on-dial2) → let a = c .before .before .args in (c .before .on-dial .result && c .on-dial2 .result) ≡ (onDial (a .k) && onDial (a .l))
 dial c = rw (c .before .on-dial .ensures, c .on-dial2 .ensures)
 
-within : (c : tie.Else2) → let a = c .before .before .before .before .before .before .args in (onDial (a .k) && onDial (a .l)) ≡ true
-within c = sym (dial (c .before)) ∙ not-false _ (c .if2 .left)
+within : (c : tie.Else1) → let a = c .before .before .before .args in (onDial (a .k) && onDial (a .l)) ≡ true
+within c = sym (dial (c .before)) ∙ not-false _ (c .if1 .left)
+
+returns : tie.Need-returns
+unfolding firstFailing mergeTestsOn
+returns c = rw (sym (dial (c .before)) ∙ not-true _ (c .if1 .taken))
 
 returns-2 : tie.Need-returns-2
 unfolding firstFailing mergeTestsOn
-returns-2 c = rw (for (c .before .before .before), sym (dial (c .before)) ∙ not-true _ (c .if2 .taken))
-
-returns-3 : tie.Need-returns-3
-unfolding firstFailing mergeTestsOn
-returns-3 c = rw (for (c .before .before .before .before), within (c .before), lt-leb _ 16 (c .if3 .taken))
+returns-2 c = rw (within (c .before), lt-leb _ 16 (c .if2 .taken))
 
 fit-code-requires : tie.Need-fit-code-requires
 fit-code-requires c κs =
-    let s = c .before .before .before .before .before .before .before in
+    let s = c .before .before .before .before in
     let d = T-and (onDial (s .args .k)) (onDial (s .args .l)) (T-is _ (within (c .before))) in
-    (record { few = c .if3 .left; fair = s .pre }, record { k-high = dial-of (s .args .k) (d .0) .1; l-high = dial-of (s .args .l) (d .1) .1 })
+    (record { few = c .if2 .left; fair = s .pre }, record { k-high = dial-of (s .args .k) (d .0) .1; l-high = dial-of (s .args .l) (d .1) .1 })
 
-returns-4 : tie.Need-returns-4
+returns-3 : tie.Need-returns-3
 unfolding firstFailing mergeTestsOn
-returns-4 c =
-    let e = c .before in
-    c .fit-code .ensures ∙ rw (for (e .before .before .before .before), within (e .before), le-leb _ 16 (e .if3 .left))
+returns-3 c = let e = c .before in c .fit-code .ensures ∙ rw (within (e .before), le-leb _ 16 (e .if2 .left))
 
 pub merge-code-spec : {M : Type 1} → statement M
 merge-code-spec =
     tie.close
     (tie.spec
-    votes-for-requires
-    returns
     on-dial-requires
     on-dial-requires-2
+    returns
     returns-2
-    returns-3
     fit-code-requires
-    returns-4)
+    returns-3)
