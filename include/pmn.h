@@ -30,7 +30,7 @@ uint8_t pmn_frame(const uint8_t *file, size_t file_length, uint64_t frame,
 uint8_t pmn_pair(const uint8_t *file, size_t file_length, uint64_t u, uint64_t v,
                  uint64_t *answer, size_t answer_length);
 
-/* The size of the network. answer[0]: gates; answer[1]: cost; answer[2]: levels.
+/* The size of the network. answer[0]: gates; answer[1]: cost; answer[2]: levels, where a gate without feeds has level 0.
  * Codes in order: as read, 18 where answer has under 3 places. */
 uint8_t pmn_report(const uint8_t *file, size_t file_length,
                    uint64_t *answer, size_t answer_length);

@@ -78,6 +78,16 @@ def shadow_rack():
     mask.write("shadow_rack.pmn", pins)
 
 
+def strapped_pin():
+    """Three pins under repair: the middle one, whose patches are dark, is strapped to standing, and its neighbour counts it as a lit patch.
+    The strap needs no stage, so the boards clock one and not two."""
+    mask = Mask(4)
+    left = mask.at_least(2, [0, 1])
+    strapped = mask.at_least(0, [])
+    right = mask.at_least(2, [2, 3, strapped])
+    mask.write("strapped_pin.pmn", [left, strapped, right])
+
+
 def far_fold():
     """A chain in which every gate asks for one patch more: it folds into a single gate."""
     mask = Mask(13)
@@ -99,5 +109,5 @@ def no_fold():
 
 
 if __name__ == "__main__":
-    for sample in (f, full_rack, corner_pin, shadow_rack, far_fold, no_fold):
+    for sample in (f, full_rack, corner_pin, shadow_rack, strapped_pin, far_fold, no_fold):
         sample()

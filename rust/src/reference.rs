@@ -327,11 +327,15 @@ pub fn cost(net: &Net) -> u64 {
     net.gates.iter().map(|g| g.threshold.unsigned_abs() + g.feeds.iter().map(|f| f.1.unsigned_abs()).sum::<u64>()).sum()
 }
 
+/// The highest level of a gate. A gate without feeds has level 0, any other one more than its highest feed.
 pub fn levels(net: &Net) -> u64 {
     let mut levels = vec![0u64; net.inputs];
     for gate in &net.gates {
-        let highest = gate.feeds.iter().map(|f| levels[f.0]).max().unwrap_or(0);
-        levels.push(highest + 1);
+        let level = match gate.feeds.iter().map(|f| levels[f.0]).max() {
+            None => 0,
+            Some(highest) => highest + 1,
+        };
+        levels.push(level);
     }
     *levels[net.inputs..].iter().max().unwrap()
 }
@@ -422,6 +426,21 @@ mod tests {
         let want = "gates 2 1\ncost 18 18\nlevels 2 1\nfolded 1\n* #variable= 7 #constraint= 9\n-4 x1 -3 x2 +3 x4 >= -4 ;\n+4 x1 +3 x2 -5 x4 >= 0 ;\n-1 x3 -2 x4 +1 x5 >= -2 ;\n+1 x3 +2 x4 -3 x5 >= 0 ;\n-4 x1 -3 x2 -3 x3 +3 x6 >= -7 ;\n+4 x1 +3 x2 +3 x3 -8 x6 >= 0 ;\n+1 x5 +1 x6 -1 x7 >= 0 ;\n-1 x5 -1 x6 -1 x7 >= -2 ;\n+1 x7 >= 1 ;\n";
         assert_eq!(fold(F), want);
         assert_eq!(write(&read(F).unwrap()), F);
+    }
+
+    #[test]
+    fn a_constant_never_waits() {
+        let levels_of = |gates: &[&[usize]]| {
+            let gate = |signals: &&[usize]| Gate { feeds: signals.iter().map(|&s| (s, 1)).collect(), threshold: 1 };
+            levels(&Net { inputs: 1, gates: gates.iter().map(gate).collect(), outputs: vec![1] })
+        };
+        assert_eq!(levels_of(&[&[]]), 0);
+        assert_eq!(levels_of(&[&[], &[]]), 0);
+        assert_eq!(levels_of(&[&[0]]), 1);
+        assert_eq!(levels_of(&[&[], &[1]]), 1);
+        assert_eq!(levels_of(&[&[], &[0, 1]]), 1);
+        assert_eq!(levels_of(&[&[], &[1], &[2]]), 2);
+        assert_eq!(levels_of(&[&[0], &[], &[1, 2]]), 2);
     }
 
     #[test]

@@ -73,12 +73,23 @@ fn file_agrees(r: &mut Random, file: &[u8]) {
     }
 }
 
+/// The levels if a gate without feeds were a stage.
+fn levels_with_constants(net: &Net) -> u64 {
+    let mut levels = vec![0; net.inputs];
+    for gate in &net.gates {
+        levels.push(1 + gate.feeds.iter().map(|f| levels[f.0]).max().unwrap_or(0));
+    }
+    levels.into_iter().max().unwrap()
+}
+
 #[test]
 fn files() {
     let mut r = Random::new(1);
+    let mut waiting = 0;
     for _ in 0..6_000 {
         let net = network(&mut r, 12, 16);
         let file = paper::write(&net);
+        waiting += (paper::levels(&net) != levels_with_constants(&net)) as u32;
         file_agrees(&mut r, &file);
         for _ in 0..3 {
             let broken = damaged(&mut r, &file);
@@ -91,6 +102,8 @@ fn files() {
             file_agrees(&mut r, &noise);
         }
     }
+    println!("{waiting} networks would have more levels if a constant were a stage");
+    assert!(waiting >= 500);
 }
 
 #[test]

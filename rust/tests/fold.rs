@@ -31,7 +31,7 @@ fn agrees_on(net: &Net) -> usize {
 fn samples() {
     let folder = concat!(env!("CARGO_MANIFEST_DIR"), "/../samples");
     let files: Vec<_> = std::fs::read_dir(folder).unwrap().map(|f| f.unwrap().path()).filter(|p| p.extension().is_some_and(|e| e == "pmn")).collect();
-    assert!(files.len() >= 6);
+    assert!(files.len() >= 7);
     for path in files {
         agrees(&std::fs::read(path).unwrap());
     }

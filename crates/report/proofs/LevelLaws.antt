@@ -1,7 +1,7 @@
 -- Levels, feed by feed and gate by gate: the highest so far, how high it is, and what is left. Assumes nothing.
 use mathlib.Core.Path.{_≡_, refl, ap, _∙_, fun-ext}
 use mathlib.Core.List.{List, [], _∷_, map}
-use Prim.Native.Nat.{ℕ, _+_, _-_, _≤_, _<_, max}
+use Prim.Native.Nat.{ℕ, zero, suc, _+_, _-_, _≤_, _<_, max}
 use native.Mathlib.Numerals.{add-one}
 use native.Mathlib.Omega.{arith}
 use lib.Dec.{eqb}
@@ -11,7 +11,7 @@ use Rattle.integers.specs.Lists.{range, tab}
 use Rattle.integers.specs.TestLaws.{cond-case}
 use Rattle.network.specs.Threshold.{Feed, Gate}
 use Rattle.network.specs.Record.{feedAt, feedsFrom, gateFrom}
-use Rattle.report.specs.Size.{highest, gateLevel, withLevel, levelsFrom}
+use Rattle.report.specs.Size.{highest, levelAbove, gateLevel, withLevel, levelsFrom}
 use Rattle.report.specs.Arrays.{levelsIn}
 use Rattle.report.proofs.SetLaws.{getD-repeated, getD-set}
 
@@ -54,9 +54,25 @@ unfolding highest
 highest-most levelOf k [] h = omega arith
 highest-most levelOf k (f ∷ fs) h = omega (arith, h (f .signal), highest-most levelOf k fs h)
 
+above-most : (levelOf : ℕ → ℕ) (k : ℕ) (fs : List Feed) → ((s : ℕ) → levelOf s ≤ k) → levelAbove levelOf fs ≤ k + 1
+unfolding levelAbove
+above-most levelOf k [] h = omega arith
+above-most levelOf k (f ∷ fs) h = omega (arith, highest-most levelOf k (f ∷ fs) h)
+
 gateLevel-most : (levelOf : ℕ → ℕ) (k : ℕ) (g : Gate) → ((s : ℕ) → levelOf s ≤ k) → gateLevel levelOf g ≤ k + 1
 unfolding gateLevel
-gateLevel-most levelOf k g h = omega (arith, highest-most levelOf k (g .feeds) h)
+gateLevel-most levelOf k g h = above-most levelOf k (g .feeds) h
+
+-- the level above n feeds, without feeds and with some
+module _ (levelOf : ℕ → ℕ) (ss : List ℕ) (ws : List ℤ) (p : ℕ) where
+  pub above-none : (n : ℕ) → n ≡ 0 → levelAbove levelOf (feedsFrom ss ws p n) ≡ 0
+  unfolding levelAbove feedsFrom range
+  above-none n e = rw e
+
+  pub above-some : (n : ℕ) → 0 < n → levelAbove levelOf (feedsFrom ss ws p n) ≡ suc (highest levelOf (feedsFrom ss ws p n))
+  unfolding levelAbove feedsFrom range
+  above-some zero h = absurd (omega (arith, h))
+  above-some (suc n) h = refl
 
 -- ---- the gates
 

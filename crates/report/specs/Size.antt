@@ -1,4 +1,5 @@
--- Cost and levels of a network, and what the size report answers. Document 01, "Size report and `fold`". Nothing is proved here.
+-- Cost and levels of a network, and what the size report answers. Document 01, "Size report and `fold`", and document 02, No. 3, "A
+-- constant never waits". Nothing is proved here.
 use mathlib.Core.Bool.{cond}
 use mathlib.Core.List.{List, [], _∷_}
 use Prim.Native.Nat.{ℕ, suc, _+_, max}
@@ -24,16 +25,21 @@ unfoldable pub cost : List Gate → ℕ
 cost [] = 0
 cost (g ∷ gs) = gateCost g + cost gs
 
--- ---- "Levels: an input has level 0, a gate one more than its highest feed, a gate without feeds level 1; the network has the highest"
+-- ---- "Levels: an input has level 0, a gate one more than its highest feed, ..; the network has the highest"; document 02: "A gate
+-- ---- without feeds now has level 0. A gate whose feeds all have level 0 has level 1"
 
--- the highest level among the feeds, 0 without feeds
+-- the highest level among the feeds
 unfoldable pub highest : (ℕ → ℕ) → List Feed → ℕ
 highest levelOf [] = 0
 highest levelOf (f ∷ fs) = max (levelOf (f .signal)) (highest levelOf fs)
 
--- the level of a gate, given the levels of the signals before it: the one rule of levels
+-- the level above feeds, given the levels of the signals before: the one rule of levels
+unfoldable pub levelAbove : (ℕ → ℕ) → List Feed → ℕ
+levelAbove levelOf [] = 0
+levelAbove levelOf (f ∷ fs) = suc (highest levelOf (f ∷ fs))
+
 unfoldable pub gateLevel : (ℕ → ℕ) → Gate → ℕ
-gateLevel levelOf g = suc (highest levelOf (g .feeds))
+gateLevel levelOf g = levelAbove levelOf (g .feeds)
 
 -- levelOf with level h at signal n
 unfoldable pub withLevel : (ℕ → ℕ) → ℕ → ℕ → ℕ → ℕ

@@ -71,7 +71,7 @@ fn higher(a: u8, b: u8) -> u8
     if a < b { b } else { a }
 }
 
-// The highest level among the feeds at count places from base on, 0 without feeds.
+// The highest level among the feeds at count places from base on.
 fn highest_level(signals: &[u8; 2048], levels: &[u8; 256], base: usize, count: usize) -> u8
     requires { ⌜ base + count ≤ 2048 ⌝ }
     ensures { λ r. ⌜ ((weights : List ℤ) → r ≡ highest (levelsIn (now (levels .entry))) (feedsFrom (now (signals .entry)) weights base count)) ⌝ }
@@ -87,7 +87,7 @@ fn highest_level(signals: &[u8; 2048], levels: &[u8; 256], base: usize, count: u
     most
 }
 
-// Gate g's level, given the levels of the signals below it: the one rule of levels.
+// Gate g's level, given the levels of the signals below it: the one rule of levels. A gate without feeds has level 0.
 fn gate_level<'a>(
     fanins: &'a [u8; 128],
     signals: &'a [u8; 2048],
@@ -99,6 +99,9 @@ fn gate_level<'a>(
     ensures { λ r. ⌜ ((thresholds weights : List ℤ) → r ≡ gateLevel (levelsIn (now (levels .entry))) (gateFrom (now (fanins .entry)) thresholds (now (signals .entry)) weights g)) ⌝ }
 {
     let count = wide(fanins[g]);
+    if count == 0 {
+        return 0;
+    }
     let most = highest_level(signals, levels, 16 * g, count);
     most + 1
 }
