@@ -69,7 +69,7 @@ record Over (n : ℕ) (line : Line) : Type 0 where
 -- a gate over the first n variables, within the limits
 record Scaled (n : ℕ) (g : Gate) : Type 0 where
   few : length (g .feeds) ≤ 16
-  level : natAbs (g .threshold) ≤ 1000000
+  threshold-small : natAbs (g .threshold) ≤ 1000000
   sizes : Each (λ f. natAbs (f .weight) ≤ 1000000) (g .feeds)
   named : Each (λ f. f .signal < n) (g .feeds)
 
@@ -122,7 +122,7 @@ module _ (n : ℕ) (few : n < 1000) where
   unfolding overGate signalsOf
   over-scaled φ own g o h = let z = gate-sizes g (o .scaled) in record {
     few = omega (arith, length-map (g .feeds) over);
-    level = z .0;
+    threshold-small = z .0;
     sizes = each-map (λ f. natAbs (f .weight) ≤ 1000000) over (g .feeds) (z .1);
     named = each-map (λ f. f .signal < n) over (g .feeds) (each-imp (λ f. f .signal < own) (λ f. φ (f .signal) < n) (λ f k. h (f .signal) k) (g .feeds)
         (map-each (λ s. s < own) (λ f. f .signal) (g .feeds) (rise-below 0 own (signalsOf (g .feeds)) (o .rise))));

@@ -27,11 +27,11 @@ module _ (gate : GateRecord) (s : InLimits gate) where
   m = least (gateIn gate .feeds)
 
   back : toZ w32 (ofZ w32 T) ≡ T
-  back = small-back T (s .level)
+  back = small-back T (s .threshold-small)
 
   -- ---- 1 - T
   side-fits : SFits w32 (pos 1 -ℤ T)
-  side-fits = size-fits w32 (pos 1 -ℤ T) (omega (arith, s .level, size-sub (pos 1) T))
+  side-fits = size-fits w32 (pos 1 -ℤ T) (omega (arith, s .threshold-small, size-sub (pos 1) T))
 
   pub upper-side-fits : SFits w32 (pos 1 -ℤ toZ w32 (ofZ w32 T))
   upper-side-fits = rw back side-fits
@@ -42,7 +42,7 @@ module _ (gate : GateRecord) (s : InLimits gate) where
   -- ---- M - T + 1
   module _ (z : ℤ) (e : toZ w32 (ofZ w32 z) ≡ M) where
     most-small : natAbs (M -ℤ T) ≤ 17000000
-    most-small = omega (arith, s .level, s .few, feed-count gate, most-size (gateIn gate .feeds) (s .sizes), size-sub M T)
+    most-small = omega (arith, s .threshold-small, s .few, feed-count gate, most-size (gateIn gate .feeds) (s .sizes), size-sub M T)
 
     less-fits : SFits w32 (M -ℤ T)
     less-fits = size-fits w32 (M -ℤ T) (omega (arith, most-small))
@@ -62,7 +62,7 @@ module _ (gate : GateRecord) (s : InLimits gate) where
   -- ---- m - T
   module _ (z : ℤ) (e : toZ w32 (ofZ w32 z) ≡ m) where
     own-fits : SFits w32 (m -ℤ T)
-    own-fits = size-fits w32 (m -ℤ T) (omega (arith, s .level, s .few, feed-count gate, least-size (gateIn gate .feeds) (s .sizes), size-sub m T))
+    own-fits = size-fits w32 (m -ℤ T) (omega (arith, s .threshold-small, s .few, feed-count gate, least-size (gateIn gate .feeds) (s .sizes), size-sub m T))
 
     pub lower-own-fits : SFits w32 (toZ w32 (ofZ w32 z) -ℤ toZ w32 (ofZ w32 T))
     lower-own-fits = rw (e, back) own-fits

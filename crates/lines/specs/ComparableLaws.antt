@@ -50,7 +50,7 @@ module _ (r : Network) (g : ℕ) (sound : soundRecord r ≡ true) (h : g < r .ga
       let same = sym row-gate-is in
       record {
         few = omega (arith, gate-limits .few, ap (λ (x : GateRecord). x .fanin) row-is);
-        level = subst (λ (x : Gate). natAbs (x .threshold) ≤ 1000000) same (sizes .0);
+        threshold-small = subst (λ (x : Gate). natAbs (x .threshold) ≤ 1000000) same (sizes .0);
         sizes = subst (λ (x : Gate). Each (λ f. natAbs (f .weight) ≤ 1000000) (x .feeds)) same (sizes .1);
       }
 

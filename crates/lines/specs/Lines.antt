@@ -78,7 +78,7 @@ gateLine N shift i =
 -- a gate's feeds have room in its record, and its weights and T are at most 1,000,000 in size
 pub record InLimits (gate : GateRecord) : Type 0 where
   pub few : gate .fanin ≤ 16
-  pub level : natAbs (gate .threshold) ≤ 1000000
+  pub threshold-small : natAbs (gate .threshold) ≤ 1000000
   pub sizes : Each (λ f. natAbs (f .weight) ≤ 1000000) (gateIn gate .feeds)
 
 -- ---- the lines of the outputs
