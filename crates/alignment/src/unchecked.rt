@@ -83,7 +83,7 @@ fn negated(numbers: &[i32; 16]) -> [i32; 16]
     requires { ⌜ Small 1000000 (now numbers) × (length (now numbers) ≡ 16) ⌝ }
     ensures { λ r. ⌜ r ≡ map negℤ (now (numbers .entry)) ⌝ }
 {
-    let mut result = [0i32; 16];
+    let mut result = *numbers;
     let mut i: usize = 0;
     while i < 16 {
         let number = 0 - numbers[i];
