@@ -106,7 +106,7 @@ fn pair_rows() {
 fn swept(net: &Net) -> (u64, Duration) {
     let file = reference::write(net);
     let mut answers = [0u64; 3];
-    let mut out = vec![0u8; 10_904];
+    let mut out = vec![0u8; library::LONGEST_FILE];
     let t = time(|| assert_eq!(library::run(black_box(&file), &[3, 128, 0, 0, 0], &mut answers, &mut out), 0));
     (answers[2], t)
 }

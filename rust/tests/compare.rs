@@ -112,9 +112,9 @@ fn the_largest_file() {
     let gates = (0..128).map(|g| paper::Gate { feeds: (0..16).map(|i| (g + 2 * i, 1 + r.between(0, 5))).collect(), threshold: 7 }).collect();
     let net = Net { inputs: 40, gates, outputs: vec![167; 16] };
     let file = paper::write(&net);
-    assert_eq!(file.len(), 10_904);
+    assert_eq!(file.len(), LONGEST_FILE);
     file_agrees(&mut r, &file);
-    for cut in [0, 7, 8, 9, 10_000, 10_903] {
+    for cut in [0, 7, 8, 9, 10_000, LONGEST_FILE - 1] {
         file_agrees(&mut r, &file[..cut]);
     }
     let mut longer = file.clone();

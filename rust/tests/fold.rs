@@ -4,6 +4,7 @@ use std::io::Write;
 use std::process::{Command, Stdio};
 use yovrenik_tests::generate::{alternating, chain, damaged, folding_chain, inverters, largest, network, Random};
 use yovrenik_tests::reference::{self as paper, Net};
+use yovrenik_tests::LONGEST_FILE;
 
 /// What the program prints for a file on standard input.
 fn printed(file: &[u8]) -> String {
@@ -63,7 +64,7 @@ fn ends_of_the_format() {
     assert_eq!(agrees_on(&alternating(&folding_chain(64))), 63);
     // the largest file, whose gates are too wide to fold, one byte less, and with a tail of several lengths
     let file = paper::write(&largest(&mut Random::new(3)));
-    assert_eq!(file.len(), 10_904);
+    assert_eq!(file.len(), LONGEST_FILE);
     agrees(&file[..file.len() - 1]);
     for tail in [1, 2, 4_096, 70_000] {
         let mut long = file.clone();

@@ -6,6 +6,9 @@ use libc::STDIN_FILENO;
 use libc::STDOUT_FILENO;
 use network::Network;
 
+// One byte more than the longest file has is enough to see that a file is longer.
+const INPUT_LENGTH: usize = LONGEST_FILE + 1;
+
 fn text(bytes: &[u8]) {
     io::write_all(STDOUT_FILENO, bytes);
 }
@@ -91,9 +94,8 @@ fn fold(file: &[u8]) {
     whole_question(before, after);
 }
 
-// One byte more than the longest file has is enough to see that a file is longer.
 fn main() {
-    let mut buffer = [0u8; LONGEST_FILE + 1];
+    let mut buffer = [0u8; INPUT_LENGTH];
     let n = io::read_full(STDIN_FILENO, &mut buffer);
     fold_prefix(&buffer, n);
 }

@@ -5,7 +5,7 @@
 use std::{env, fs, path::Path};
 use yovrenik_tests::generate::{chain, inverters, network, Random};
 use yovrenik_tests::reference::{self, Net};
-use yovrenik_tests::{line, run};
+use yovrenik_tests::{line, run, LONGEST_FILE};
 
 /// The text of the library's question for two files.
 fn question(first: &[u8], second: &[u8]) -> Vec<u8> {
@@ -30,7 +30,7 @@ fn differ(first: &Net, second: &Net) -> bool {
 /// The network after a sweep by the library.
 fn swept(file: &[u8]) -> Vec<u8> {
     let mut answers = [0u64; 3];
-    let mut out = vec![0u8; 10_904];
+    let mut out = vec![0u8; LONGEST_FILE];
     assert_eq!(run(file, &[3, 128, 0, 0, 0], &mut answers, &mut out), 0);
     out.truncate(answers[0] as usize);
     out
