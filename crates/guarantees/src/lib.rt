@@ -48,7 +48,7 @@ pub fn lists_of_calls()
 {}
 
 // The pair rule, for every network and any two numbers: the answer is the qualifying pair with the least k + l, then the least k, and its
-// merge is accepted; 16 is given only if none of the 1,024 qualifies.
+// merge is accepted; 16 is given only if none of the 1,024 qualifies; and a pair is given wherever one qualifies.
 pub fn pairs_are_least()
     ensures { λ _. ⌜ ((net : Net) (u v : ℕ) → PairClaim net u v) ⌝ }
 {}
