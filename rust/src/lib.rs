@@ -2,7 +2,7 @@
 pub mod generate;
 pub mod reference;
 
-/// No file is longer: this one has 128 gates with 16 feeds each, and 16 outputs.
+/// The length of the longest file, which has 128 gates with 16 feeds each and 16 outputs.
 pub const LONGEST_FILE: usize = 10_904;
 
 mod raw {
