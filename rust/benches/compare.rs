@@ -1,9 +1,12 @@
-//! Times of the proved library and of the independent implementation on the same inputs, in one process, and their ratio.
+//! Times of the proved library on the same inputs as the independent implementation, which tries everything, and as the exact method, which
+//! finds a pair by one pass over its settings: in one process, and their ratios.
 use std::hint::black_box;
 use std::time::{Duration, Instant};
 use yovrenik_tests as library;
+use yovrenik_tests::exact;
 use yovrenik_tests::generate::{
-    folding_chain, full_folding, full_standing, largest, last_setting_only, mirrored, mixed_chain, standing_chain, Random,
+    folding_chain, full_folding, full_standing, largest, last_setting_only, mirrored, mixed_chain, most_passes, ratio_31_32, standing_chain,
+    Random,
 };
 use yovrenik_tests::reference::{self, Net};
 
@@ -50,6 +53,14 @@ fn row(name: &str, ours: Duration, theirs: Duration) {
     println!("| {name} | {} | {} | {} |", text(ours), text(theirs), ratio(ours, theirs));
 }
 
+/// One row: the library's time, then with its ratio each that of the exact method written plainly, of the same by halves, and of trying
+/// everything where that does not take hours.
+fn search_row(name: &str, ours: Duration, plainly: Duration, by_halves: Duration, all: Option<Duration>) {
+    let cell = |theirs: Duration| format!("{} | {}", text(theirs), ratio(ours, theirs));
+    let all = all.map_or("– | –".to_string(), cell);
+    println!("| {name} | {} | {} | {} | {all} |", text(ours), cell(plainly), cell(by_halves));
+}
+
 fn file_rows() {
     let net = largest(&mut Random::new(7));
     let file = reference::write(&net);
@@ -79,27 +90,35 @@ fn file_rows() {
     row("soundness and frame on a full network (read and frame)", frame, read_too + frame_too);
 }
 
-/// The row of a pair of the two gates of a network, and its two times.
-fn pair_row(name: &str, net: &Net) -> (Duration, Duration) {
+/// The row of a pair of the two gates of a network, and the library's time.
+fn pair_row(name: &str, net: &Net, all: bool) -> Duration {
     let file = reference::write(net);
     let (u, v) = (net.inputs as u64, net.inputs as u64 + 1);
+    let want = exact::pair(net, u, v);
     let mut answer = [0u64; 2];
-    let ours = time(|| assert_eq!(library::pair(black_box(&file), u, v, &mut answer), 16));
-    let theirs = time(|| assert_eq!(reference::pair(black_box(net), u, v), Err(16)));
-    row(name, ours, theirs);
-    (ours, theirs)
+    let ours = time(|| assert_eq!(library::pair(black_box(&file), u, v, &mut answer), want.err().unwrap_or(0)));
+    assert_eq!((answer[0], answer[1]), want.unwrap_or((0, 0)));
+    let plainly = time(|| assert_eq!(exact::pair(black_box(net), u, v), want));
+    let by_halves = time(|| assert_eq!(exact::pair_by_halves(black_box(net), u, v), want));
+    let all = all.then(|| time(|| assert_eq!(reference::pair(black_box(net), u, v), want)));
+    search_row(name, ours, plainly, by_halves, all);
+    ours
 }
 
 fn pair_rows() {
     let name = |n: usize| format!("pair, {n} distinct feeds, no pair, each disagrees on the last setting only");
     for n in [8, 10, 12, 14] {
-        pair_row(&name(n), &last_setting_only(n));
+        pair_row(&name(n), &last_setting_only(n), true);
     }
-    // u's complement with the opposite vote: both searches see the same numbers
+    // u's complement with the opposite vote: the searches see the same numbers
     let net = last_setting_only(16);
-    let (ours, theirs) = pair_row(&name(16), &net);
-    let (ours_against, theirs_against) = pair_row("the same, mirrored: u votes against", &mirrored(&net, 16).unwrap());
-    println!("| a vote against to a vote for | {} | {} | |", ratio(ours, ours_against), ratio(theirs, theirs_against));
+    let ours = pair_row(&name(16), &net, true);
+    let against = pair_row("the same, mirrored: u votes against", &mirrored(&net, 16).unwrap(), false);
+    println!("| a vote against to a vote for | {} | | | | | | |", ratio(ours, against));
+    pair_row("pair, 16 distinct feeds, only 31 and 32 serve", &ratio_31_32(), false);
+    let [by_setting, by_block] = most_passes();
+    pair_row("pair, 16 distinct feeds, most passes known of a search by settings", &by_setting, false);
+    pair_row("pair, 16 distinct feeds, most passes known of a search by blocks", &by_block, false);
 }
 
 /// The library's sweep: how many gates it collapses, and its time with the read and the write.
@@ -111,41 +130,36 @@ fn swept(net: &Net) -> (u64, Duration) {
     (answers[2], t)
 }
 
-fn sweep_row(name: &str, net: &Net, folds: u64) {
+fn sweep_row(name: &str, net: &Net, folds: u64, all: bool) {
     let (count, ours) = swept(net);
-    let mut same = 0;
-    let theirs = time(|| same = reference::sweep(black_box(net), 128).unwrap().1.len() as u64);
-    assert_eq!((count, same), (folds, folds));
-    row(name, ours, theirs);
-}
-
-/// A row for which the independent implementation would take hours: the library's time alone.
-fn library_row(name: &str, net: &Net, folds: u64) {
-    let (count, ours) = swept(net);
-    assert_eq!(count, folds);
-    println!("| {name} | {} | – | – |", text(ours));
+    let collapses = |find: reference::Find| reference::sweep_by(black_box(net), 128, find).unwrap().1.len() as u64;
+    assert_eq!((count, collapses(exact::pair)), (folds, folds));
+    let swept_by = |find: reference::Find| {
+        time(|| {
+            black_box(collapses(find));
+        })
+    };
+    search_row(name, ours, swept_by(exact::pair), swept_by(exact::pair_by_halves), all.then(|| swept_by(reference::pair)));
 }
 
 fn main() {
     println!("| on | library | independent | ratio |\n|---|---|---|---|");
     file_rows();
+    println!("\n| on | library | exact method | ratio | the same by halves | ratio | plain search | ratio |\n|---|---|---|---|---|---|---|---|");
     pair_rows();
-    sweep_row("sweep of a full network, nothing folds", &full_standing(&mut Random::new(5)), 0);
-    sweep_row("sweep of a full network that folds into one gate", &full_folding(), 127);
+    sweep_row("sweep of a full network, nothing folds", &full_standing(&mut Random::new(5)), 0, true);
+    sweep_row("sweep of a full network that folds into one gate", &full_folding(), 127, true);
     for gates in [16, 32, 64, 128] {
-        sweep_row(&format!("sweep, {gates} gates that fold into one"), &folding_chain(gates), gates as u64 - 1);
+        sweep_row(&format!("sweep, {gates} gates that fold into one"), &folding_chain(gates), gates as u64 - 1, true);
     }
     for gates in [16, 32, 64, 128] {
-        sweep_row(&format!("sweep, {gates} gates, 8 distinct feeds, nothing folds"), &standing_chain(gates, 8), 0);
+        sweep_row(&format!("sweep, {gates} gates, 8 distinct feeds, nothing folds"), &standing_chain(gates, 8), 0, true);
     }
     for gates in [16, 32, 64, 128] {
-        library_row(&format!("sweep, {gates} gates, 16 distinct feeds, nothing folds"), &standing_chain(gates, 16), 0);
+        sweep_row(&format!("sweep, {gates} gates, 16 distinct feeds, nothing folds"), &standing_chain(gates, 16), 0, false);
     }
     for gates in [16, 32, 64, 128] {
-        library_row(
-            &format!("sweep, {gates} gates, the upper half folds, the lower half does not"),
-            &mixed_chain(gates),
-            gates as u64 / 2 - 1,
-        );
+        let name = format!("sweep, {gates} gates, the upper half folds, the lower half does not");
+        sweep_row(&name, &mixed_chain(gates), gates as u64 / 2 - 1, false);
     }
 }

@@ -292,6 +292,86 @@ pub fn last_setting_only(n: usize) -> Net {
     Net { inputs: n, gates: vec![u, v], outputs: vec![n + 1] }
 }
 
+/// Two gates by the weights of each on 16 inputs, 0 for none: the second has the threshold `off` and counts the first with `off - on`.
+fn two_gates(us: [i64; 16], vs: [i64; 16], own: i64, on: i64, off: i64) -> Net {
+    let feeds = |weights: [i64; 16]| (0..16).map(|s| (s, weights[s])).filter(|f| f.1 != 0).collect::<Vec<_>>();
+    let mut other = feeds(vs);
+    other.push((16, off - on));
+    Net {
+        inputs: 16,
+        gates: vec![Gate { feeds: feeds(us), threshold: own }, Gate { feeds: other, threshold: off }],
+        outputs: vec![17],
+    }
+}
+
+/// Two gates with 16 distinct feeds that only 31 and 32 serve: one great weight and seven small ones each, and thresholds that leave k / l
+/// no more than 30 / 31 to 32 / 33.
+pub fn ratio_31_32() -> Net {
+    let (mut us, mut vs) = ([0; 16], [0; 16]);
+    us[..7].fill(1);
+    vs[8..15].fill(1);
+    us[7] = 64 * 480;
+    vs[15] = 62 * 480;
+    two_gates(us, vs, 31 * 480, 32 * 480, 72 * 480)
+}
+
+/// The pairs with 16 distinct feeds that take the most whole passes over the settings, of all that a search over weights has found: the
+/// first with a search that tries setting by setting, the second with one that tries 256 at a time.
+pub fn most_passes() -> [Net; 2] {
+    [
+        two_gates(
+            [34, -8, -40, 7, -16, -12, -31, -32, 45, 39, -11, -41, -13, -14, 16, 22],
+            [111, 0, -32, 37, 2, 2, -1, 4, -4, 1, -44, 38, -1, 0, 1, 30],
+            9,
+            -27,
+            -20,
+        ),
+        two_gates(
+            [0, 0, 0, 4, 1, 3, 150, 33, 0, 1, 0, 0, 1, 1, 1, 1],
+            [-1, -1, 1, -1, 24, 57, 30, 37, 1, 0, 1, 1, 0, 0, 0, 0],
+            12,
+            -4,
+            5,
+        ),
+    ]
+}
+
+/// Two gates with 16 distinct feeds and weights at random, up to the scale's end; thresholds near an end of their sums or in the middle.
+pub fn wide_pair(r: &mut Random) -> Net {
+    let largest = [1, 3, 9, 40, 1000, 20_000, 1_000_000][r.below(7) as usize];
+    let against = quarters_against(r);
+    let style = r.below(3);
+    let (mut us, mut vs) = ([0; 16], [0; 16]);
+    for s in 0..16 {
+        let own = r.below(2) == 0;
+        let weight = |r: &mut Random| {
+            let size = r.between(1, largest);
+            vote(r, size, against)
+        };
+        if style > 0 || own {
+            us[s] = weight(r);
+        }
+        // at most 15 of v's feeds are inputs: the last place is u's
+        if s < 15 && (style == 2 || !own) {
+            vs[s] = weight(r);
+        }
+    }
+    us[15] = us[15].max(1);
+    let threshold = |r: &mut Random, weights: [i64; 16]| {
+        let (low, high) = ends(&weights.map(|w| (0, w)));
+        on_scale(match r.below(4) {
+            0 => high,
+            1 => low + 1,
+            _ => r.between(low, high + 1),
+        })
+    };
+    let own = threshold(r, us);
+    let off = threshold(r, vs);
+    let b = on_scale(r.between(1, largest * 8));
+    let on = if r.below(2) == 0 { off - b } else { off + b };
+    two_gates(us, vs, own, on, off)
+}
+
 /// A chain in which no gate folds, with n distinct feeds for each pair of neighbours (n even): every gate is 1 if all of its feeds are, and
 /// neighbours have no input in common, so that u can be 1 and one input of v's 0; no multipliers up to 32 tell that from all inputs 1.
 pub fn standing_chain(gates: usize, n: usize) -> Net {

@@ -280,7 +280,14 @@ pub fn drop_gate(net: &Net, s: u64) -> Answer<Net> {
     Ok(without(net, s))
 }
 
+/// A way to find the pair of two gates.
+pub type Find = fn(&Net, u64, u64) -> Answer<(u64, u64)>;
+
 pub fn collapse(net: &Net, s: u64) -> Answer<Net> {
+    collapse_by(net, s, pair)
+}
+
+fn collapse_by(net: &Net, s: u64, find: Find) -> Answer<Net> {
     if s > 255 || !net.is_gate(s as usize) {
         return Err(11);
     }
@@ -290,7 +297,7 @@ pub fn collapse(net: &Net, s: u64) -> Answer<Net> {
     }
     let mut pairs = vec![];
     for v in net.readers(u) {
-        pairs.push((v, pair(net, s, v as u64)?));
+        pairs.push((v, find(net, s, v as u64)?));
     }
     let mut out = net.clone();
     for (v, (k, l)) in pairs {
@@ -302,6 +309,11 @@ pub fn collapse(net: &Net, s: u64) -> Answer<Net> {
 
 /// The network after a sweep, and its collapses: for each the network that it got, and the gate's signal.
 pub fn sweep(net: &Net, b: u64) -> Answer<(Net, Vec<(Net, u64)>)> {
+    sweep_by(net, b, pair)
+}
+
+/// The same with the pairs found another way.
+pub fn sweep_by(net: &Net, b: u64, find: Find) -> Answer<(Net, Vec<(Net, u64)>)> {
     if b > 128 {
         return Err(14);
     }
@@ -310,7 +322,7 @@ pub fn sweep(net: &Net, b: u64) -> Answer<(Net, Vec<(Net, u64)>)> {
     'again: loop {
         for u in net.inputs..net.inputs + net.gates.len() {
             if net.readers(u).len() as u64 <= b {
-                if let Ok(next) = collapse(&net, u as u64) {
+                if let Ok(next) = collapse_by(&net, u as u64, find) {
                     collapses.push((net, u as u64));
                     net = next;
                     continue 'again;

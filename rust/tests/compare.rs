@@ -1,6 +1,9 @@
 //! The library and the independent implementation on many random, folding, near-miss and damaged inputs, with fixed seeds.
 use std::collections::BTreeMap;
-use yovrenik_tests::generate::{against, chain, damaged, heavy, inverters, mirrored, network, wide, Random};
+use yovrenik_tests::exact;
+use yovrenik_tests::generate::{
+    against, chain, damaged, heavy, inverters, mirrored, most_passes, network, ratio_31_32, wide, wide_pair, Random,
+};
 use yovrenik_tests::reference::{self as paper, Net};
 use yovrenik_tests::*;
 
@@ -410,6 +413,59 @@ fn pairs(r: &mut Random, reached: &mut Against, net: &Net, file: &[u8]) {
             Ok((k, l)) => assert_eq!((got, answer), (0, [k, l, MARK])),
             Err(code) => assert_eq!((got, answer), (code, [MARK; 3])),
         }
+    }
+}
+
+/// The library's pair of two gates.
+fn library_pair(net: &Net, u: u64, v: u64) -> Result<(u64, u64), u8> {
+    let mut answer = [MARK; 2];
+    match pair(&paper::write(net), u, v, &mut answer) {
+        0 => Ok((answer[0], answer[1])),
+        code => Err(code),
+    }
+}
+
+/// The exact method finds the pairs that trying every candidate finds.
+#[test]
+fn the_exact_method() {
+    let mut r = Random::new(9);
+    for _ in 0..4_000 {
+        let net = some_network(&mut r, 5);
+        let call = random_call(&mut r, &net);
+        let want = paper::pair(&net, call[1], call[2]);
+        assert_eq!(exact::pair(&net, call[1], call[2]), want, "{net:?} {call:?}");
+        assert_eq!(exact::pair_by_halves(&net, call[1], call[2]), want, "{net:?} {call:?}");
+    }
+}
+
+/// Pairs with 16 distinct feeds, for which trying every candidate takes too long, against the exact method; and merges with multipliers at
+/// and beside those of the pair.
+#[test]
+fn wide_pairs() {
+    let mut r = Random::new(11);
+    let (mut found, mut accepted) = (0, 0);
+    for round in 0..10_000 {
+        let net = wide_pair(&mut r);
+        let want = exact::pair(&net, 16, 17);
+        assert_eq!(library_pair(&net, 16, 17), want, "{net:?}");
+        let Ok((k, l)) = want else { continue };
+        found += 1;
+        if round % 16 == 0 {
+            let (k, l) = (k + r.below(3) - r.below(2), l + r.below(3) - r.below(2));
+            let want = paper::merge(&net, 16, 17, k, l);
+            let (got, after) = after_call(&paper::write(&net), &[0, 16, 17, k, l]);
+            assert_eq!(got, code(&want) as u64, "{net:?} {k} {l}");
+            if let Ok(merged) = want {
+                assert_eq!(after, paper::write(&merged), "{net:?} {k} {l}");
+                accepted += 1;
+            }
+        }
+    }
+    println!("wide pairs: {found} found, {accepted} merges accepted");
+    assert!(found >= 1_000 && accepted >= 60);
+    assert_eq!(library_pair(&ratio_31_32(), 16, 17), Ok((31, 32)));
+    for net in [ratio_31_32()].iter().chain(&most_passes()) {
+        assert_eq!(library_pair(net, 16, 17), exact::pair(net, 16, 17));
     }
 }
 

@@ -4,34 +4,28 @@ use mathlib.Core.Bool.{true, false, not, cond}
 use mathlib.Core.List.{List, [], _∷_, _++_, map}
 use Prim.Native.Nat.{ℕ, _+_, _≤_, _<_}
 use native.Mathlib.Omega.{arith}
-use lib.Dec.{T}
 use lib.IntN.{ℤ, pos}
 use lib.ListN.{length, getD, set, replicate, length-append, length-map}
-use lib.Seq.{length-take-le, getD-take}
-use Rattle.integers.specs.Lists.{below, keep, range, places}
-use Rattle.integers.specs.TestLaws.{T-and}
-use Rattle.integers.specs.ListLaws.{below-at, length-keep, length-range, range-more}
+use lib.Seq.{getD-take}
+use Rattle.integers.specs.Lists.{keep, range, places}
+use Rattle.integers.specs.ListLaws.{length-keep, length-range, range-more}
 use Rattle.network.specs.Threshold.{Feed}
-use Rattle.network.specs.Limits.{signalsOf, inScale, isZero}
+use Rattle.network.specs.Limits.{signalsOf, isZero}
 use Rattle.network.specs.Record.{gateRecord}
 use Rattle.network.specs.declared.GateRecord.{GateRecord}
 use Rattle.folding.specs.Merge.{stays}
-use Rattle.folding.specs.Aligned.{mix, mixedThreshold, mixedWeight, scaleFits}
+use Rattle.folding.specs.Aligned.{mix, mixedThreshold, mixedWeight}
 use Rattle.alignment.specs.Alignments.{alignedIn, mixedFeed, mergedOf, Mixable, Mergeable}
 use Rattle.alignment.specs.AlignmentLaws.{gate-places}
 use Rattle.integers.specs.PlaceLaws.{keep-last, map-last, places-none, placed-last}
 use Rattle.alignment.specs.declared.Alignment.{Alignment}
-
--- a mix can be made, and is on the scale
-abbrev pub OnScale : ℕ → ℕ → ℤ → ℤ → Type 0
-OnScale k l x y = Mixable k l x y × T (inScale (mix k l x y))
 
 module _ (a : Alignment) (k l : ℕ) where
   -- the merged gate's feeds among the first i distinct feeds
   abbrev pub feedsTo : ℕ → List Feed
   feedsTo i = keep stays (map (mixedFeed a k l) (range 0 i))
 
-  -- ---- the mixes are on the scale
+  -- ---- the mixes
 
   -- a mix is made of the two weights listed
   pub mix-at : (i : ℕ) → i < a .count → mixedWeight (alignedIn a) k l i ≡ mix k l (getD (a .us) i (pos 0)) (getD (a .vs) i (pos 0))
@@ -39,21 +33,11 @@ module _ (a : Alignment) (k l : ℕ) where
   mix-at i h = rw (getD-take (a .count) (a .us) i (pos 0) h, getD-take (a .count) (a .vs) i (pos 0) h)
 
   -- each weight, and the threshold, as the mix that the code makes
-  pub weight-mixable : Mergeable a k l → (i : ℕ) → i < a .count → OnScale k l (getD (a .us) i (pos 0)) (getD (a .vs) i (pos 0))
-  unfolding scaleFits alignedIn
-  weight-mixable m i h =
-      let t = T-and (inScale (mixedThreshold (a .thresholds) k l)) (below (length (alignedIn a .us)) (λ i. inScale (mixedWeight (alignedIn a) k l i))) (m .fits) .1 in
-      let c = length-take-le (a .count) (a .us) (omega (arith, m .searchable .few, m .searchable .fair .placed)) in (
-        record { dial = m .dial; x-small = omega (arith, m .searchable .fair .us-small i); y-small = omega (arith, m .searchable .fair .vs-small i) },
-        rw (mix-at i h) at (below-at (length (alignedIn a .us)) (λ i. inScale (mixedWeight (alignedIn a) k l i)) t i (omega (arith, c))),
-      )
+  pub weight-mixable : Mergeable a k l → (i : ℕ) → Mixable k l (getD (a .us) i (pos 0)) (getD (a .vs) i (pos 0))
+  weight-mixable m i = record { dial = m .dial; x-small = omega (arith, m .searchable .fair .us-small i); y-small = omega (arith, m .searchable .fair .vs-small i) }
 
-  pub threshold-mixable : Mergeable a k l → OnScale k l (a .thresholds .own) (a .thresholds .on)
-  unfolding scaleFits mixedThreshold alignedIn
-  threshold-mixable m = (
-    record { dial = m .dial; x-small = omega (arith, m .searchable .fair .near .own-small); y-small = omega (arith, m .searchable .fair .near .on-small) },
-    T-and (inScale (mixedThreshold (a .thresholds) k l)) (below (length (alignedIn a .us)) (λ i. inScale (mixedWeight (alignedIn a) k l i))) (m .fits) .0,
-  )
+  pub threshold-mixable : Mergeable a k l → Mixable k l (a .thresholds .own) (a .thresholds .on)
+  threshold-mixable m = record { dial = m .dial; x-small = omega (arith, m .searchable .fair .near .own-small); y-small = omega (arith, m .searchable .fair .near .on-small) }
 
   -- ---- the lists
 

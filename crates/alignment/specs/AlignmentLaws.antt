@@ -1,25 +1,24 @@
 -- Laws of the record of two gates by their distinct feeds: what it stands for, and that its merged gate is that of document 01.
 -- Assumes nothing.
-use mathlib.Core.Path.{_≡_, refl, sym, ap, ap₂, _∙_, subst}
+use mathlib.Core.Path.{_≡_, refl, sym, ap, ap₂, _∙_}
 use mathlib.Core.Bool.{true, false}
 use mathlib.Core.List.{List, [], _∷_, map}
 use Prim.Native.Nat.{ℕ, _≤_, _<_}
 use native.Mathlib.Decide.{decLt}
 use native.Mathlib.Omega.{arith}
-use lib.Dec.{T}
 use lib.IntN.{ℤ, pos, natAbs, negℤ}
 use lib.Signed.{leZ}
 use lib.ListN.{length, getD, take, length-map, List·getD-map, List·getD-eq-default}
-use Rattle.integers.specs.Lists.{keep, tab, places}
+use Rattle.integers.specs.Lists.{keep, tab, places, Small}
 use Rattle.integers.specs.ListLaws.{tab-of, tab-same}
 use Rattle.network.specs.Threshold.{Feed, negated, Gate}
-use Rattle.network.specs.Limits.{signalsOf, scaleOk}
+use Rattle.network.specs.Limits.{signalsOf}
 use Rattle.network.specs.Record.{noFeed, gateRecord}
 use Rattle.folding.specs.Merge.{Edge, weightOf, feedWeight, distinct, complement, votesFor, voter, whereOn, whereOff, mergedFeed, stays, mergedThreshold, merged}
 use Rattle.folding.specs.Aligned.{Aligned, edgeThresholds, aligned, mix, mixedThreshold, mixedWeight}
-use Rattle.folding.specs.AlignedLaws.{EdgeOk, scaleOk-fits, us-length, vs-length, fed-small, aligned-small, vote-for}
+use Rattle.folding.specs.AlignedLaws.{EdgeOk, us-length, vs-length, fed-small, aligned-small, vote-for}
 use Rattle.folding.specs.WeightLaws.{weight-negated}
-use Rattle.alignment.specs.Alignments.{alignmentOf, withU, complementIn, alignedIn, mixedFeed, mergedOf, Small, Fair, Searchable, Mergeable}
+use Rattle.alignment.specs.Alignments.{alignmentOf, withU, complementIn, alignedIn, mixedFeed, mergedOf, Fair, Searchable, Mergeable}
 use Rattle.integers.specs.TableLaws.{getD-map, map-tab}
 use Rattle.integers.specs.PlaceLaws.{length-places, getD-places, take-places}
 
@@ -114,13 +113,9 @@ pub aligned-searchable : (e : Edge) → EdgeOk e → length (distinct e) ≤ 16 
 unfolding alignmentOf
 aligned-searchable e ok h = record { few = h; fair = aligned-fair e ok }
 
--- what the merged gate's code asks for, from the tests of a merge
-pub mergeable : (e : Edge) (k l : ℕ) → EdgeOk e → length (distinct e) ≤ 16 → k ≤ 32 → l ≤ 32 → T (scaleOk (merged e k l)) → Mergeable (alignmentOf e) k l
-mergeable e k l ok h hk hl t = record {
-  searchable = aligned-searchable e ok h;
-  dial = record { k-high = hk; l-high = hl };
-  fits = rw (aligned-in e h) (subst T (scaleOk-fits e k l) t);
-}
+-- what the merged gate's code asks for
+pub mergeable : (e : Edge) (k l : ℕ) → EdgeOk e → length (distinct e) ≤ 16 → k ≤ 32 → l ≤ 32 → Mergeable (alignmentOf e) k l
+mergeable e k l ok h hk hl = record { searchable = aligned-searchable e ok h; dial = record { k-high = hk; l-high = hl } }
 
 -- a gate's 16 places, by the lists of its signals and its weights
 pub gate-places : (g : Gate) → gateRecord g ≡ record {

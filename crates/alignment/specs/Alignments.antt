@@ -1,15 +1,14 @@
 -- The record of two gates by their distinct feeds, what it stands for, and the merged gate that it gives. Nothing is proved here.
 use mathlib.Core.List.{List, map}
 use Prim.Native.Nat.{ℕ, _≤_}
-use lib.Dec.{T}
 use lib.IntN.{ℤ, pos, natAbs, negℤ, _-ℤ_}
 use lib.ListN.{length, getD, take}
-use Rattle.integers.specs.Lists.{keep, range, tab, places}
+use Rattle.integers.specs.Lists.{keep, range, tab, places, Small}
 use Rattle.network.specs.Threshold.{Feed, Gate}
 use Rattle.network.specs.Record.{gateIn}
 use Rattle.network.specs.declared.GateRecord.{GateRecord}
-use Rattle.folding.specs.Merge.{Edge, edgeOf, weightOf, feedWeight, distinct, stays}
-use Rattle.folding.specs.Aligned.{Aligned, aligned, mixedThreshold, mixedWeight, scaleFits}
+use Rattle.folding.specs.Merge.{Edge, edgeOf, weightOf, distinct, stays}
+use Rattle.folding.specs.Aligned.{Aligned, aligned, fedBy, mixedThreshold, mixedWeight}
 use Rattle.folding.specs.AlignedLaws.{EdgeOk}
 use Rattle.folding.specs.declared.Thresholds.{Thresholds}
 use Rattle.alignment.specs.declared.Alignment.{Alignment}
@@ -42,9 +41,9 @@ unfoldable pub withU : Edge → Alignment
 withU e = record {
   count = length (distinct e);
   signals = places 16 0 (distinct e);
-  us = places 16 (pos 0) (map (λ s. weightOf s (e .gateU .feeds)) (distinct e));
-  vs = places 16 (pos 0) (map (λ s. weightOf s (e .gateV .feeds)) (distinct e));
-  thresholds = record { own = e .gateU .threshold; on = e .gateV .threshold -ℤ feedWeight e; off = e .gateV .threshold };
+  us = places 16 (pos 0) (fedBy e .us);
+  vs = places 16 (pos 0) (fedBy e .vs);
+  thresholds = fedBy e .thresholds;
 }
 
 -- the complement of the gate that votes in its place
@@ -72,22 +71,18 @@ mergedOf a k l = record { feeds = keep stays (map (mixedFeed a k l) (range 0 (a 
 
 -- ---- what callers have tested
 
--- no number of the list is above n in size
-abbrev pub Small : ℕ → List ℤ → Type 0
-Small n zs = (i : ℕ) → natAbs (getD zs i (pos 0)) ≤ n
+-- no threshold is above n in size
+pub record Near (n : ℕ) (t : Thresholds) : Type 0 where
+  pub own-small : natAbs (t .own) ≤ n
+  pub on-small : natAbs (t .on) ≤ n
+  pub off-small : natAbs (t .off) ≤ n
 
--- the thresholds are at most twice the scale
-pub record Near (t : Thresholds) : Type 0 where
-  pub own-small : natAbs (t .own) ≤ 2000000
-  pub on-small : natAbs (t .on) ≤ 2000000
-  pub off-small : natAbs (t .off) ≤ 2000000
-
--- the weights, each with its place, are on the scale
+-- the weights, each with its place, are on the scale, and the thresholds at most twice that
 pub record Fair (a : Alignment) : Type 0 where
   pub placed : 16 ≤ length (a .us)
   pub us-small : Small 1000000 (a .us)
   pub vs-small : Small 1000000 (a .vs)
-  pub near : Near (a .thresholds)
+  pub near : Near 2000000 (a .thresholds)
 
 -- at most 16 distinct feeds, whose numbers can be added
 pub record Searchable (a : Alignment) : Type 0 where
@@ -105,8 +100,7 @@ pub record Mixable (k l : ℕ) (x y : ℤ) : Type 0 where
   pub x-small : natAbs x ≤ 16000000
   pub y-small : natAbs y ≤ 16000000
 
--- multipliers on the dial, and a merged gate on the scale
+-- two gates that can be merged with multipliers on the dial: no sum of two products leaves 32 bits
 pub record Mergeable (a : Alignment) (k l : ℕ) : Type 0 where
   pub searchable : Searchable a
   pub dial : Dial k l
-  pub fits : T (scaleFits (alignedIn a) k l)

@@ -3,19 +3,18 @@ use crate::Alignment;
 use folding::Thresholds;
 use integers::magnitude;
 use integers::wide;
-use integers::widened;
 use network::GateRecord;
 ghost use mathlib.Core.Path.{_≡_};
 ghost use mathlib.Core.Bool.{not, _||_};
 ghost use mathlib.Core.List.{map};
 ghost use Prim.Native.Nat.{_≤_};
-ghost use lib.Dec.{T};
 ghost use lib.IntN.{negℤ};
 ghost use lib.ListN.{length};
-ghost use Rattle.network.specs.Limits.{isZero, inScale};
+ghost use Rattle.integers.specs.Lists.{Small};
+ghost use Rattle.network.specs.Limits.{isZero};
 ghost use Rattle.network.specs.Record.{gateIn, gateRecord};
 ghost use Rattle.folding.specs.Aligned.{mix};
-ghost use Rattle.alignment.specs.Alignments.{weightTable, edgeBetween, Alignable, withU, complementIn, alignmentOf, Small, Fair, Mixable, mergedOf, Mergeable};
+ghost use Rattle.alignment.specs.Alignments.{weightTable, edgeBetween, Alignable, withU, complementIn, alignmentOf, Fair, Mixable, mergedOf, Mergeable};
 
 // The weight of each signal, 0 where it is no feed. The last feed is stored first.
 fn spread(gate: GateRecord) -> [i32; 256]
@@ -130,19 +129,11 @@ pub fn align(gate_u: GateRecord, gate_v: GateRecord, u: usize, v: usize) -> Alig
 }
 
 // k times x plus l times y.
-pub fn mixed(k: usize, l: usize, x: i64, y: i64) -> i64
+pub fn mixed(k: usize, l: usize, x: i32, y: i32) -> i32
     requires { ⌜ Mixable k l x y ⌝ }
     ensures { λ r. ⌜ r ≡ mix k l x y ⌝ }
 {
-    (k as i64) * x + (l as i64) * y
-}
-
-// The same of 32-bit numbers, where it is on the scale.
-fn mixed_on_scale(k: usize, l: usize, x: i32, y: i32) -> i32
-    requires { ⌜ Mixable k l x y × T (inScale (mix k l x y)) ⌝ }
-    ensures { λ r. ⌜ r ≡ mix k l x y ⌝ }
-{
-    mixed(k, l, widened(x), widened(y)) as i32
+    (k as i32) * x + (l as i32) * y
 }
 
 // The gate of two aligned gates merged with k and l.
@@ -155,7 +146,7 @@ pub fn merged_gate(a: Alignment, k: usize, l: usize) -> GateRecord
     let mut fanin: usize = 0;
     let count = a.count;
     for i in 0..count {
-        let w = mixed_on_scale(k, l, a.us[i], a.vs[i]);
+        let w = mixed(k, l, a.us[i], a.vs[i]);
         if magnitude(w) != 0 {
             signals[fanin] = a.signals[i];
             weights[fanin] = w;
@@ -163,7 +154,7 @@ pub fn merged_gate(a: Alignment, k: usize, l: usize) -> GateRecord
         }
     }
     let thresholds = a.thresholds;
-    let threshold = mixed_on_scale(k, l, thresholds.own, thresholds.on);
+    let threshold = mixed(k, l, thresholds.own, thresholds.on);
     GateRecord {
         fanin: fanin as u8,
         threshold,

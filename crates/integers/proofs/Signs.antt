@@ -1,6 +1,6 @@
 -- Facts on signed 32-bit numbers for the two casts by hand. Assumes nothing.
 use mathlib.Core.Path.{_≡_, refl, sym, ap, _∙_, subst}
-use Prim.Native.Nat.{ℕ, zero, suc, _-_, _<_, _≤_, _^_}
+use Prim.Native.Nat.{ℕ, zero, suc, _+_, _-_, _<_, _≤_, _^_}
 use native.Mathlib.Nat.{zero-add}
 use native.Mathlib.Omega.{arith}
 use lib.IntN.{ℤ, pos, negsuc, _-ℤ_, natAbs}
@@ -39,6 +39,7 @@ pub record Below (z : ℤ) : Type 0 where
   pub cast : T (nonNeg (negsuc 0 -ℤ z)) × Fits w32 (natAbs (negsuc 0 -ℤ z))
   pub le : natAbs (negsuc 0 -ℤ z) ≤ 4294967295
   pub same : 4294967295 - natAbs (negsuc 0 -ℤ z) ≡ ofZ w32 z
+  pub size : natAbs (negsuc 0 -ℤ z) + 1 ≡ natAbs z
 
 pub below : (z : ℤ) → SFits w32 z → leZ (pos 0) z ≡ false → Below z
 below (pos n) f h = let e : _≡_ {A = ℕ} 0 1 = cc (leb·zero n) in absurd (omega arith)
@@ -50,4 +51,5 @@ below (negsuc n) f h =
       cast = subst (λ (z : ℤ). T (nonNeg z) × Fits w32 (natAbs z)) e (tt, record { fits = omega arith });
       le = subst (λ (z : ℤ). natAbs z ≤ 4294967295) e (omega arith);
       same = subst (λ (z : ℤ). 4294967295 - natAbs z ≡ 4294967296 - suc n) e (omega arith);
+      size = subst (λ (z : ℤ). natAbs z + 1 ≡ suc n) e (omega arith);
     }

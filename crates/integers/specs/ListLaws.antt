@@ -11,7 +11,7 @@ use lib.Dec.{T, T-not, eqb, eqb→eq, eqb-refl}
 use lib.ListN.{length, getD, replicate, length-map, length-replicate, getD-replicate}
 use lib.Seq.{ext-getD}
 use Rattle.integers.specs.Lists.{all, below, keep, range, tab, other, Each}
-use Rattle.integers.specs.TestLaws.{is-true, T-and, and-T, cond-case, other-ne}
+use Rattle.integers.specs.TestLaws.{is-true, refuted, fails, T-and, and-T, cond-case, other-ne}
 
 -- ---- below: a test at each number
 pub below-none : (p : ℕ → Bool) → below 0 p ≡ true
@@ -34,6 +34,10 @@ pub at-below : (n : ℕ) (p : ℕ → Bool) → ((s : ℕ) → s < n → T (p s)
 unfolding below
 at-below zero p h = tt
 at-below (suc n) p h = and-T (below n p) (p n) (at-below n p λ s k. h s (omega arith)) (h n (omega arith))
+
+-- one number fails a test of every number
+pub below-no : (n : ℕ) (p : ℕ → Bool) (s : ℕ) → s < n → p s ≡ false → below n p ≡ false
+below-no n p s h e = refuted (below n p) (λ t. fails (p s) e (below-at n p t s h))
 
 -- ---- each member
 module _ {A : Type 0} where

@@ -1,8 +1,9 @@
 -- Lists, ranges and tests over them: the small vocabulary of the definitions. Nothing is proved here.
 use mathlib.Core.Bool.{Bool, true, not, cond, _&&_}
 use mathlib.Core.List.{List, [], _∷_, map}
-use Prim.Native.Nat.{ℕ, zero, suc}
+use Prim.Native.Nat.{ℕ, zero, suc, _≤_}
 use lib.Dec.{leb, eqb}
+use lib.IntN.{ℤ, pos, natAbs}
 use lib.ListN.{getD}
 
 -- p holds of each member
@@ -55,3 +56,7 @@ other u s = not (eqb s u)
 abbrev pub Each : {A : Type 0} → (A → Type 0) → List A → Type 0
 Each P [] = Unit {0}
 Each P (x ∷ xs) = P x × Each P xs
+
+-- no number of the list is above n in size
+abbrev pub Small : ℕ → List ℤ → Type 0
+Small n zs = (i : ℕ) → natAbs (getD zs i (pos 0)) ≤ n

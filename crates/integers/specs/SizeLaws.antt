@@ -1,5 +1,5 @@
 -- The size |z| of an integer, which bounds sums and products and says whether a number fits a signed type. Assumes nothing.
-use mathlib.Core.Path.{_≡_, refl, sym, ap, _∙_, subst}
+use mathlib.Core.Path.{_≡_, refl, ap, _∙_}
 use mathlib.Core.Bool.{Bool, true, false, cond}
 use Prim.Native.Nat.{ℕ, zero, suc, _+_, _-_, _*_, _^_, _≤_, _<_}
 use native.Mathlib.Nat.{le-refl}
@@ -58,19 +58,9 @@ wider f = sfits-widen tt f
 pub read-back : (w : Width) {r z : ℤ} → mag r < 2 ^ hbits w → r ≡ z → toZ w (ofZ w r) ≡ z
 read-back w {r} h e = toZ-ofZ (record { sfits = h }) ∙ e
 
--- ---- 0 - z, as a number's size is made
+-- ---- 0 - z, and the sign of z
 pub size-minus : (z : ℤ) → natAbs (pos 0 -ℤ z) ≡ natAbs z
 size-minus z = ap natAbs (+ℤ-idl (negℤ z)) ∙ size-neg z
-
-pub minus-fits : {z : ℤ} → SFits w32 z → SFits w64 (pos 0 -ℤ z)
-minus-fits {z} f = size-fits w64 (pos 0 -ℤ z) (omega (arith, fits-size f, size-minus z))
-
-neg-nonNeg : (z : ℤ) → ltZ z (pos 0) ≡ true → T (nonNeg (negℤ z))
-neg-nonNeg (pos n) e = let h = ltb-true n 0 e in absurd (omega arith)
-neg-nonNeg (negsuc n) e = tt
-
-pub minus-nonNeg : (z : ℤ) → ltZ z (pos 0) ≡ true → T (nonNeg (pos 0 -ℤ z))
-minus-nonNeg z e = subst (λ (x : ℤ). T (nonNeg x)) (sym (+ℤ-idl (negℤ z))) (neg-nonNeg z e)
 
 pub plus-nonNeg : (z : ℤ) → ltZ z (pos 0) ≡ false → T (nonNeg z)
 plus-nonNeg (pos n) e = tt

@@ -117,6 +117,17 @@ pub cond-case : {A : Type 0} (P : A → Type 0) (b : Bool) {x y : A} → (T b �
 cond-case P true f g = f tt
 cond-case P false f g = g tt
 
+-- ---- tests that fail
+
+-- what is refuted is false
+pub refuted : (b : Bool) → (T b → ⊥) → b ≡ false
+refuted true f = absurd (f tt)
+refuted false f = refl
+
+pub fails : (b : Bool) → b ≡ false → T b → ⊥
+fails true e t = absurd (true≢false e)
+fails false e t = t
+
 -- ---- equal numbers
 pub other-ne : (u s : ℕ) → T (other u s) → s ≢ u
 unfolding other

@@ -10,7 +10,7 @@ pub fn wide(x: u8) -> usize
     x as usize
 }
 
-// A weight or a threshold in 64 bits, in which sums are made.
+// A weight or a threshold in 64 bits, in which a frame's sums are made.
 pub fn widened(w: i32) -> i64
     ensures { λ r. ⌜ r ≡ w ⌝ }
 {
@@ -21,8 +21,11 @@ pub fn widened(w: i32) -> i64
 pub fn magnitude(w: i32) -> u32
     ensures { λ r. ⌜ r ≡ natAbs w ⌝ }
 {
-    let x = widened(w);
-    if x < 0 { (0 - x) as u32 } else { x as u32 }
+    if 0 <= w {
+        w as u32
+    } else {
+        (((-1) - w) as u32) + 1
+    }
 }
 
 pub mod unchecked;

@@ -53,7 +53,7 @@ module _ (e : Edge) (ok : EdgeOk e) (k l : ℕ) (t : T (narrow e)) where
   pub qualified-mergeable : T (qualifies e (record { k = k; l = l })) → Mergeable (alignmentOf e) k l
   qualified-mergeable h =
       let q = qualified-of e (record { k = k; l = l }) h in
-      mergeable e k l ok (narrow-few e t) (dial-of k (q .k-dial) .1) (dial-of l (q .l-dial) .1) (q .scaled)
+      mergeable e k l ok (narrow-few e t) (dial-of k (q .k-dial) .1) (dial-of l (q .l-dial) .1)
 
   pub mergedOf-is : gateRecord (mergedOf (alignmentOf e) k l) ≡ gateRecord (merged e k l)
   mergedOf-is = ap gateRecord (merged-is e k l (narrow-few e t))

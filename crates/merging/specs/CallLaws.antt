@@ -128,7 +128,7 @@ merge-fits e k l p = let d = T-and (onDial k) (onDial l) (p .0) in record {
 module _ (e : Edge) (k l : ℕ) (f : MergeFits e k l) where
   -- the merged gate can be made
   pub fits-mergeable : EdgeOk e → Mergeable (alignmentOf e) k l
-  fits-mergeable ok = mergeable e k l ok (narrow-few e (f .searched .is-narrow)) (dial-of k (f .k-dial) .1) (dial-of l (f .l-dial) .1) (f .scaled)
+  fits-mergeable ok = mergeable e k l ok (narrow-few e (f .searched .is-narrow)) (dial-of k (f .k-dial) .1) (dial-of l (f .l-dial) .1)
 
   -- it is made of the aligned gates, and its places stand for it
   pub fits-gate : (g : GateRecord) → g ≡ gateRecord (mergedOf (alignmentOf e) k l) → (g ≡ gateRecord (merged e k l)) × (gateIn g ≡ merged e k l)

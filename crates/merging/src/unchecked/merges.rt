@@ -1,8 +1,8 @@
 // The tests of a merge after that of the record and that u feeds v, on the two gates by their distinct feeds.
 use crate::unchecked::edges::on_dial;
+use agreement::unchecked::agrees_everywhere;
+use agreement::unchecked::scale_fits;
 use alignment::Alignment;
-use search::unchecked::agrees_everywhere;
-use search::unchecked::scale_fits;
 ghost use mathlib.Core.Path.{_≡_};
 ghost use Rattle.alignment.specs.Alignments.{alignedIn, Fair, Searchable, Dial};
 ghost use Rattle.merging.specs.Codes.{firstFailing, mergeTestsOn, fitTests};

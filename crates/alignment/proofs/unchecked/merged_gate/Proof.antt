@@ -12,8 +12,8 @@ use borrow.Author.Tests.{eq-eqb, ne-eqb}
 use Rattle.integers.specs.SizeLaws.{read-back}
 use Rattle.network.specs.Limits.{isZero}
 use Rattle.folding.specs.Aligned.{mixedThreshold, mixedWeight}
-use Rattle.alignment.specs.Alignments.{alignedIn}
-use Rattle.alignment.proofs.Combine.{OnScale, mix-at, weight-mixable, threshold-mixable, Combined, combined-none, combined-few, combined-drop, combined-store, combined-all}
+use Rattle.alignment.specs.Alignments.{alignedIn, Mixable}
+use Rattle.alignment.proofs.Combine.{mix-at, weight-mixable, threshold-mixable, Combined, combined-none, combined-few, combined-drop, combined-store, combined-all}
 use Rattle.alignment.proofs.unchecked.merged_gate.Statement.{statement}
 use Rattle.alignment.proofs.unchecked.merged_gate.Tie as tie
 
@@ -35,21 +35,21 @@ fanin-low c =
     omega (arith, i-low c, combined-few (a .t1) (a .k) (a .l) (l .i) (l .fanin) (l .signals) (l .weights) (l .inv .1))
 
 -- the two weights at i, and their mix
-x-is : (c : tie.After-mixed-on-scale-arg Inv-loop μ-loop) → toZ w32 (ofZ w32 (getD (c .before .before .before .args .t1 .us) (c .before .before .loop .i) (pos 0))) ≡ getD (c .before .before .before .args .t1 .us) (c .before .before .loop .i) (pos 0)
-x-is c = read-back w32 {r = getD (c .before .before .before .args .t1 .us) (c .before .before .loop .i) (pos 0)} (c .mixed-on-scale-arg .given) refl
+x-is : (c : tie.After-mixed-arg Inv-loop μ-loop) → toZ w32 (ofZ w32 (getD (c .before .before .before .args .t1 .us) (c .before .before .loop .i) (pos 0))) ≡ getD (c .before .before .before .args .t1 .us) (c .before .before .loop .i) (pos 0)
+x-is c = read-back w32 {r = getD (c .before .before .before .args .t1 .us) (c .before .before .loop .i) (pos 0)} (c .mixed-arg .given) refl
 
-y-is : (c : tie.After-mixed-on-scale-arg2 Inv-loop μ-loop) → toZ w32 (ofZ w32 (getD (c .before .before .before .before .args .t1 .vs) (c .before .before .before .loop .i) (pos 0))) ≡ getD (c .before .before .before .before .args .t1 .vs) (c .before .before .before .loop .i) (pos 0)
-y-is c = read-back w32 {r = getD (c .before .before .before .before .args .t1 .vs) (c .before .before .before .loop .i) (pos 0)} (c .mixed-on-scale-arg2 .given) refl
+y-is : (c : tie.After-mixed-arg2 Inv-loop μ-loop) → toZ w32 (ofZ w32 (getD (c .before .before .before .before .args .t1 .vs) (c .before .before .before .loop .i) (pos 0))) ≡ getD (c .before .before .before .before .args .t1 .vs) (c .before .before .before .loop .i) (pos 0)
+y-is c = read-back w32 {r = getD (c .before .before .before .before .args .t1 .vs) (c .before .before .before .loop .i) (pos 0)} (c .mixed-arg2 .given) refl
 
-mixable : (c : tie.After-mixed-on-scale-arg2 Inv-loop μ-loop) → OnScale (c .before .before .before .before .args .k) (c .before .before .before .before .args .l) (getD (c .before .before .before .before .args .t1 .us) (c .before .before .before .loop .i) (pos 0)) (getD (c .before .before .before .before .args .t1 .vs) (c .before .before .before .loop .i) (pos 0))
+mixable : (c : tie.After-mixed-arg2 Inv-loop μ-loop) → Mixable (c .before .before .before .before .args .k) (c .before .before .before .before .args .l) (getD (c .before .before .before .before .args .t1 .us) (c .before .before .before .loop .i) (pos 0)) (getD (c .before .before .before .before .args .t1 .vs) (c .before .before .before .loop .i) (pos 0))
 mixable c =
     let s = c .before .before .before .before in
-    weight-mixable (s .args .t1) (s .args .k) (s .args .l) (s .pre) (c .before .before .before .loop .i) (c .before .before .loop-test .taken)
+    weight-mixable (s .args .t1) (s .args .k) (s .args .l) (s .pre) (c .before .before .before .loop .i)
 
-w-is : (c : tie.After-mixed-on-scale Inv-loop μ-loop) → toZ w32 (ofZ w32 (c .mixed-on-scale .result)) ≡ mixedWeight (alignedIn (c .before .before .before .before .before .args .t1)) (c .before .before .before .before .before .args .k) (c .before .before .before .before .before .args .l) (c .before .before .before .before .loop .i)
+w-is : (c : tie.After-mixed Inv-loop μ-loop) → toZ w32 (ofZ w32 (c .mixed .result)) ≡ mixedWeight (alignedIn (c .before .before .before .before .before .args .t1)) (c .before .before .before .before .before .args .k) (c .before .before .before .before .before .args .l) (c .before .before .before .before .loop .i)
 w-is c =
     let a = c .before .before .before .before .before .args in
-    read-back w32 (c .mixed-on-scale .ok) (rw (x-is (c .before .before), y-is (c .before)) at (c .mixed-on-scale .ensures) ∙ sym (mix-at (a .t1) (a .k) (a .l) (c .before .before .before .before .loop .i) (c .before .before .before .loop-test .taken)))
+    read-back w32 (c .mixed .ok) (rw (x-is (c .before .before), y-is (c .before)) at (c .mixed .ensures) ∙ sym (mix-at (a .t1) (a .k) (a .l) (c .before .before .before .before .loop .i) (c .before .before .before .loop-test .taken)))
 
 -- the thresholds, as the machine reads them back
 own-is : (c : tie.Start Inv-loop μ-loop) → toZ w32 (ofZ w32 (c .args .t1 .thresholds .own)) ≡ c .args .t1 .thresholds .own
@@ -61,20 +61,20 @@ on-is c = search needs
 loop-holds : tie.Need-loop-holds Inv-loop μ-loop
 loop-holds c = (omega arith, combined-none (c .args .t1) (c .args .k) (c .args .l))
 
-mul-mixed-on-scale : tie.Need-mul-mixed-on-scale Inv-loop μ-loop
-mul-mixed-on-scale c = search needs
+mul-mixed : tie.Need-mul-mixed Inv-loop μ-loop
+mul-mixed c = search needs
 
-element-copy-out-mixed-on-scale : tie.Need-element-copy-out-mixed-on-scale Inv-loop μ-loop
-element-copy-out-mixed-on-scale c = i-low c
+element-copy-out-mixed : tie.Need-element-copy-out-mixed Inv-loop μ-loop
+element-copy-out-mixed c = i-low c
 
-mul-mixed-on-scale-2 : tie.Need-mul-mixed-on-scale-2 Inv-loop μ-loop
-mul-mixed-on-scale-2 c = search needs
+mul-mixed-2 : tie.Need-mul-mixed-2 Inv-loop μ-loop
+mul-mixed-2 c = search needs
 
-element-copy-out-mixed-on-scale-2 : tie.Need-element-copy-out-mixed-on-scale-2 Inv-loop μ-loop
-element-copy-out-mixed-on-scale-2 c = i-low (c .before)
+element-copy-out-mixed-2 : tie.Need-element-copy-out-mixed-2 Inv-loop μ-loop
+element-copy-out-mixed-2 c = i-low (c .before)
 
-mixed-on-scale-requires : tie.Need-mixed-on-scale-requires Inv-loop μ-loop
-mixed-on-scale-requires c κs = rw (x-is (c .before), y-is c) (mixable c)
+mixed-requires : tie.Need-mixed-requires Inv-loop μ-loop
+mixed-requires c κs = rw (x-is (c .before), y-is c) (mixable c)
 
 magnitude-requires : tie.Need-magnitude-requires Inv-loop μ-loop
 magnitude-requires c κs = search needs
@@ -106,7 +106,7 @@ loop-again c =
     let a = c .before .before .before .before .before .before .before .args in
     let l = c .before .before .before .before .before .before .loop in
     let m = c .before .before in
-    let z = toZ w32 (ofZ w32 (m .mixed-on-scale .result)) in
+    let z = toZ w32 (ofZ w32 (m .mixed .result)) in
     let size = c .before .magnitude .ensures in (
       omega arith,
       ⊎-elim
@@ -119,8 +119,8 @@ loop-again c =
           (c .if1 .came),
     )
 
-mixed-on-scale-requires-2 : tie.Need-mixed-on-scale-requires-2 Inv-loop μ-loop
-mixed-on-scale-requires-2 c κs =
+mixed-requires-2 : tie.Need-mixed-requires-2 Inv-loop μ-loop
+mixed-requires-2 c κs =
     let s = c .before .before .before .before .before in
     rw (own-is s, on-is s) (threshold-mixable (s .args .t1) (s .args .k) (s .args .l) (s .pre))
 
@@ -137,7 +137,7 @@ returns c =
     let a = s .args in
     let l = c .before .before .before .before .before .loop in
     let end : l .i ≡ a .t1 .count = omega (arith, l .inv .0, c .before .before .before .before .loop-test .left) in
-    let t = read-back w32 (c .mixed-on-scale2 .ok) (rw (own-is s, on-is s) at (c .mixed-on-scale2 .ensures)) in
+    let t = read-back w32 (c .mixed2 .ok) (rw (own-is s, on-is s) at (c .mixed2 .ensures)) in
     (λ j. record { fanin = l .fanin; threshold = t j; signals = l .signals; weights = l .weights })
     ∙ combined-all (a .t1) (a .k) (a .l) (l .fanin) (l .signals) (l .weights) (rw end at (l .inv .1))
 
@@ -148,11 +148,11 @@ merged-gate-spec =
     Inv-loop
     μ-loop
     loop-holds
-    mul-mixed-on-scale
-    element-copy-out-mixed-on-scale
-    mul-mixed-on-scale-2
-    element-copy-out-mixed-on-scale-2
-    mixed-on-scale-requires
+    mul-mixed
+    element-copy-out-mixed
+    mul-mixed-2
+    element-copy-out-mixed-2
+    mixed-requires
     magnitude-requires
     element-copy-out-signals
     array-write-signals
@@ -162,6 +162,6 @@ merged-gate-spec =
     add-i
     loop-less
     loop-again
-    mixed-on-scale-requires-2
+    mixed-requires-2
     cast-t31
     returns)

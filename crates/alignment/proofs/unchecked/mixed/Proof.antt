@@ -1,10 +1,10 @@
--- `mixed` meets its contract: 32 times a sum, twice, is far below the range of an i64. Assumes nothing.
-use Prim.Native.Nat.{ℕ, _≤_}
+-- `mixed` meets its contract: 32 times a sum of 16 weights, twice, is in the range of 32 bits. Assumes nothing.
+use Prim.Native.Nat.{ℕ, _*_, _≤_}
 use mathlib.Core.Path.{_≡_}
 use native.Mathlib.Nat.{mul-le-mul}
 use native.Mathlib.Omega.{arith}
 use lib.IntN.{ℤ, pos, natAbs, _+ℤ_, _*ℤ_}
-use mir.Syntax.{w64}
+use mir.Syntax.{w32}
 use mir.Val.{SFits, toZ}
 use mir.Facts.{toZ-ofZ}
 use Rattle.integers.specs.SizeLaws.{size-add, size-mul, size-fits}
@@ -12,13 +12,13 @@ use borrow.Author.Needs.{needs}
 use Rattle.alignment.proofs.unchecked.mixed.Statement.{statement}
 use Rattle.alignment.proofs.unchecked.mixed.Tie as tie
 
--- a multiple by at most 32 of a number of the size of a sum
-times : (k : ℕ) (z : ℤ) → k ≤ 32 → natAbs z ≤ 16000000 → natAbs (pos k *ℤ z) ≤ 512000000
-times k z h e = rw size-mul (mul-le-mul h e)
+-- a multiple by at most 32
+times : (k n : ℕ) (z : ℤ) → k ≤ 32 → natAbs z ≤ n → natAbs (pos k *ℤ z) ≤ 32 * n
+times k n z h e = rw size-mul (mul-le-mul h e)
 
 -- a multiplier as the cast leaves it
-cast : (k : ℕ) → k ≤ 32 → toZ w64 k ≡ pos k
-cast k h = toZ-ofZ {z = pos k} (size-fits w64 (pos k) (omega arith))
+cast : (k : ℕ) → k ≤ 32 → toZ w32 k ≡ pos k
+cast k h = toZ-ofZ {z = pos k} (size-fits w32 (pos k) (omega arith))
 
 module _ (c : tie.Start) where
   abbrev kx : ℤ
@@ -27,14 +27,14 @@ module _ (c : tie.Start) where
   abbrev ly : ℤ
   ly = pos (c .args .l) *ℤ c .args .y
 
-  kx-fits : SFits w64 kx
-  kx-fits = size-fits w64 kx (omega (arith, times (c .args .k) (c .args .x) (c .pre .dial .k-high) (c .pre .x-small)))
+  kx-fits : SFits w32 kx
+  kx-fits = size-fits w32 kx (omega (arith, times (c .args .k) _ (c .args .x) (c .pre .dial .k-high) (c .pre .x-small)))
 
-  ly-fits : SFits w64 ly
-  ly-fits = size-fits w64 ly (omega (arith, times (c .args .l) (c .args .y) (c .pre .dial .l-high) (c .pre .y-small)))
+  ly-fits : SFits w32 ly
+  ly-fits = size-fits w32 ly (omega (arith, times (c .args .l) _ (c .args .y) (c .pre .dial .l-high) (c .pre .y-small)))
 
-  sum-fits : SFits w64 (kx +ℤ ly)
-  sum-fits = size-fits w64 (kx +ℤ ly) (omega (arith, times (c .args .k) (c .args .x) (c .pre .dial .k-high) (c .pre .x-small), times (c .args .l) (c .args .y) (c .pre .dial .l-high) (c .pre .y-small), size-add kx ly))
+  sum-fits : SFits w32 (kx +ℤ ly)
+  sum-fits = size-fits w32 (kx +ℤ ly) (omega (arith, times (c .args .k) _ (c .args .x) (c .pre .dial .k-high) (c .pre .x-small), times (c .args .l) _ (c .args .y) (c .pre .dial .l-high) (c .pre .y-small), size-add kx ly))
 
 cast-result : tie.Need-cast-result
 cast-result c = search needs

@@ -1,0 +1,54 @@
+-- `agreement::unchecked::agrees_low` meets its contract: the two sums of the low half are read from the tables. Assumes nothing.
+use mathlib.Core.Path.{_≡_}
+use Prim.Native.Nat.{ℕ}
+use native.Mathlib.Omega.{arith}
+use lib.IntN.{pos}
+use lib.ListN.{getD}
+use mir.Syntax.{w32}
+use mir.Val.{toZ, ofZ}
+use Rattle.sums.specs.SumLaws.{place-held}
+use borrow.Author.Needs.{needs}
+use Rattle.agreement.proofs.unchecked.agrees_low.Statement.{statement}
+use Rattle.agreement.proofs.unchecked.agrees_low.Tie as tie
+
+mul-same-bits : tie.Need-mul-same-bits
+mul-same-bits c = search needs
+
+element-copy-out-same-bits : tie.Need-element-copy-out-same-bits
+element-copy-out-same-bits c = search needs
+
+mul-same-bits-2 : tie.Need-mul-same-bits-2
+mul-same-bits-2 c = search needs
+
+element-copy-out-same-bits-2 : tie.Need-element-copy-out-same-bits-2
+element-copy-out-same-bits-2 c = search needs
+
+-- the two sums, as the machine reads them back
+module _ (c : tie.Start) where
+  abbrev at : ℕ
+  at = c .args .low
+
+  u-is : toZ w32 (ofZ w32 (getD (c .args .sums-u .now) at (pos 0))) ≡ getD (c .args .sums-u .now) at (pos 0)
+  u-is = place-held (c .args .sums-u .now) (c .pre .0 .u-small) at
+
+  v-is : toZ w32 (ofZ w32 (getD (c .args .sums-v .now) at (pos 0))) ≡ getD (c .args .sums-v .now) at (pos 0)
+  v-is = place-held (c .args .sums-v .now) (c .pre .0 .v-small) at
+
+same-bits-requires : tie.Need-same-bits-requires
+same-bits-requires c κs =
+    let s = c .before .before in
+    rw (u-is s, v-is s) (s .pre .1 .0, record { dial = s .pre .1 .1 .0; x-small = omega (arith, s .pre .0 .u-small (at s)); y-small = omega (arith, s .pre .0 .v-small (at s)) })
+
+returns : tie.Need-returns
+returns c = let s = c .before .before .before in rw (u-is s, v-is s) at (c .same-bits .ensures)
+
+pub agrees-low-spec : {M : Type 1} → statement M
+agrees-low-spec =
+    tie.close
+    (tie.spec
+    mul-same-bits
+    element-copy-out-same-bits
+    mul-same-bits-2
+    element-copy-out-same-bits-2
+    same-bits-requires
+    returns)

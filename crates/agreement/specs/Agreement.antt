@@ -1,0 +1,14 @@
+-- What the agreement test asks of the tables of sums, and the thresholds of one half. Nothing is proved here.
+use mathlib.Core.List.{List}
+use lib.IntN.{ℤ, _-ℤ_}
+use Rattle.integers.specs.Lists.{Small}
+use Rattle.folding.specs.declared.Thresholds.{Thresholds}
+
+-- no sum of 8 weights in the two tables is above eight million in size
+pub record SumTables (sumsU sumsV : List ℤ) : Type 0 where
+  pub u-small : Small 8000000 sumsU
+  pub v-small : Small 8000000 sumsV
+
+-- what the sums of the low half must reach where those of the high half are su and sv
+unfoldable pub reduced : Thresholds → ℤ → ℤ → Thresholds
+reduced t su sv = record { own = t .own -ℤ su; on = t .on -ℤ sv; off = t .off -ℤ sv }

@@ -1,0 +1,75 @@
+-- Laws of two gates by their distinct feeds: what the tests of the scale and of agreement find, feed by feed and setting by setting, is
+-- the definitions' answer. Assumes nothing.
+use mathlib.Core.Path.{_≡_, refl, sym, _∙_, subst}
+use mathlib.Core.Bool.{Bool, true, false}
+use mathlib.Core.List.{List}
+use Prim.Native.Nat.{ℕ, _^_, _<_}
+use native.Mathlib.Omega.{arith}
+use lib.Dec.{T}
+use lib.IntN.{ℤ, pos}
+use lib.ListN.{length, getD}
+use lib.Seq.{getD-take, length-take-le}
+use Rattle.integers.specs.Lists.{below}
+use Rattle.integers.specs.TestLaws.{is-true, T-is, and-true, and-false-right}
+use Rattle.integers.specs.ListLaws.{below-at, at-below, below-no}
+use Rattle.network.specs.Limits.{inScale}
+use Rattle.folding.specs.Aligned.{Aligned, mix, mixedThreshold, sameBits, agreesOn, agreesAll, mixedWeight, scaleFits}
+use Rattle.alignment.specs.declared.Alignment.{Alignment}
+use Rattle.alignment.specs.Alignments.{alignedIn, Near, Searchable}
+use Rattle.sums.specs.Tables.{Sums, sumFrom}
+use Rattle.sums.specs.SumLaws.{sums-small, sum-from}
+use Rattle.agreement.specs.Agreement.{SumTables}
+use Rattle.agreement.specs.HalfLaws.{near-wider}
+
+module _ (a : Alignment) where
+  abbrev pub gates : Aligned
+  gates = alignedIn a
+
+  feeds : Searchable a → length (gates .us) ≡ a .count
+  unfolding alignedIn
+  feeds f = length-take-le (a .count) (a .us) (omega (arith, f .few, f .fair .placed))
+
+  pub mix-is : (k l i : ℕ) → i < a .count → mixedWeight gates k l i ≡ mix k l (getD (a .us) i (pos 0)) (getD (a .vs) i (pos 0))
+  unfolding mixedWeight alignedIn
+  mix-is k l i h = rw (getD-take (a .count) (a .us) i (pos 0) h, getD-take (a .count) (a .vs) i (pos 0) h)
+
+  pub threshold-is : (k l : ℕ) → mixedThreshold (gates .thresholds) k l ≡ mixedThreshold (a .thresholds) k l
+  unfolding alignedIn
+  threshold-is k l = refl
+
+  -- the tables, and the thresholds
+  pub tables-small : {tu tv : List ℤ} → Searchable a → Sums (a .us) 256 tu → Sums (a .vs) 256 tv → SumTables tu tv
+  tables-small f u v = record { u-small = sums-small u (f .fair .us-small); v-small = sums-small v (f .fair .vs-small) }
+
+  pub nearer : Searchable a → Near 10000000 (a .thresholds)
+  nearer f = near-wider (a .thresholds) (f .fair .near)
+
+  -- a setting, from the tables
+  pub agrees-is : {tu tv : List ℤ} → Searchable a → Sums (a .us) 256 tu → Sums (a .vs) 256 tv → (k l s : ℕ) → s < 2 ^ a .count
+      → agreesOn gates k l s ≡ sameBits (a .thresholds) k l (sumFrom tu s) (sumFrom tv s)
+  unfolding agreesOn alignedIn
+  agrees-is f u v k l s h = rw (sum-from u (f .fair .us-small) (a .count) s (f .few) h, sum-from v (f .fair .vs-small) (a .count) s (f .few) h)
+
+  module _ (f : Searchable a) (k l : ℕ) where
+    -- ---- the scale
+    pub weight-off : (i : ℕ) → i < a .count → inScale (mixedWeight gates k l i) ≡ false → scaleFits gates k l ≡ false
+    unfolding scaleFits
+    weight-off i h e = rw (feeds f, below-no (a .count) (λ (j : ℕ). inScale (mixedWeight gates k l j)) i h e) (and-false-right (inScale (mixedThreshold (gates .thresholds) k l)) false refl)
+
+    pub weights-on : below (a .count) (λ i. inScale (mixedWeight gates k l i)) ≡ true → scaleFits gates k l ≡ inScale (mixedThreshold (gates .thresholds) k l)
+    unfolding scaleFits
+    weights-on e = rw (feeds f, e) (and-true (inScale (mixedThreshold (gates .thresholds) k l)))
+
+    -- ---- agreement
+    pub agreement : agreesAll gates k l ≡ below (2 ^ a .count) (agreesOn gates k l)
+    unfolding agreesAll
+    agreement = rw (feeds f)
+
+    pub disagrees : (s : ℕ) → s < 2 ^ a .count → agreesOn gates k l s ≡ false → agreesAll gates k l ≡ false
+    disagrees s h e = agreement ∙ below-no (2 ^ a .count) (agreesOn gates k l) s h e
+
+    pub agreed : {tu tv : List ℤ} → Sums (a .us) 256 tu → Sums (a .vs) 256 tv
+        → below (2 ^ a .count) (λ s. sameBits (a .thresholds) k l (sumFrom tu s) (sumFrom tv s)) ≡ true → agreesAll gates k l ≡ true
+    agreed {tu} {tv} u v e =
+        let p : ℕ → Bool = λ s. sameBits (a .thresholds) k l (sumFrom tu s) (sumFrom tv s) in
+        agreement ∙ is-true _ (at-below (2 ^ a .count) (agreesOn gates k l) λ s h. subst T (sym (agrees-is f u v k l s h)) (below-at (2 ^ a .count) p (T-is _ e) s h))

@@ -1,0 +1,174 @@
+// The agreement test and the scale test of a merge, by tables of sums. Each call asks for numbers on the scale, so that no sum and no
+// product leaves 32 bits.
+use alignment::Alignment;
+use alignment::unchecked::mixed;
+use folding::Thresholds;
+use sums::unchecked::settings;
+use sums::unchecked::sum_at;
+use sums::unchecked::table;
+ghost use mathlib.Core.Path.{_≡_};
+ghost use Prim.Native.Nat.{_+_, _≤_, _<_};
+ghost use lib.IntN.{pos, natAbs};
+ghost use lib.ListN.{getD};
+ghost use Rattle.integers.specs.Lists.{Small};
+ghost use Rattle.sums.specs.Tables.{sumFrom};
+ghost use Rattle.network.specs.Limits.{inScale};
+ghost use Rattle.folding.specs.Aligned.{mix, composedBit, mixedThreshold, mergedBit, sameBits, agreesAll, scaleFits};
+ghost use Rattle.alignment.specs.Alignments.{alignedIn, Near, Searchable, Dial, Mixable};
+ghost use Rattle.agreement.specs.Agreement.{SumTables, reduced};
+
+// The merged gate's threshold.
+pub fn merged_threshold(thresholds: Thresholds, k: usize, l: usize) -> i32
+    requires { ⌜ Near 10000000 thresholds ⌝ }
+    requires { ⌜ Dial k l ⌝ }
+    ensures { λ r. ⌜ r ≡ mixedThreshold thresholds k l ⌝ }
+{
+    mixed(k, l, thresholds.own, thresholds.on)
+}
+
+// The merged gate's bit, from the two sums.
+fn merged_bit(thresholds: Thresholds, k: usize, l: usize, su: i32, sv: i32) -> bool
+    requires { ⌜ Near 10000000 thresholds ⌝ }
+    requires { ⌜ Mixable k l su sv ⌝ }
+    ensures { λ r. ⌜ r ≡ mergedBit thresholds k l su sv ⌝ }
+{
+    mixed(k, l, su, sv) >= merged_threshold(thresholds, k, l)
+}
+
+// The composed pair's bit, from the two sums.
+pub fn composed_bit(thresholds: Thresholds, su: i32, sv: i32) -> bool
+    ensures { λ r. ⌜ r ≡ composedBit thresholds su sv ⌝ }
+{
+    if su >= thresholds.own {
+        sv >= thresholds.on
+    } else {
+        sv >= thresholds.off
+    }
+}
+
+// Whether the merged gate and the composed pair have the same bit, from the two sums.
+fn same_bits(thresholds: Thresholds, k: usize, l: usize, su: i32, sv: i32) -> bool
+    requires { ⌜ Near 10000000 thresholds ⌝ }
+    requires { ⌜ Mixable k l su sv ⌝ }
+    ensures { λ r. ⌜ r ≡ sameBits thresholds k l su sv ⌝ }
+{
+    merged_bit(thresholds, k, l, su, sv) == composed_bit(thresholds, su, sv)
+}
+
+// The same on a setting.
+pub fn agrees_at(
+    sums_u: &[i32; 512],
+    sums_v: &[i32; 512],
+    thresholds: Thresholds,
+    k: usize,
+    l: usize,
+    setting: usize,
+) -> bool
+    requires { ⌜ SumTables (now «sums_u») (now «sums_v») ⌝ }
+    requires { ⌜ Near 10000000 thresholds ⌝ }
+    requires { ⌜ Dial k l ⌝ }
+    requires { ⌜ setting < 65536 ⌝ }
+    ensures { λ r. ⌜ r ≡ sameBits thresholds k l (sumFrom (now («sums_u» .entry)) setting) (sumFrom (now («sums_v» .entry)) setting) ⌝ }
+{
+    let su = sum_at(sums_u, setting);
+    let sv = sum_at(sums_v, setting);
+    same_bits(thresholds, k, l, su, sv)
+}
+
+// What the sums of the low half must reach where those of the high half are `su` and `sv`.
+fn less_high_half(thresholds: Thresholds, su: i32, sv: i32) -> Thresholds
+    requires { ⌜ Near 2000000 thresholds ⌝ }
+    requires { ⌜ natAbs su ≤ 8000000 ⌝ }
+    requires { ⌜ natAbs sv ≤ 8000000 ⌝ }
+    ensures { λ r. ⌜ r ≡ reduced thresholds su sv ⌝ }
+{
+    let own = thresholds.own - su;
+    let on = thresholds.on - sv;
+    let off = thresholds.off - sv;
+    Thresholds { own, on, off }
+}
+
+// The same for one setting of the high half, from the tables.
+pub fn low_thresholds(
+    sums_u: &[i32; 512],
+    sums_v: &[i32; 512],
+    thresholds: Thresholds,
+    high: usize,
+) -> Thresholds
+    requires { ⌜ SumTables (now «sums_u») (now «sums_v») ⌝ }
+    requires { ⌜ Near 2000000 thresholds ⌝ }
+    requires { ⌜ high < 256 ⌝ }
+    ensures { λ r. ⌜ r ≡ reduced thresholds (getD (now («sums_u» .entry)) (256 + high) (pos 0)) (getD (now («sums_v» .entry)) (256 + high) (pos 0)) ⌝ }
+{
+    less_high_half(thresholds, sums_u[256 + high], sums_v[256 + high])
+}
+
+// Whether the two bits are the same, from the sums of the low half and what they must reach.
+pub fn agrees_low(
+    sums_u: &[i32; 512],
+    sums_v: &[i32; 512],
+    thresholds: Thresholds,
+    k: usize,
+    l: usize,
+    low: usize,
+) -> bool
+    requires { ⌜ SumTables (now «sums_u») (now «sums_v») ⌝ }
+    requires { ⌜ Near 10000000 thresholds ⌝ }
+    requires { ⌜ Dial k l ⌝ }
+    requires { ⌜ low < 256 ⌝ }
+    ensures { λ r. ⌜ r ≡ sameBits thresholds k l (getD (now («sums_u» .entry)) low (pos 0)) (getD (now («sums_v» .entry)) low (pos 0)) ⌝ }
+{
+    same_bits(thresholds, k, l, sums_u[low], sums_v[low])
+}
+
+// Whether a number is on the scale of weights and thresholds.
+fn in_scale(z: i32) -> bool
+    ensures { λ r. ⌜ r ≡ inScale z ⌝ }
+{
+    (-1000000 <= z) & (z <= 1000000)
+}
+
+// The merged gate's weight at a distinct feed.
+fn merged_weight<'a>(us: &'a [i32; 16], vs: &'a [i32; 16], k: usize, l: usize, feed: usize) -> i32
+    requires { ⌜ Small 1000000 (now us) ⌝ }
+    requires { ⌜ Small 1000000 (now vs) ⌝ }
+    requires { ⌜ Dial k l ⌝ }
+    requires { ⌜ feed < 16 ⌝ }
+    ensures { λ r. ⌜ r ≡ mix k l (getD (now (us .entry)) feed (pos 0)) (getD (now (vs .entry)) feed (pos 0)) ⌝ }
+{
+    mixed(k, l, us[feed], vs[feed])
+}
+
+// Whether the merged gate's weights and threshold are on the scale.
+pub fn scale_fits(a: Alignment, k: usize, l: usize) -> bool
+    requires { ⌜ Searchable a ⌝ }
+    requires { ⌜ Dial k l ⌝ }
+    ensures { λ r. ⌜ r ≡ scaleFits (alignedIn a) k l ⌝ }
+{
+    let count = a.count;
+    for feed in 0..count {
+        if !in_scale(merged_weight(&a.us, &a.vs, k, l, feed)) {
+            return false;
+        }
+    }
+    let thresholds = a.thresholds;
+    in_scale(merged_threshold(thresholds, k, l))
+}
+
+// Whether the merged gate and the composed pair have the same bit on every setting.
+pub fn agrees_everywhere(a: Alignment, k: usize, l: usize) -> bool
+    requires { ⌜ Searchable a ⌝ }
+    requires { ⌜ Dial k l ⌝ }
+    ensures { λ r. ⌜ r ≡ agreesAll (alignedIn a) k l ⌝ }
+{
+    let sums_u = table(&a.us);
+    let sums_v = table(&a.vs);
+    let thresholds = a.thresholds;
+    let n = settings(a.count);
+    for setting in 0..n {
+        if !agrees_at(&sums_u, &sums_v, thresholds, k, l, setting) {
+            return false;
+        }
+    }
+    true
+}

@@ -1,0 +1,67 @@
+-- `search::unchecked::differences::differs_within` is safe: the places are there. It promises nothing. Assumes nothing.
+use Prim.Native.Nat.{_-_, _≤_}
+use native.Mathlib.Omega.{arith}
+use borrow.Author.Needs.{needs}
+use Rattle.search.proofs.unchecked.differences.differs_within.Statement.{statement}
+use Rattle.search.proofs.unchecked.differences.differs_within.Tie as tie
+
+abbrev Inv-loop : tie.InvT-loop
+Inv-loop sums-u sums-v mixes thresholds bar lows differs₀ low₀ differs low = low ≤ lows
+
+abbrev μ-loop : tie.MeasureT-loop
+μ-loop sums-u sums-v mixes thresholds bar lows differs₀ low₀ differs low = lows - low
+
+loop-holds : tie.Need-loop-holds Inv-loop μ-loop
+loop-holds c = omega arith
+
+mul-differs : tie.Need-mul-differs Inv-loop μ-loop
+mul-differs c = search needs
+
+element-copy-out-differs : tie.Need-element-copy-out-differs Inv-loop μ-loop
+element-copy-out-differs c = search needs
+
+mul-composed-bit : tie.Need-mul-composed-bit Inv-loop μ-loop
+mul-composed-bit c = search needs
+
+element-copy-out-composed-bit : tie.Need-element-copy-out-composed-bit Inv-loop μ-loop
+element-copy-out-composed-bit c = search needs
+
+mul-composed-bit-2 : tie.Need-mul-composed-bit-2 Inv-loop μ-loop
+mul-composed-bit-2 c = search needs
+
+element-copy-out-composed-bit-2 : tie.Need-element-copy-out-composed-bit-2 Inv-loop μ-loop
+element-copy-out-composed-bit-2 c = search needs
+
+composed-bit-requires : tie.Need-composed-bit-requires Inv-loop μ-loop
+composed-bit-requires c κs = search needs
+
+add-low : tie.Need-add-low Inv-loop μ-loop
+add-low c = search needs
+
+loop-less : tie.Need-loop-less Inv-loop μ-loop
+loop-less c = omega arith
+
+loop-again : tie.Need-loop-again Inv-loop μ-loop
+loop-again c = omega arith
+
+returns : tie.Need-returns Inv-loop μ-loop
+returns c = search needs
+
+pub differs-within-spec : {M : Type 1} → statement M
+differs-within-spec =
+    tie.close
+    (tie.spec
+    Inv-loop
+    μ-loop
+    loop-holds
+    mul-differs
+    element-copy-out-differs
+    mul-composed-bit
+    element-copy-out-composed-bit
+    mul-composed-bit-2
+    element-copy-out-composed-bit-2
+    composed-bit-requires
+    add-low
+    loop-less
+    loop-again
+    returns)
