@@ -15,11 +15,10 @@ use Rattle.integers.specs.ListLaws.{below-at, at-below, below-no}
 use Rattle.network.specs.Limits.{inScale}
 use Rattle.folding.specs.Aligned.{Aligned, mix, mixedThreshold, sameBits, agreesOn, agreesAll, mixedWeight, scaleFits}
 use Rattle.alignment.specs.declared.Alignment.{Alignment}
-use Rattle.alignment.specs.Alignments.{alignedIn, Near, Searchable}
+use Rattle.alignment.specs.Alignments.{alignedIn, Searchable}
 use Rattle.sums.specs.Tables.{Sums, sumFrom}
 use Rattle.sums.specs.SumLaws.{sums-small, sum-from}
 use Rattle.agreement.specs.Agreement.{SumTables}
-use Rattle.agreement.specs.HalfLaws.{near-wider}
 
 module _ (a : Alignment) where
   abbrev pub gates : Aligned
@@ -37,12 +36,9 @@ module _ (a : Alignment) where
   unfolding alignedIn
   threshold-is k l = refl
 
-  -- the tables, and the thresholds
+  -- the tables
   pub tables-small : {tu tv : List ℤ} → Searchable a → Sums (a .us) 256 tu → Sums (a .vs) 256 tv → SumTables tu tv
   tables-small f u v = record { u-small = sums-small u (f .fair .us-small); v-small = sums-small v (f .fair .vs-small) }
-
-  pub nearer : Searchable a → Near 10000000 (a .thresholds)
-  nearer f = near-wider (a .thresholds) (f .fair .near)
 
   -- a setting, from the tables
   pub agrees-is : {tu tv : List ℤ} → Searchable a → Sums (a .us) 256 tu → Sums (a .vs) 256 tv → (k l s : ℕ) → s < 2 ^ a .count
@@ -54,7 +50,9 @@ module _ (a : Alignment) where
     -- ---- the scale
     pub weight-off : (i : ℕ) → i < a .count → inScale (mixedWeight gates k l i) ≡ false → scaleFits gates k l ≡ false
     unfolding scaleFits
-    weight-off i h e = rw (feeds f, below-no (a .count) (λ (j : ℕ). inScale (mixedWeight gates k l j)) i h e) (and-false-right (inScale (mixedThreshold (gates .thresholds) k l)) false refl)
+    weight-off i h e =
+        let off = below-no (a .count) (λ (j : ℕ). inScale (mixedWeight gates k l j)) i h e in
+        rw (feeds f, off) (and-false-right (inScale (mixedThreshold (gates .thresholds) k l)) false refl)
 
     pub weights-on : below (a .count) (λ i. inScale (mixedWeight gates k l i)) ≡ true → scaleFits gates k l ≡ inScale (mixedThreshold (gates .thresholds) k l)
     unfolding scaleFits
@@ -72,4 +70,5 @@ module _ (a : Alignment) where
         → below (2 ^ a .count) (λ s. sameBits (a .thresholds) k l (sumFrom tu s) (sumFrom tv s)) ≡ true → agreesAll gates k l ≡ true
     agreed {tu} {tv} u v e =
         let p : ℕ → Bool = λ s. sameBits (a .thresholds) k l (sumFrom tu s) (sumFrom tv s) in
-        agreement ∙ is-true _ (at-below (2 ^ a .count) (agreesOn gates k l) λ s h. subst T (sym (agrees-is f u v k l s h)) (below-at (2 ^ a .count) p (T-is _ e) s h))
+        agreement
+        ∙ is-true _ (at-below (2 ^ a .count) (agreesOn gates k l) λ s h. subst T (sym (agrees-is f u v k l s h)) (below-at (2 ^ a .count) p (T-is _ e) s h))

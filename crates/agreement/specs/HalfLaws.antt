@@ -26,7 +26,8 @@ pub record Halved (count lows high low : ℕ) : Type 0 where
   pub low-half : (high * lows + low) % 256 ≡ low
   pub high-half : (high * lows + low) / 256 ≡ high
 
-pub halved : (count highs lows high low : ℕ) → count ≤ 16 → highs ≡ 2 ^ (count - 8) → lows ≡ 2 ^ (count - (count - 8)) → high < highs → low < lows → Halved count lows high low
+pub halved : (count highs lows high low : ℕ) → count ≤ 16 → highs ≡ 2 ^ (count - 8) → lows ≡ 2 ^ (count - (count - 8))
+    → high < highs → low < lows → Halved count lows high low
 halved count highs lows high low few a b h l = elim (decLt count 8) as (λ d. Halved count lows high low) [
   | yes k ↦
       let none : count - 8 ≡ 0 = omega arith in
@@ -69,7 +70,8 @@ pub high-few : (count highs : ℕ) → count ≤ 16 → highs ≡ 2 ^ (count - 8
 high-few count highs few a = let p = pow-mono {i = count - 8} {j = 8} (omega arith) in omega arith
 
 -- a setting's sum, by its halves
-pub sum-halves : (sums : List ℤ) (count lows high low : ℕ) → Halved count lows high low → sumFrom sums (high * lows + low) ≡ getD sums low (pos 0) +ℤ getD sums (256 + high) (pos 0)
+pub sum-halves : (sums : List ℤ) (count lows high low : ℕ) → Halved count lows high low
+    → sumFrom sums (high * lows + low) ≡ getD sums low (pos 0) +ℤ getD sums (256 + high) (pos 0)
 unfolding sumFrom
 sum-halves sums count lows high low h = rw (h .low-half, h .high-half)
 
@@ -84,7 +86,8 @@ reach t x s =
 
 composed-reduced : (t : Thresholds) (x y su sv : ℤ) → composedBit (reduced t x y) su sv ≡ composedBit t (su +ℤ x) (sv +ℤ y)
 unfolding composedBit reduced
-composed-reduced t x y su sv = rw (reach (t .own) x su) (elim (leZ (t .own) (su +ℤ x)) as (λ b. leZ (cond b (t .on -ℤ y) (t .off -ℤ y)) sv ≡ leZ (cond b (t .on) (t .off)) (sv +ℤ y))
+composed-reduced t x y su sv = rw (reach (t .own) x su) (elim (leZ (t .own) (su +ℤ x)) as
+    (λ b. leZ (cond b (t .on -ℤ y) (t .off -ℤ y)) sv ≡ leZ (cond b (t .on) (t .off)) (sv +ℤ y))
     [ true ↦ reach (t .on) y sv | false ↦ reach (t .off) y sv ])
 
 merged-reduced : (t : Thresholds) (k l : ℕ) (x y su sv : ℤ) → mergedBit (reduced t x y) k l su sv ≡ mergedBit t k l (su +ℤ x) (sv +ℤ y)

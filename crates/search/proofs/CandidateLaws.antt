@@ -29,10 +29,14 @@ module _ (g : Alignment) where
     unfolding qualifiesOn
     differing s h e = refuted (every (tests k l)) (λ t. fails (agreesAll gates k l) (disagrees g f k l s h e) (every-of (tests k l) t .1 .1 .1 .0))
 
-    pub qualified : 1 ≤ k → k ≤ 32 → 1 ≤ l → l ≤ 32 → scaleFits gates k l ≡ true → below (2 ^ g .count) (agreesOn gates k l) ≡ true → qualifiesOn gates (record { k = k; l = l }) ≡ true
+    pub qualified : 1 ≤ k → k ≤ 32 → 1 ≤ l → l ≤ 32 → scaleFits gates k l ≡ true → below (2 ^ g .count) (agreesOn gates k l) ≡ true
+        → qualifiesOn gates (record { k = k; l = l }) ≡ true
     unfolding qualifiesOn onDial
     qualified k1 k32 l1 l32 e a =
-        is-true (every (tests k l)) (of-every (tests k l) (of-between 1 32 k (k1, k32), (of-between 1 32 l (l1, l32), (T-is (scaleFits gates k l) e, (T-is (agreesAll gates k l) (agreement g f k l ∙ a), tt)))))
+        let dial-k = of-between 1 32 k (k1, k32) in
+        let dial-l = of-between 1 32 l (l1, l32) in
+        let all = T-is (agreesAll gates k l) (agreement g f k l ∙ a) in
+        is-true (every (tests k l)) (of-every (tests k l) (dial-k, (dial-l, (T-is (scaleFits gates k l) e, (all, tt)))))
 
   -- no pair off the dial qualifies
   pub k-off-dial : (k l : ℕ) → 32 < k → qualifiesOn gates (record { k = k; l = l }) ≡ false

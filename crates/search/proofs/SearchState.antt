@@ -53,7 +53,7 @@ pub record AtLow (agrees : ℕ → Bool) (lows high k₀ k low : ℕ) : Type 0 w
   pub within : low ≤ lows
   pub clear : below (high * lows + low) agrees ≡ true
 
-module _ {g : Alignment} {tu tv : List ℤ} (f : Searchable g) (u : Sums (g .us) 256 tu) (v : Sums (g .vs) 256 tv) where
+module _ {g : Alignment} (f : Searchable g) where
   abbrev pub q : Pair → Bool
   q = qualifiesOn (alignedIn g)
 
@@ -66,7 +66,13 @@ module _ {g : Alignment} {tu tv : List ℤ} (f : Searchable g) (u : Sums (g .us)
 
   -- ---- the loops begin and end
   pub begin : AtSum q n 0 0 2
-  begin = record { low = omega arith; high = omega arith; last-in = pow-pos (g .count); earlier-in = pow-pos (g .count); same = ap (λ (ps : List Pair). first q ps 16) later-start }
+  begin = record {
+    low = omega arith;
+    high = omega arith;
+    last-in = pow-pos (g .count);
+    earlier-in = pow-pos (g .count);
+    same = ap (λ (ps : List Pair). first q ps 16) later-start;
+  }
 
   pub turn : {last earlier sum : ℕ} → AtSum q n last earlier sum → sum ≤ 64 → AtCandidate q n last earlier sum 1
   turn {last} {earlier} {sum} a h = record {
@@ -110,22 +116,9 @@ module _ {g : Alignment} {tu tv : List ℤ} (f : Searchable g) (u : Sums (g .us)
   unscaled {last} {earlier} {sum} {k} {b} a h j e t =
       missed a h j (a .last-in) (a .earlier-in) (off-scale g f k (sum - k) (sym e ∙ not-true b t))
 
-  pub differs : {last earlier last' earlier' sum k : ℕ} {b : Bool} (s : ℕ) → AtCandidate q n last earlier sum k → k ≤ 32 → k < sum → s < n → last' < n → earlier' < n
-      → b ≡ agrees k (sum - k) s → not b ≡ true → AtCandidate q n last' earlier' sum (k + 1)
+  pub differs : {last earlier last' earlier' sum k : ℕ} {b : Bool} (s : ℕ) → AtCandidate q n last earlier sum k → k ≤ 32 → k < sum
+      → s < n → last' < n → earlier' < n → b ≡ agrees k (sum - k) s → not b ≡ true → AtCandidate q n last' earlier' sum (k + 1)
   differs {last} {earlier} {last'} {earlier'} {sum} {k} {b} s a h j i x y t d = missed a h j x y (differing g f k (sum - k) s i (sym t ∙ not-true b d))
-
-  -- ---- what a test says, of a whole setting and of its two halves
-  pub tested : (k l s : ℕ) {b : Bool} → s < n → b ≡ sameBits (g .thresholds) k l (sumFrom tu s) (sumFrom tv s) → b ≡ agrees k l s
-  tested k l s h t = t ∙ sym (agrees-is g f u v k l s h)
-
-  pub tested-low : (k l lows high low : ℕ) {b : Bool} → Halved (g .count) lows high low
-      → b ≡ sameBits (reduced (g .thresholds) (getD tu (256 + high) (pos 0)) (getD tv (256 + high) (pos 0))) k l (getD tu low (pos 0)) (getD tv low (pos 0))
-      → b ≡ agrees k l (high * lows + low)
-  tested-low k l lows high low h t =
-      tested k l (high * lows + low) (h .inside)
-      (t
-      ∙ same-reduced (g .thresholds) k l (getD tu (256 + high) (pos 0)) (getD tv (256 + high) (pos 0)) (getD tu low (pos 0)) (getD tv low (pos 0))
-      ∙ sym (ap₂ (sameBits (g .thresholds) k l) (sum-halves tu (g .count) lows high low h) (sum-halves tv (g .count) lows high low h)))
 
   -- ---- the settings of a candidate
   pub high-begin : (k l highs lows : ℕ) → AtHigh (agrees k l) highs lows k k 0
@@ -170,3 +163,17 @@ module _ {g : Alignment} {tu tv : List ℤ} (f : Searchable g) (u : Sums (g .us)
       let all : high * lows ≡ n = ap (λ (m : ℕ). m * lows) (let m : high ≡ highs = omega (arith, c .within) in m) ∙ e in
       rw (c .kept)
       (sym (first-hit q 16 sum k j (qualified g f k (sum - k) (a .low) h (omega arith) o (sym t ∙ not-false b y) (rw all at (c .clear)))) ∙ a .same)
+
+-- ---- what a test says, of a whole setting and of its two halves
+module _ {g : Alignment} {tu tv : List ℤ} (f : Searchable g) (u : Sums (g .us) 256 tu) (v : Sums (g .vs) 256 tv) where
+  pub tested : (k l s : ℕ) {b : Bool} → s < 2 ^ g .count → b ≡ sameBits (g .thresholds) k l (sumFrom tu s) (sumFrom tv s) → b ≡ agreesOn (alignedIn g) k l s
+  tested k l s h t = t ∙ sym (agrees-is g f u v k l s h)
+
+  pub tested-low : (k l lows high low : ℕ) {b : Bool} → Halved (g .count) lows high low
+      → b ≡ sameBits (reduced (g .thresholds) (getD tu (256 + high) (pos 0)) (getD tv (256 + high) (pos 0))) k l (getD tu low (pos 0)) (getD tv low (pos 0))
+      → b ≡ agreesOn (alignedIn g) k l (high * lows + low)
+  tested-low k l lows high low h t =
+      tested k l (high * lows + low) (h .inside)
+      (t
+      ∙ same-reduced (g .thresholds) k l (getD tu (256 + high) (pos 0)) (getD tv (256 + high) (pos 0)) (getD tu low (pos 0)) (getD tv low (pos 0))
+      ∙ sym (ap₂ (sameBits (g .thresholds) k l) (sum-halves tu (g .count) lows high low h) (sum-halves tv (g .count) lows high low h)))

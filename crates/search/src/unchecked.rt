@@ -59,9 +59,9 @@ fn scan(a: Alignment, sums_u: &[i32; 512], sums_v: &[i32; 512]) -> Found
                 continue 'candidate;
             }
             for high in 0..highs {
-                let left = low_thresholds(sums_u, sums_v, thresholds, high);
+                let reach = low_thresholds(sums_u, sums_v, thresholds, high);
                 for low in 0..lows {
-                    if !agrees_low(sums_u, sums_v, left, k, l, low) {
+                    if !agrees_low(sums_u, sums_v, reach, k, l, low) {
                         continue 'candidate;
                     }
                 }

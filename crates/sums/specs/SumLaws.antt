@@ -82,7 +82,9 @@ drop-small m n ws h i = rw getD-drop (h (n + i))
 -- two places of a table sum to the size of a sum of 16 weights
 pub from-small : (sums : List ℤ) (setting : ℕ) → Small 8000000 sums → natAbs (sumFrom sums setting) ≤ 16000000
 unfolding sumFrom
-from-small sums setting small = omega (arith, small (setting % 256), small (256 + setting / 256), size-add (getD sums (setting % 256) (pos 0)) (getD sums (256 + setting / 256) (pos 0)))
+from-small sums setting small =
+    let both = size-add (getD sums (setting % 256) (pos 0)) (getD sums (256 + setting / 256) (pos 0)) in
+    omega (arith, small (setting % 256), small (256 + setting / 256), both)
 
 -- setting 0 alone
 pub sums-one : (weights : List ℤ) → Sums weights 1 (replicate 512 (pos 0))
@@ -103,7 +105,8 @@ pub record Next (weights sums : List ℤ) (bit n j : ℕ) : Type 0 where
   pub low-small : natAbs (getD sums j (pos 0)) ≤ 8000000
   pub high-small : natAbs (getD sums (256 + j) (pos 0)) ≤ 8000000
 
-pub next : {weights sums : List ℤ} {n : ℕ} (bit j : ℕ) → n ≡ 2 ^ bit → j < n → j < 256 → Small 1000000 weights → Sums weights (n + j) sums → Next weights sums bit n j
+pub next : {weights sums : List ℤ} {n : ℕ} (bit j : ℕ) → n ≡ 2 ^ bit → j < n → j < 256 → Small 1000000 weights
+    → Sums weights (n + j) sums → Next weights sums bit n j
 next {weights} {sums} {n} bit j e h k small t = record {
   low = rw (t .low j (omega arith), e) (sym (sum-double weights bit j (omega arith)));
   high = rw (t .high j (omega arith), e, ← getD-drop) (sym (sum-double (drop 8 weights) bit j (omega arith)));
@@ -112,15 +115,18 @@ next {weights} {sums} {n} bit j e h k small t = record {
 }
 
 -- one setting more
-pub sums-more : {weights sums : List ℤ} {n : ℕ} → Sums weights n sums → n < 256 → (x y : ℤ) → x ≡ sumAt weights n → y ≡ sumAt (drop 8 weights) n → Sums weights (n + 1) (set (set sums n x) (256 + n) y)
+pub sums-more : {weights sums : List ℤ} {n : ℕ} → Sums weights n sums → n < 256 → (x y : ℤ) → x ≡ sumAt weights n
+    → y ≡ sumAt (drop 8 weights) n → Sums weights (n + 1) (set (set sums n x) (256 + n) y)
 sums-more {weights} {sums} {n} t h x y ex ey =
     record {
       long = length-set (set sums n x) (256 + n) y ∙ length-set sums n x ∙ t .long;
       low = below-more (λ (j : ℕ). getD (set (set sums n x) (256 + n) y) j (pos 0) ≡ sumAt weights j) n
-          (λ j k. getD-set-other (set sums n x) (256 + n) j y (pos 0) (λ q. absurd (omega arith)) ∙ getD-set-other sums n j x (pos 0) (λ q. absurd (omega arith)) ∙ t .low j k)
+          (λ j k. getD-set-other (set sums n x) (256 + n) j y (pos 0) (λ q. absurd (omega arith))
+          ∙ getD-set-other sums n j x (pos 0) (λ q. absurd (omega arith)) ∙ t .low j k)
           (getD-set-other (set sums n x) (256 + n) n y (pos 0) (λ q. absurd (omega arith)) ∙ getD-set-same sums n x (pos 0) (omega arith) ∙ ex);
       high = below-more (λ (j : ℕ). getD (set (set sums n x) (256 + n) y) (256 + j) (pos 0) ≡ sumAt (drop 8 weights) j) n
-          (λ j k. getD-set-other (set sums n x) (256 + n) (256 + j) y (pos 0) (λ q. absurd (omega arith)) ∙ getD-set-other sums n (256 + j) x (pos 0) (λ q. absurd (omega arith)) ∙ t .high j k)
+          (λ j k. getD-set-other (set sums n x) (256 + n) (256 + j) y (pos 0) (λ q. absurd (omega arith))
+          ∙ getD-set-other sums n (256 + j) x (pos 0) (λ q. absurd (omega arith)) ∙ t .high j k)
           (getD-set-same (set sums n x) (256 + n) y (pos 0) (omega (arith, length-set sums n x)) ∙ ey);
     }
 
@@ -132,7 +138,8 @@ module _ {weights sums : List ℤ} (t : Sums weights 256 sums) (small : Small 10
     | no h ↦ elim (decLt i 512) as (λ d. natAbs (getD sums i (pos 0)) ≤ 8000000) [
       | yes k ↦
           let e : i ≡ 256 + (i - 256) = omega arith in
-          let p : natAbs (getD sums (256 + (i - 256)) (pos 0)) ≤ 8000000 = rw (t .high (i - 256) (omega arith)) (omega (arith, sum-size 1000000 8 (drop 8 weights) (i - 256) (omega arith) (drop-small 1000000 8 weights small))) in
+          let size = sum-size 1000000 8 (drop 8 weights) (i - 256) (omega arith) (drop-small 1000000 8 weights small) in
+          let p : natAbs (getD sums (256 + (i - 256)) (pos 0)) ≤ 8000000 = rw (t .high (i - 256) (omega arith)) (omega (arith, size)) in
           subst (λ (n : ℕ). natAbs (getD sums n (pos 0)) ≤ 8000000) (sym e) p
       | no k ↦ rw (List·getD-eq-default sums (pos 0) {n = i} (omega (arith, t .long))) (omega arith)
     ]

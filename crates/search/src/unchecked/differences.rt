@@ -115,9 +115,9 @@ fn likely_high_half(
     let mixes = mixed_sums(sums_u, sums_v, k, l, lows);
     for step in 0..highs {
         let high = step ^ nearest;
-        let left = low_thresholds(sums_u, sums_v, thresholds, high);
-        let bar = merged_threshold(left, k, l);
-        if differs_within(sums_u, sums_v, &mixes, left, bar, lows) {
+        let reach = low_thresholds(sums_u, sums_v, thresholds, high);
+        let bar = merged_threshold(reach, k, l);
+        if differs_within(sums_u, sums_v, &mixes, reach, bar, lows) {
             return high;
         }
     }

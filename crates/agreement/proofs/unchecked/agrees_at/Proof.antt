@@ -15,8 +15,10 @@ same-bits-requires : tie.Need-same-bits-requires
 same-bits-requires c κs =
     let d = c .before .before in
     let a = d .args in
+    let u = from-small (a .sums-u .now) (a .setting) (d .pre .0 .u-small) in
+    let v = from-small (a .sums-v .now) (a .setting) (d .pre .0 .v-small) in
     rw (read-back w32 (c .before .sum-at .ok) (c .before .sum-at .ensures), read-back w32 (c .sum-at2 .ok) (c .sum-at2 .ensures))
-    (d .pre .1 .0, record { dial = d .pre .1 .1 .0; x-small = from-small (a .sums-u .now) (a .setting) (d .pre .0 .u-small); y-small = from-small (a .sums-v .now) (a .setting) (d .pre .0 .v-small) })
+    (d .pre .1 .0, record { dial = d .pre .1 .1 .0; x-small = u; y-small = v })
 
 returns : tie.Need-returns
 returns c =

@@ -14,7 +14,8 @@ use Rattle.folding.specs.declared.Thresholds.{Thresholds}
 use Rattle.alignment.specs.declared.Alignment.{Alignment}
 use Rattle.sums.specs.Tables.{Sums, sumFrom}
 use Rattle.sums.specs.SumLaws.{setting-low}
-use Rattle.agreement.specs.GateLaws.{tables-small, nearer, agrees-is, disagrees, agreed}
+use Rattle.agreement.specs.HalfLaws.{near-wider}
+use Rattle.agreement.specs.GateLaws.{tables-small, agrees-is, disagrees, agreed}
 use Rattle.agreement.proofs.unchecked.agrees_everywhere.Statement.{statement}
 use Rattle.agreement.proofs.unchecked.agrees_everywhere.Tie as tie
 
@@ -39,8 +40,9 @@ settings-requires c κs = c .before .before .before .before .before .before .bef
 
 loop-holds : tie.Need-loop-holds Inv-loop μ-loop
 loop-holds c =
-    let a = c .before .before .before .before .before .before .before .before .args in
-    (omega arith, below-none (agrees (a .t1 .thresholds) (a .k) (a .l) (c .before .before .before .before .before .table .result) (c .before .before .table2 .result)))
+    let first = c .before .before .before .before .before in
+    let a = first .before .before .before .args in
+    (omega arith, below-none (agrees (a .t1 .thresholds) (a .k) (a .l) (first .table .result) (c .before .before .table2 .result)))
 
 -- the test of a setting
 module _ (c : tie.After-settings Inv-loop μ-loop) where
@@ -59,7 +61,9 @@ module _ (c : tie.After-settings Inv-loop μ-loop) where
 
   -- the test of each setting
   abbrev test : ℕ → Bool
-  test = agrees (gates .thresholds) (start .args .k) (start .args .l) (c .before .before .before .before .before .table .result) (c .before .before .table2 .result)
+  test =
+      agrees (gates .thresholds) (start .args .k) (start .args .l) (c .before .before .before .before .before .table .result)
+      (c .before .before .table2 .result)
 
 inside : (c : tie.In-loop Inv-loop μ-loop) → c .before .loop .setting < 2 ^ gates (c .before .before) .count
 inside c = omega (arith, c .loop-test .taken, c .before .before .settings .ensures)
@@ -69,7 +73,9 @@ agrees-at-requires c κs =
     let d = c .before .before in
     let s = d .before .before in
     let p = start s .pre in
-    (tables-small (gates s) (p .0) (sums-u s) (sums-v s), (nearer (gates s) (p .0), (p .1, setting-low (gates s .count) (d .before .loop .setting) (p .0 .few) (inside d))))
+    let near = near-wider (gates s .thresholds) (p .0 .fair .near) in
+    let low = setting-low (gates s .count) (d .before .loop .setting) (p .0 .few) (inside d) in
+    (tables-small (gates s) (p .0) (sums-u s) (sums-v s), (near, (p .1, low)))
 
 returns : tie.Need-returns Inv-loop μ-loop
 returns c =
@@ -90,7 +96,8 @@ loop-again : tie.Need-loop-again Inv-loop μ-loop
 loop-again c =
     let l = c .before .before .before .before .before .loop in
     let p = test (c .before .before .before .before .before .before) in
-    (omega arith, below-more p (l .setting) ∙ both-true (below (l .setting) p) (p (l .setting)) (l .inv .1) (sym (c .before .agrees-at .ensures) ∙ not-false (c .before .agrees-at .result) (c .if1 .left)))
+    let here = sym (c .before .agrees-at .ensures) ∙ not-false (c .before .agrees-at .result) (c .if1 .left) in
+    (omega arith, below-more p (l .setting) ∙ both-true (below (l .setting) p) (p (l .setting)) (l .inv .1) here)
 
 returns-2 : tie.Need-returns-2 Inv-loop μ-loop
 returns-2 c =

@@ -37,7 +37,9 @@ module _ (c : tie.Start) where
 same-bits-requires : tie.Need-same-bits-requires
 same-bits-requires c κs =
     let s = c .before .before in
-    rw (u-is s, v-is s) (s .pre .1 .0, record { dial = s .pre .1 .1 .0; x-small = omega (arith, s .pre .0 .u-small (at s)); y-small = omega (arith, s .pre .0 .v-small (at s)) })
+    let u = s .pre .0 .u-small (at s) in
+    let v = s .pre .0 .v-small (at s) in
+    rw (u-is s, v-is s) (s .pre .1 .0, record { dial = s .pre .1 .1 .0; x-small = omega (arith, u); y-small = omega (arith, v) })
 
 returns : tie.Need-returns
 returns c = let s = c .before .before .before in rw (u-is s, v-is s) at (c .same-bits .ensures)

@@ -15,7 +15,10 @@ use Rattle.agreement.proofs.unchecked.in_scale.Tie as tie
 ends : (z : ℤ) → leZ (negsuc 999999) z && leZ z (pos 1000000) ≡ inScale z
 unfolding inScale
 ends (pos n) = refl
-ends (negsuc n) = and-true (leb n 999999) ∙ test-same (leb n 999999) (leb (suc n) 1000000) (λ t. le→leb (suc n) 1000000 (omega (arith, leb→le n 999999 t))) (λ t. le→leb n 999999 (omega (arith, leb→le (suc n) 1000000 t)))
+ends (negsuc n) =
+    and-true (leb n 999999)
+    ∙ test-same (leb n 999999) (leb (suc n) 1000000) (λ t. le→leb (suc n) 1000000 (omega (arith, leb→le n 999999 t)))
+    (λ t. le→leb n 999999 (omega (arith, leb→le (suc n) 1000000 t)))
 
 returns : tie.Need-returns
 returns c = simp (toZ-ofZ (c .fits .z)) (ends (c .args .z))

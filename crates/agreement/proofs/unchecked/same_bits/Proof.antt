@@ -15,7 +15,9 @@ returns : tie.Need-returns
 unfolding sameBits
 returns c =
     let s = c .before .before in
-    rw (simp (toZ-ofZ (s .fits .su), toZ-ofZ (s .fits .sv)) at (c .before .merged-bit .ensures), simp (toZ-ofZ (s .fits .su), toZ-ofZ (s .fits .sv)) at (c .composed-bit .ensures))
+    let merged = simp (toZ-ofZ (s .fits .su), toZ-ofZ (s .fits .sv)) at (c .before .merged-bit .ensures) in
+    let composed = simp (toZ-ofZ (s .fits .su), toZ-ofZ (s .fits .sv)) at (c .composed-bit .ensures) in
+    rw (merged, composed)
 
 pub same-bits-spec : {M : Type 1} → statement M
 same-bits-spec = tie.close (tie.spec merged-bit-requires composed-bit-requires returns)

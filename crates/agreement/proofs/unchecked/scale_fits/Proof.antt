@@ -12,7 +12,8 @@ use Rattle.integers.specs.SizeLaws.{read-back}
 use Rattle.network.specs.Limits.{inScale}
 use Rattle.folding.specs.Aligned.{Aligned, mixedWeight}
 use Rattle.alignment.specs.Alignments.{alignedIn}
-use Rattle.agreement.specs.GateLaws.{nearer, mix-is, threshold-is, weight-off, weights-on}
+use Rattle.agreement.specs.HalfLaws.{near-wider}
+use Rattle.agreement.specs.GateLaws.{mix-is, threshold-is, weight-off, weights-on}
 use borrow.Author.Needs.{needs}
 use Rattle.agreement.proofs.unchecked.scale_fits.Statement.{statement}
 use Rattle.agreement.proofs.unchecked.scale_fits.Tie as tie
@@ -70,10 +71,12 @@ loop-again : tie.Need-loop-again Inv-loop μ-loop
 loop-again c =
     let d = c .before in
     let p = onScale (gates d) (start d .args .k) (start d .args .l) in
-    (omega arith, below-more p (feed d) ∙ both-true (below (feed d) p) (p (feed d)) (d .before .before .before .before .before .before .loop .inv .1) (sym (tested d) ∙ not-false (d .in-scale .result) (c .if1 .left)))
+    let before = d .before .before .before .before .before .before .loop .inv .1 in
+    let here = sym (tested d) ∙ not-false (d .in-scale .result) (c .if1 .left) in
+    (omega arith, below-more p (feed d) ∙ both-true (below (feed d) p) (p (feed d)) before here)
 
 merged-threshold-requires : tie.Need-merged-threshold-requires Inv-loop μ-loop
-merged-threshold-requires c κs = let p = c .before .before .before .pre in (nearer (c .before .before .before .args .t1) (p .0), p .1)
+merged-threshold-requires c κs = let s = c .before .before .before in (near-wider (s .args .t1 .thresholds) (s .pre .0 .fair .near), s .pre .1)
 
 in-scale-requires-2 : tie.Need-in-scale-requires-2 Inv-loop μ-loop
 in-scale-requires-2 c κs = search needs
@@ -82,10 +85,11 @@ returns-2 : tie.Need-returns-2 Inv-loop μ-loop
 returns-2 c =
     let d = c .before .before .before .before .before in
     let a = d .args in
-    let e : c .before .before .before .before .loop .feed ≡ a .t1 .count = omega (arith, c .before .before .before .before .loop .inv .0, c .before .before .before .loop-test .left) in
+    let loop = c .before .before .before .before .loop in
+    let e : loop .feed ≡ a .t1 .count = omega (arith, loop .inv .0, c .before .before .before .loop-test .left) in
     c .in-scale2 .ensures
     ∙ ap inScale (read-back w32 (c .before .merged-threshold .ok) (c .before .merged-threshold .ensures ∙ sym (threshold-is (a .t1) (a .k) (a .l))))
-    ∙ sym (weights-on (a .t1) (d .pre .0) (a .k) (a .l) (rw e at (c .before .before .before .before .loop .inv .1)))
+    ∙ sym (weights-on (a .t1) (d .pre .0) (a .k) (a .l) (rw e at (loop .inv .1)))
 
 pub scale-fits-spec : {M : Type 1} → statement M
 scale-fits-spec =

@@ -9,7 +9,9 @@ table-requires-2 : tie.Need-table-requires-2
 table-requires-2 c κs = c .before .before .before .before .before .pre .fair .vs-small
 
 scan-requires : tie.Need-scan-requires
-scan-requires c κs = let s = c .before .before .before .before .before .before .before .before in (s .pre, (c .before .before .before .before .before .table .ensures, c .before .before .table2 .ensures))
+scan-requires c κs =
+    let first = c .before .before .before .before .before in
+    (first .before .before .before .pre, (first .table .ensures, c .before .before .table2 .ensures))
 
 returns : tie.Need-returns
 returns c = c .scan .ensures

@@ -10,7 +10,8 @@ use Rattle.alignment.specs.Alignments.{alignedIn, Near, Dial}
 use Rattle.agreement.specs.Agreement.{SumTables}
 use Rattle.agreement.specs.HalfLaws.{Halved, halved, halves-all, half-few, high-few, near-wider, reduced-near}
 use Rattle.agreement.specs.GateLaws.{tables-small}
-use Rattle.search.proofs.SearchState.{AtSum, AtCandidate, AtHigh, AtLow, begin, turn, next-sum, none, over, off, unscaled, differs, tested, tested-low, high-begin, low-begin, low-more, high-more, differs-low, found}
+use Rattle.search.proofs.SearchState.{AtSum, AtCandidate, AtHigh, AtLow, begin, turn, next-sum, none, over, off, unscaled, differs, found}
+use Rattle.search.proofs.SearchState.{tested, tested-low, high-begin, low-begin, low-more, high-more, differs-low}
 use borrow.Author.Needs.{needs}
 use Rattle.search.proofs.unchecked.scan.Statement.{statement}
 use Rattle.search.proofs.unchecked.scan.Tie as tie
@@ -88,12 +89,12 @@ module _ (c : Halves) where
   near = near-wider (start .args .a .thresholds) (start .pre .0 .fair .near)
 
 loop-holds : tie.Need-loop-holds Inv-loop3 μ-loop3 Inv-loop2 μ-loop2 Inv-candidate μ-candidate Inv-loop μ-loop
-loop-holds c = let p = start c .pre in begin (p .0) (p .1 .0) (p .1 .1)
+loop-holds c = let p = start c .pre in begin (p .0)
 
 candidate-holds : tie.Need-candidate-holds Inv-loop3 μ-loop3 Inv-loop2 μ-loop2 Inv-candidate μ-candidate Inv-loop μ-loop
 candidate-holds c =
     let p = start (c .before .before) .pre in
-    turn (p .0) (p .1 .0) (p .1 .1) (c .before .loop .inv) (c .loop-test .taken)
+    turn (p .0) (c .before .loop .inv) (c .loop-test .taken)
 
 -- a candidate
 abbrev Here : Type 0
@@ -108,6 +109,9 @@ sum d = d .before .before .before .loop .sum
 abbrev k : Here → ℕ
 k d = d .before .candidate .k
 
+abbrev l : Here → ℕ
+l d = sum d - k d
+
 add-k : tie.Need-add-k Inv-loop3 μ-loop3 Inv-loop2 μ-loop2 Inv-candidate μ-candidate Inv-loop μ-loop
 add-k c = omega arith
 
@@ -118,7 +122,7 @@ candidate-again : tie.Need-candidate-again Inv-loop3 μ-loop3 Inv-loop2 μ-loop2
 candidate-again c =
     let d = c .before in
     let p = start (halves d) .pre in
-    over (p .0) (p .1 .0) (p .1 .1) (d .before .candidate .inv) (d .candidate-test .taken) (c .if1 .taken)
+    over (p .0) (d .before .candidate .inv) (d .candidate-test .taken) (c .if1 .taken)
 
 sub-l : tie.Need-sub-l Inv-loop3 μ-loop3 Inv-loop2 μ-loop2 Inv-candidate μ-candidate Inv-loop μ-loop
 sub-l c = omega arith
@@ -133,7 +137,7 @@ candidate-again-2 : tie.Need-candidate-again-2 Inv-loop3 μ-loop3 Inv-loop2 μ-l
 candidate-again-2 c =
     let d = c .before .before in
     let p = start (halves d) .pre in
-    off (p .0) (p .1 .0) (p .1 .1) (d .before .candidate .inv) (d .candidate-test .taken) (c .before .if1 .left) (c .if2 .taken)
+    off (p .0) (d .before .candidate .inv) (d .candidate-test .taken) (c .before .if1 .left) (c .if2 .taken)
 
 -- a candidate on the dial
 abbrev Tried : Type 0
@@ -142,7 +146,7 @@ Tried = tie.Else2 Inv-loop3 μ-loop3 Inv-loop2 μ-loop2 Inv-candidate μ-candida
 abbrev here : Tried → Here
 here e = e .before .before
 
-dial : (e : Tried) → Dial (k (here e)) (sum (here e) - k (here e))
+dial : (e : Tried) → Dial (k (here e)) (l (here e))
 dial e = record { k-high = here e .candidate-test .taken; l-high = e .if2 .left }
 
 low : (e : Tried) (s : ℕ) → s < 2 ^ count (halves (here e)) → s < 65536
@@ -165,8 +169,8 @@ candidate-again-3 c =
     let p = start (halves (here e)) .pre in
     let a = here e .before .candidate .inv in
     let s = here e .before .candidate .last in
-    differs (p .0) (p .1 .0) (p .1 .1) s a (here e .candidate-test .taken) (e .before .if1 .left) (a .last-in) (a .last-in) (a .earlier-in)
-    (tested (p .0) (p .1 .0) (p .1 .1) (k (here e)) (sum (here e) - k (here e)) s (a .last-in) (c .before .agrees-at .ensures)) (c .if3 .taken)
+    differs (p .0) s a (here e .candidate-test .taken) (e .before .if1 .left) (a .last-in) (a .last-in) (a .earlier-in)
+    (tested (p .0) (p .1 .0) (p .1 .1) (k (here e)) (l (here e)) s (a .last-in) (c .before .agrees-at .ensures)) (c .if3 .taken)
 
 agrees-at-requires-2 : tie.Need-agrees-at-requires-2 Inv-loop3 μ-loop3 Inv-loop2 μ-loop2 Inv-candidate μ-candidate Inv-loop μ-loop
 agrees-at-requires-2 c κs =
@@ -186,8 +190,8 @@ candidate-again-4 c =
     let p = start (halves (here e)) .pre in
     let a = here e .before .candidate .inv in
     let s = here e .before .candidate .earlier in
-    differs (p .0) (p .1 .0) (p .1 .1) s a (here e .candidate-test .taken) (e .before .if1 .left) (a .earlier-in) (a .last-in) (a .earlier-in)
-    (tested (p .0) (p .1 .0) (p .1 .1) (k (here e)) (sum (here e) - k (here e)) s (a .earlier-in) (c .before .agrees-at2 .ensures)) (c .if4 .taken)
+    differs (p .0) s a (here e .candidate-test .taken) (e .before .if1 .left) (a .earlier-in) (a .last-in) (a .earlier-in)
+    (tested (p .0) (p .1 .0) (p .1 .1) (k (here e)) (l (here e)) s (a .earlier-in) (c .before .agrees-at2 .ensures)) (c .if4 .taken)
 
 scale-fits-requires : tie.Need-scale-fits-requires Inv-loop3 μ-loop3 Inv-loop2 μ-loop2 Inv-candidate μ-candidate Inv-loop μ-loop
 scale-fits-requires c κs =
@@ -204,7 +208,7 @@ candidate-again-5 : tie.Need-candidate-again-5 Inv-loop3 μ-loop3 Inv-loop2 μ-l
 candidate-again-5 c =
     let e = c .before .before .before .before .before .before in
     let p = start (halves (here e)) .pre in
-    unscaled (p .0) (p .1 .0) (p .1 .1) (here e .before .candidate .inv) (here e .candidate-test .taken) (e .before .if1 .left) (c .before .scale-fits .ensures) (c .if5 .taken)
+    unscaled (p .0) (here e .before .candidate .inv) (here e .candidate-test .taken) (e .before .if1 .left) (c .before .scale-fits .ensures) (c .if5 .taken)
 
 -- a candidate on the scale, and a setting on which it is likely to differ
 abbrev Likely : Type 0
@@ -229,7 +233,8 @@ beside-requires : tie.Need-beside-requires Inv-loop3 μ-loop3 Inv-loop2 μ-loop2
 beside-requires c κs =
     let d = c .before .before in
     let e = tried d in
-    (tables (halves (here e)), (low e (d .likely-difference .result) (d .likely-difference .ensures), low e (here e .before .candidate .last) (here e .before .candidate .inv .last-in)))
+    let likely = low e (d .likely-difference .result) (d .likely-difference .ensures) in
+    (tables (halves (here e)), (likely, low e (here e .before .candidate .last) (here e .before .candidate .inv .last-in)))
 
 add-k-6 : tie.Need-add-k-6 Inv-loop3 μ-loop3 Inv-loop2 μ-loop2 Inv-candidate μ-candidate Inv-loop μ-loop
 add-k-6 c = omega arith
@@ -244,16 +249,18 @@ candidate-again-6 c =
     let p = start (halves (here e)) .pre in
     let a = here e .before .candidate .inv in
     let s = d .likely-difference .result in
-    let kept : c .beside .result < 2 ^ count (halves (here e)) = ⊎-elim (λ z. omega (arith, a .last-in)) (λ z. omega (arith, a .earlier-in)) (c .beside .ensures) in
-    differs (p .0) (p .1 .0) (p .1 .1) s a (here e .candidate-test .taken) (e .before .if1 .left) (d .likely-difference .ensures) (d .likely-difference .ensures) kept
-    (tested (p .0) (p .1 .0) (p .1 .1) (k (here e)) (sum (here e) - k (here e)) s (d .likely-difference .ensures) (c .before .before .agrees-at3 .ensures)) (c .before .if6 .taken)
+    let kept : c .beside .result < 2 ^ count (halves (here e)) =
+    ⊎-elim (λ z. omega (arith, a .last-in)) (λ z. omega (arith, a .earlier-in)) (c .beside .ensures) in
+    let in-n = d .likely-difference .ensures in
+    let test = tested (p .0) (p .1 .0) (p .1 .1) (k (here e)) (l (here e)) s in-n (c .before .before .agrees-at3 .ensures) in
+    differs (p .0) s a (here e .candidate-test .taken) (e .before .if1 .left) in-n in-n kept test (c .before .if6 .taken)
 
 loop2-holds : tie.Need-loop2-holds Inv-loop3 μ-loop3 Inv-loop2 μ-loop2 Inv-candidate μ-candidate Inv-loop μ-loop
 loop2-holds c =
     let e = tried (c .before .before) in
     let h = halves (here e) in
     let p = start h .pre in
-    high-begin (p .0) (p .1 .0) (p .1 .1) (k (here e)) (sum (here e) - k (here e)) (highs h) (lows h)
+    high-begin (p .0) (k (here e)) (l (here e)) (highs h) (lows h)
 
 -- a setting of the high half
 abbrev High : Type 0
@@ -276,7 +283,7 @@ loop3-holds c =
     let d = c .before in
     let e = tried (scaled d) in
     let p = start (whole d) .pre in
-    low-begin (p .0) (p .1 .0) (p .1 .1) (sum (here e) - k (here e)) (d .before .loop2 .inv)
+    low-begin (p .0) (l (here e)) (d .before .loop2 .inv)
 
 -- a setting of the low half
 abbrev Low : Type 0
@@ -289,10 +296,15 @@ high d = d .before .before .before
 kept : (d : Low) → d .before .loop3 .k ≡ k (here (tried (scaled (high d))))
 kept d = d .before .loop3 .inv .kept ∙ high d .before .loop2 .inv .kept
 
+-- the number of the setting
+abbrev number : Low → ℕ
+number d = high d .before .loop2 .high * lows (whole (high d)) + d .before .loop3 .low
+
 setting : (d : Low) → let h = whole (high d) in Halved (count h) (lows h) (high d .before .loop2 .high) (d .before .loop3 .low)
 setting d =
     let h = whole (high d) in
-    halved (count h) (highs h) (lows h) (high d .before .loop2 .high) (d .before .loop3 .low) (few h) (highs-is h) (lows-is h) (high d .loop2-test .taken) (d .loop3-test .taken)
+    halved (count h) (highs h) (lows h) (high d .before .loop2 .high) (d .before .loop3 .low)
+    (few h) (highs-is h) (lows-is h) (high d .loop2-test .taken) (d .loop3-test .taken)
 
 agrees-low-requires : tie.Need-agrees-low-requires Inv-loop3 μ-loop3 Inv-loop2 μ-loop2 Inv-candidate μ-candidate Inv-loop μ-loop
 agrees-low-requires c κs =
@@ -310,14 +322,16 @@ candidate-less-7 : tie.Need-candidate-less-7 Inv-loop3 μ-loop3 Inv-loop2 μ-loo
 candidate-less-7 c = let d = c .before .before in omega (arith, kept d, here (tried (scaled (high d))) .candidate-test .taken)
 
 -- what the test of a setting says
-agreed : (c : tie.After-agrees-low Inv-loop3 μ-loop3 Inv-loop2 μ-loop2 Inv-candidate μ-candidate Inv-loop μ-loop) → let d = c .before in let e = tried (scaled (high d)) in
-    c .agrees-low .result ≡ agreesOn (alignedIn (start (whole (high d)) .args .a)) (d .before .loop3 .k) (sum (here e) - k (here e)) (high d .before .loop2 .high * lows (whole (high d)) + d .before .loop3 .low)
+agreed : (c : tie.After-agrees-low Inv-loop3 μ-loop3 Inv-loop2 μ-loop2 Inv-candidate μ-candidate Inv-loop μ-loop)
+    → let d = c .before in let a = start (whole (high d)) .args .a in
+    c .agrees-low .result ≡ agreesOn (alignedIn a) (d .before .loop3 .k) (l (here (tried (scaled (high d))))) (number d)
 agreed c =
     let d = c .before in
     let e = tried (scaled (high d)) in
     let h = whole (high d) in
     let p = start h .pre in
-    tested-low (p .0) (p .1 .0) (p .1 .1) (d .before .loop3 .k) (sum (here e) - k (here e)) (lows h) (high d .before .loop2 .high) (d .before .loop3 .low) (setting d)
+    tested-low (p .0) (p .1 .0) (p .1 .1) (d .before .loop3 .k) (l (here e)) (lows h) (high d .before .loop2 .high) (d .before .loop3 .low)
+    (setting d)
     (rw (d .before .before .low-thresholds .ensures) at (c .agrees-low .ensures))
 
 candidate-again-7 : tie.Need-candidate-again-7 Inv-loop3 μ-loop3 Inv-loop2 μ-loop2 Inv-candidate μ-candidate Inv-loop μ-loop
@@ -325,11 +339,14 @@ candidate-again-7 c =
     let d = c .before .before in
     let e = tried (scaled (high d)) in
     let p = start (whole (high d)) .pre in
-    differs-low (p .0) (p .1 .0) (p .1 .1) (high d .before .loop2 .high * lows (whole (high d)) + d .before .loop3 .low) (here e .before .candidate .inv) (here e .candidate-test .taken) (e .before .if1 .left) (setting d .inside)
+    differs-low (p .0) (number d) (here e .before .candidate .inv) (here e .candidate-test .taken) (e .before .if1 .left) (setting d .inside)
     (kept d) (agreed (c .before)) (c .if7 .taken)
 
 add-low : tie.Need-add-low Inv-loop3 μ-loop3 Inv-loop2 μ-loop2 Inv-candidate μ-candidate Inv-loop μ-loop
-add-low c = let d = c .before .before in record { fits = omega (arith, d .loop3-test .taken, half-few (count (whole (high d))) (lows (whole (high d))) (lows-is (whole (high d)))) }
+add-low c =
+    let d = c .before .before in
+    let h = whole (high d) in
+    record { fits = omega (arith, d .loop3-test .taken, half-few (count h) (lows h) (lows-is h)) }
 
 loop3-less : tie.Need-loop3-less Inv-loop3 μ-loop3 Inv-loop2 μ-loop2 Inv-candidate μ-candidate Inv-loop μ-loop
 loop3-less c = omega arith
@@ -339,7 +356,7 @@ loop3-again c =
     let d = c .before .before in
     let e = tried (scaled (high d)) in
     let p = start (whole (high d)) .pre in
-    low-more (p .0) (p .1 .0) (p .1 .1) (sum (here e) - k (here e)) (d .before .loop3 .inv) (d .loop3-test .taken) (agreed (c .before)) (c .if7 .left)
+    low-more (p .0) (l (here e)) (d .before .loop3 .inv) (d .loop3-test .taken) (agreed (c .before)) (c .if7 .left)
 
 add-high : tie.Need-add-high Inv-loop3 μ-loop3 Inv-loop2 μ-loop2 Inv-candidate μ-candidate Inv-loop μ-loop
 add-high c = record { fits = omega (arith, low-high (c .before .before .before)) }
@@ -352,7 +369,7 @@ loop2-again c =
     let d = c .before .before .before in
     let e = tried (scaled d) in
     let p = start (whole d) .pre in
-    high-more (p .0) (p .1 .0) (p .1 .1) (sum (here e) - k (here e)) (d .before .loop2 .inv) (c .before .loop3 .inv) (d .loop2-test .taken) (c .loop3-test .left)
+    high-more (p .0) (l (here e)) (d .before .loop2 .inv) (c .before .loop3 .inv) (d .loop2-test .taken) (c .loop3-test .left)
 
 returns : tie.Need-returns Inv-loop3 μ-loop3 Inv-loop2 μ-loop2 Inv-candidate μ-candidate Inv-loop μ-loop
 returns c =
@@ -360,7 +377,8 @@ returns c =
     let e = tried s in
     let h = halves (here e) in
     let p = start h .pre in
-    found (p .0) (p .1 .0) (p .1 .1) (here e .before .candidate .inv) (here e .candidate-test .taken) (e .before .if1 .left) (e .if2 .left) (s .before .before .scale-fits .ensures) (s .before .if5 .left)
+    found (p .0) (here e .before .candidate .inv) (here e .candidate-test .taken) (e .before .if1 .left) (e .if2 .left)
+    (s .before .before .scale-fits .ensures) (s .before .if5 .left)
     (halves-all (count h) (highs h) (lows h) (highs-is h) (lows-is h)) (c .before .loop2 .inv) (c .loop2-test .left)
 
 add-sum : tie.Need-add-sum Inv-loop3 μ-loop3 Inv-loop2 μ-loop2 Inv-candidate μ-candidate Inv-loop μ-loop
@@ -372,12 +390,12 @@ loop-less c = omega arith
 loop-again : tie.Need-loop-again Inv-loop3 μ-loop3 Inv-loop2 μ-loop2 Inv-candidate μ-candidate Inv-loop μ-loop
 loop-again c =
     let p = start (c .before .before .before .before) .pre in
-    next-sum (p .0) (p .1 .0) (p .1 .1) (c .before .candidate .inv) (c .before .before .before .loop .inv .low) (c .before .before .loop-test .taken) (c .candidate-test .left)
+    next-sum (p .0) (c .before .candidate .inv) (c .before .before .before .loop .inv .low) (c .before .before .loop-test .taken) (c .candidate-test .left)
 
 returns-2 : tie.Need-returns-2 Inv-loop3 μ-loop3 Inv-loop2 μ-loop2 Inv-candidate μ-candidate Inv-loop μ-loop
 returns-2 c =
     let p = start (c .before .before) .pre in
-    none (p .0) (p .1 .0) (p .1 .1) (c .before .loop .inv) (c .loop-test .left)
+    none (p .0) (c .before .loop .inv) (c .loop-test .left)
 
 pub scan-spec : {M : Type 1} → statement M
 scan-spec =

@@ -78,7 +78,9 @@ module _ (c : tie.In-loop Inv-loop μ-loop) where
   high-held = held high (omega (arith, start .pre .1 .0 (8 + start .args .bit)))
 
   ahead : Next (start .args .weights .now) (c .before .loop .sums) (start .args .bit) (c .before .before .settings .result) (c .before .loop .j)
-  ahead = next (start .args .bit) (c .before .loop .j) (c .before .before .settings .ensures) (c .loop-test .taken) (omega arith) (start .pre .1 .0) (c .before .loop .inv .part)
+  ahead =
+      next (start .args .bit) (c .before .loop .j) (c .before .before .settings .ensures) (c .loop-test .taken) (omega arith)
+      (start .pre .1 .0) (c .before .loop .inv .part)
 
   low-small : natAbs (old-low +ℤ low) ≤ 9000000
   low-small = omega (arith, size-add old-low low, ahead .low-small, start .pre .1 .0 (start .args .bit))
@@ -141,7 +143,11 @@ loop-again c =
     let inv = d .before .loop .inv in
     let m = d .before .before .settings .result + d .before .loop .j in
     let e : d .before .before .settings .result + (d .before .loop .j + 1) ≡ m + 1 = omega arith in
-    simp (held (old-low d) (omega (arith, ahead d .low-small)), low-held d, held (old-low d +ℤ low d) (omega (arith, low-small d)), held (old-high d) (omega (arith, ahead d .high-small)), high-held d, held (old-high d +ℤ high d) (omega (arith, high-small d)))
+    let low-old = held (old-low d) (omega (arith, ahead d .low-small)) in
+    let low-new = held (old-low d +ℤ low d) (omega (arith, low-small d)) in
+    let high-old = held (old-high d) (omega (arith, ahead d .high-small)) in
+    let high-new = held (old-high d +ℤ high d) (omega (arith, high-small d)) in
+    simp (low-old, low-held d, low-new, high-old, high-held d, high-new)
     (record {
       high = omega arith;
       few = inv .few;

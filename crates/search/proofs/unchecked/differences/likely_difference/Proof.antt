@@ -45,8 +45,10 @@ module _ (c : tie.In-loop Inv-loop μ-loop) where
       let count = start .args .count in
       let lows = c .before .before .settings .result in
       let high = c .before .before .before .before .likely-high-half .result in
-      let is : lows ≡ 2 ^ (count - (count - 8)) = c .before .before .settings .ensures ∙ ap (λ (n : ℕ). 2 ^ (count - n)) (c .before .before .before .high-feeds .ensures) in
-      let h = halved count (2 ^ (count - 8)) lows high (c .before .loop .low) (start .pre .1 .1 .1 .0) refl is (c .before .before .before .before .likely-high-half .ensures) (c .loop-test .taken) in
+      let feeds = c .before .before .before .high-feeds .ensures in
+      let is : lows ≡ 2 ^ (count - (count - 8)) = c .before .before .settings .ensures ∙ ap (λ (n : ℕ). 2 ^ (count - n)) feeds in
+      let low-high = c .before .before .before .before .likely-high-half .ensures in
+      let h = halved count (2 ^ (count - 8)) lows high (c .before .loop .low) (start .pre .1 .1 .1 .0) refl is low-high (c .loop-test .taken) in
       omega (arith, h .inside, h .same)
 
   low-setting : setting < 65536

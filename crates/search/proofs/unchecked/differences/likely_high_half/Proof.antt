@@ -60,7 +60,10 @@ module _ (c : tie.In-loop Inv-loop μ-loop) where
   high = bitXor (c .before .loop .step) (start halves .args .nearest)
 
   inside : high < halves .before .settings .result
-  inside = xor-in (count halves - 8) (halves .before .settings .result) (c .before .loop .step) (start halves .args .nearest) (highs-is halves) (c .loop-test .taken)
+  inside =
+      let highs = halves .before .settings .result in
+      let nearest = start halves .args .nearest in
+      xor-in (count halves - 8) highs (c .before .loop .step) nearest (highs-is halves) (c .loop-test .taken)
       (omega (arith, highs-is halves, start halves .pre .1 .1 .1 .1))
 
   low-high : high < 256
@@ -73,10 +76,9 @@ merged-threshold-requires : tie.Need-merged-threshold-requires Inv-loop μ-loop
 merged-threshold-requires c κs =
     let d = c .before in
     let s = start (halves d) in
-    let tables = s .pre .0 in (
-      subst (Near 10000000) (sym (c .low-thresholds .ensures)) (reduced-near (s .args .thresholds) _ _ (s .pre .1 .0) (tables .u-small (256 + high d)) (tables .v-small (256 + high d))),
-      s .pre .1 .1 .0,
-    )
+    let at = 256 + high d in
+    let near = reduced-near (s .args .thresholds) _ _ (s .pre .1 .0) (s .pre .0 .u-small at) (s .pre .0 .v-small at) in
+    (subst (Near 10000000) (sym (c .low-thresholds .ensures)) near, s .pre .1 .1 .0)
 
 differs-within-requires : tie.Need-differs-within-requires Inv-loop μ-loop
 differs-within-requires c κs = lows-few (halves (c .before .before .before))
