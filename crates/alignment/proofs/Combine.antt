@@ -34,10 +34,14 @@ module _ (a : Alignment) (k l : ℕ) where
 
   -- each weight, and the threshold, as the mix that the code makes
   pub weight-mixable : Mergeable a k l → (i : ℕ) → Mixable k l (getD (a .us) i (pos 0)) (getD (a .vs) i (pos 0))
-  weight-mixable m i = record { dial = m .dial; x-small = omega (arith, m .searchable .fair .us-small i); y-small = omega (arith, m .searchable .fair .vs-small i) }
+  weight-mixable m i =
+      let fair = m .searchable .fair in
+      record { dial = m .dial; x-small = omega (arith, fair .us-small i); y-small = omega (arith, fair .vs-small i) }
 
   pub threshold-mixable : Mergeable a k l → Mixable k l (a .thresholds .own) (a .thresholds .on)
-  threshold-mixable m = record { dial = m .dial; x-small = omega (arith, m .searchable .fair .near .own-small); y-small = omega (arith, m .searchable .fair .near .on-small) }
+  threshold-mixable m =
+      let near = m .searchable .fair .near in
+      record { dial = m .dial; x-small = omega (arith, near .own-small); y-small = omega (arith, near .on-small) }
 
   -- ---- the lists
 
@@ -54,7 +58,9 @@ module _ (a : Alignment) (k l : ℕ) where
 
   -- among i there are at most i
   pub combined-few : (i fanin : ℕ) (signals : List ℕ) (weights : List ℤ) → Combined i fanin signals weights → fanin ≤ i
-  combined-few i fanin signals weights c = omega (arith, c .counted, length-keep stays (map (mixedFeed a k l) (range 0 i)), length-map (range 0 i) (mixedFeed a k l), length-range 0 i)
+  combined-few i fanin signals weights c =
+      let kept = length-keep stays (map (mixedFeed a k l) (range 0 i)) in
+      omega (arith, c .counted, kept, length-map (range 0 i) (mixedFeed a k l), length-range 0 i)
 
   -- whether distinct feed i gives one more
   feeds-more : (i : ℕ) → feedsTo (i + 1) ≡ cond (stays (mixedFeed a k l i)) (feedsTo i ++ (mixedFeed a k l i ∷ [])) (feedsTo i)
@@ -85,4 +91,6 @@ module _ (a : Alignment) (k l : ℕ) where
   pub combined-all : (fanin : ℕ) (signals : List ℕ) (weights : List ℤ) → Combined (a .count) fanin signals weights
       → _≡_ {A = GateRecord} (record { fanin = fanin; threshold = mixedThreshold (a .thresholds) k l; signals = signals; weights = weights }) (gateRecord (mergedOf a k l))
   unfolding mergedOf signalsOf
-  combined-all fanin signals weights c = (λ j. record { fanin = c .counted j; threshold = mixedThreshold (a .thresholds) k l; signals = c .named j; weights = c .weighed j }) ∙ sym (gate-places (mergedOf a k l))
+  combined-all fanin signals weights c =
+      (λ j. record { fanin = c .counted j; threshold = mixedThreshold (a .thresholds) k l; signals = c .named j; weights = c .weighed j })
+      ∙ sym (gate-places (mergedOf a k l))

@@ -1,19 +1,21 @@
 -- `merged_gate` meets its contract: of the first i distinct feeds those with a sum other than 0 are listed. Assumes nothing.
-use mathlib.Core.Path.{_≡_, refl, sym, _∙_}
+use mathlib.Core.Path.{_≡_, sym, _∙_}
 use mathlib.Core.Logic.{⊎-elim}
-use Prim.Native.Nat.{_≤_, _<_, _-_}
+use Prim.Native.Nat.{ℕ, _≤_, _<_, _-_}
 use native.Mathlib.Omega.{arith}
-use lib.IntN.{pos, natAbs}
+use lib.IntN.{ℤ, pos, natAbs}
 use lib.ListN.{getD}
 use mir.Syntax.{w32}
 use mir.Val.{toZ, ofZ}
+use mir.Facts.{toZ-ofZ}
 use borrow.Author.Needs.{needs}
 use borrow.Author.Tests.{eq-eqb, ne-eqb}
-use Rattle.integers.specs.SizeLaws.{read-back}
+use Rattle.integers.specs.SizeLaws.{size-fits, read-back}
 use Rattle.network.specs.Limits.{isZero}
 use Rattle.folding.specs.Aligned.{mixedThreshold, mixedWeight}
 use Rattle.alignment.specs.Alignments.{alignedIn, Mixable}
-use Rattle.alignment.proofs.Combine.{mix-at, weight-mixable, threshold-mixable, Combined, combined-none, combined-few, combined-drop, combined-store, combined-all}
+use Rattle.alignment.proofs.Combine.{mix-at, weight-mixable, threshold-mixable}
+use Rattle.alignment.proofs.Combine.{Combined, combined-none, combined-few, combined-drop, combined-store, combined-all}
 use Rattle.alignment.proofs.unchecked.merged_gate.Statement.{statement}
 use Rattle.alignment.proofs.unchecked.merged_gate.Tie as tie
 
@@ -34,22 +36,37 @@ fanin-low c =
     let l = c .before .loop in
     omega (arith, i-low c, combined-few (a .t1) (a .k) (a .l) (l .i) (l .fanin) (l .signals) (l .weights) (l .inv .1))
 
--- the two weights at i, and their mix
-x-is : (c : tie.After-mixed-arg Inv-loop μ-loop) → toZ w32 (ofZ w32 (getD (c .before .before .before .args .t1 .us) (c .before .before .loop .i) (pos 0))) ≡ getD (c .before .before .before .args .t1 .us) (c .before .before .loop .i) (pos 0)
-x-is c = read-back w32 {r = getD (c .before .before .before .args .t1 .us) (c .before .before .loop .i) (pos 0)} (c .mixed-arg .given) refl
+-- the two weights at i, as the machine reads them back
+module _ (c : tie.In-loop Inv-loop μ-loop) where
+  abbrev start : tie.Start Inv-loop μ-loop
+  start = c .before .before
 
-y-is : (c : tie.After-mixed-arg2 Inv-loop μ-loop) → toZ w32 (ofZ w32 (getD (c .before .before .before .before .args .t1 .vs) (c .before .before .before .loop .i) (pos 0))) ≡ getD (c .before .before .before .before .args .t1 .vs) (c .before .before .before .loop .i) (pos 0)
-y-is c = read-back w32 {r = getD (c .before .before .before .before .args .t1 .vs) (c .before .before .before .loop .i) (pos 0)} (c .mixed-arg2 .given) refl
+  abbrev i : ℕ
+  i = c .before .loop .i
 
-mixable : (c : tie.After-mixed-arg2 Inv-loop μ-loop) → Mixable (c .before .before .before .before .args .k) (c .before .before .before .before .args .l) (getD (c .before .before .before .before .args .t1 .us) (c .before .before .before .loop .i) (pos 0)) (getD (c .before .before .before .before .args .t1 .vs) (c .before .before .before .loop .i) (pos 0))
-mixable c =
-    let s = c .before .before .before .before in
-    weight-mixable (s .args .t1) (s .args .k) (s .args .l) (s .pre) (c .before .before .before .loop .i)
+  abbrev x : ℤ
+  x = getD (start .args .t1 .us) i (pos 0)
 
-w-is : (c : tie.After-mixed Inv-loop μ-loop) → toZ w32 (ofZ w32 (c .mixed .result)) ≡ mixedWeight (alignedIn (c .before .before .before .before .before .args .t1)) (c .before .before .before .before .before .args .k) (c .before .before .before .before .before .args .l) (c .before .before .before .before .loop .i)
+  abbrev y : ℤ
+  y = getD (start .args .t1 .vs) i (pos 0)
+
+  mixable : Mixable (start .args .k) (start .args .l) x y
+  mixable = weight-mixable (start .args .t1) (start .args .k) (start .args .l) (start .pre) i
+
+  x-is : toZ w32 (ofZ w32 x) ≡ x
+  x-is = toZ-ofZ (size-fits w32 x (omega (arith, mixable .x-small)))
+
+  y-is : toZ w32 (ofZ w32 y) ≡ y
+  y-is = toZ-ofZ (size-fits w32 y (omega (arith, mixable .y-small)))
+
+-- and their mix
+w-is : (c : tie.After-mixed Inv-loop μ-loop) → let d = c .before .before .before in let a = start d .args in
+    toZ w32 (ofZ w32 (c .mixed .result)) ≡ mixedWeight (alignedIn (a .t1)) (a .k) (a .l) (i d)
 w-is c =
-    let a = c .before .before .before .before .before .args in
-    read-back w32 (c .mixed .ok) (rw (x-is (c .before .before), y-is (c .before)) at (c .mixed .ensures) ∙ sym (mix-at (a .t1) (a .k) (a .l) (c .before .before .before .before .loop .i) (c .before .before .before .loop-test .taken)))
+    let d = c .before .before .before in
+    let a = start d .args in
+    let mix = rw (x-is d, y-is d) at (c .mixed .ensures) in
+    read-back w32 (c .mixed .ok) (mix ∙ sym (mix-at (a .t1) (a .k) (a .l) (i d) (d .loop-test .taken)))
 
 -- the thresholds, as the machine reads them back
 own-is : (c : tie.Start Inv-loop μ-loop) → toZ w32 (ofZ w32 (c .args .t1 .thresholds .own)) ≡ c .args .t1 .thresholds .own
@@ -74,7 +91,7 @@ element-copy-out-mixed-2 : tie.Need-element-copy-out-mixed-2 Inv-loop μ-loop
 element-copy-out-mixed-2 c = i-low (c .before)
 
 mixed-requires : tie.Need-mixed-requires Inv-loop μ-loop
-mixed-requires c κs = rw (x-is (c .before), y-is c) (mixable c)
+mixed-requires c κs = let d = c .before .before in rw (x-is d, y-is d) (mixable d)
 
 magnitude-requires : tie.Need-magnitude-requires Inv-loop μ-loop
 magnitude-requires c κs = search needs
@@ -112,10 +129,12 @@ loop-again c =
       ⊎-elim
           (λ w.
           rw (w .2, w .3, w .4)
-          (combined-store (a .t1) (a .k) (a .l) (l .i) (l .fanin) (l .signals) (l .weights) (l .inv .1) z (w-is m) (ne-eqb (natAbs z) 0 (λ q. w .0 .taken (size ∙ q)))))
+          (combined-store (a .t1) (a .k) (a .l) (l .i) (l .fanin) (l .signals) (l .weights) (l .inv .1) z (w-is m)
+          (ne-eqb (natAbs z) 0 (λ q. w .0 .taken (size ∙ q)))))
           (λ w.
           rw (w .1, w .2, w .3)
-          (combined-drop (a .t1) (a .k) (a .l) (l .i) (l .fanin) (l .signals) (l .weights) (l .inv .1) z (w-is m) (eq-eqb (natAbs z) 0 (sym size ∙ w .0 .left))))
+          (combined-drop (a .t1) (a .k) (a .l) (l .i) (l .fanin) (l .signals) (l .weights) (l .inv .1) z (w-is m)
+          (eq-eqb (natAbs z) 0 (sym size ∙ w .0 .left))))
           (c .if1 .came),
     )
 
@@ -128,7 +147,8 @@ cast-t31 : tie.Need-cast-t31 Inv-loop μ-loop
 cast-t31 c =
     let a = c .before .before .before .before .before .before in
     let l = c .before .before .before .before .before .loop in
-    record { fits = omega (arith, a .pre .searchable .few, l .inv .0, combined-few (a .args .t1) (a .args .k) (a .args .l) (l .i) (l .fanin) (l .signals) (l .weights) (l .inv .1)) }
+    let few = combined-few (a .args .t1) (a .args .k) (a .args .l) (l .i) (l .fanin) (l .signals) (l .weights) (l .inv .1) in
+    record { fits = omega (arith, a .pre .searchable .few, l .inv .0, few) }
 
 returns : tie.Need-returns Inv-loop μ-loop
 unfolding mixedThreshold

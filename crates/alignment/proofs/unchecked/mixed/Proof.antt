@@ -27,6 +27,14 @@ module _ (c : tie.Start) where
   abbrev ly : ℤ
   ly = pos (c .args .l) *ℤ c .args .y
 
+  -- the multipliers, as the casts leave them
+  k-is : toZ w32 (c .args .k) ≡ pos (c .args .k)
+  k-is = cast (c .args .k) (c .pre .dial .k-high)
+
+  l-is : toZ w32 (c .args .l) ≡ pos (c .args .l)
+  l-is = cast (c .args .l) (c .pre .dial .l-high)
+
+  -- the two products, and their sum
   kx-fits : SFits w32 kx
   kx-fits = size-fits w32 kx (omega (arith, times (c .args .k) _ (c .args .x) (c .pre .dial .k-high) (c .pre .x-small)))
 
@@ -34,28 +42,30 @@ module _ (c : tie.Start) where
   ly-fits = size-fits w32 ly (omega (arith, times (c .args .l) _ (c .args .y) (c .pre .dial .l-high) (c .pre .y-small)))
 
   sum-fits : SFits w32 (kx +ℤ ly)
-  sum-fits = size-fits w32 (kx +ℤ ly) (omega (arith, times (c .args .k) _ (c .args .x) (c .pre .dial .k-high) (c .pre .x-small), times (c .args .l) _ (c .args .y) (c .pre .dial .l-high) (c .pre .y-small), size-add kx ly))
+  sum-fits =
+      let kx-size = times (c .args .k) _ (c .args .x) (c .pre .dial .k-high) (c .pre .x-small) in
+      let ly-size = times (c .args .l) _ (c .args .y) (c .pre .dial .l-high) (c .pre .y-small) in
+      size-fits w32 (kx +ℤ ly) (omega (arith, kx-size, ly-size, size-add kx ly))
 
 cast-result : tie.Need-cast-result
 cast-result c = search needs
 
 mul-result : tie.Need-mul-result
-mul-result c = simp (cast (c .args .k) (c .pre .dial .k-high), toZ-ofZ (c .fits .x)) (kx-fits c)
+mul-result c = simp (k-is c, toZ-ofZ (c .fits .x)) (kx-fits c)
 
 cast-result-2 : tie.Need-cast-result-2
 cast-result-2 c = search needs
 
 mul-result-2 : tie.Need-mul-result-2
-mul-result-2 c = simp (cast (c .args .l) (c .pre .dial .l-high), toZ-ofZ (c .fits .y)) (ly-fits c)
+mul-result-2 c = simp (l-is c, toZ-ofZ (c .fits .y)) (ly-fits c)
 
 add-result : tie.Need-add-result
 add-result c =
-    simp (cast (c .args .k) (c .pre .dial .k-high), cast (c .args .l) (c .pre .dial .l-high), toZ-ofZ (c .fits .x), toZ-ofZ (c .fits .y), toZ-ofZ (kx-fits c), toZ-ofZ (ly-fits c))
-    (sum-fits c)
+    simp (k-is c, l-is c, toZ-ofZ (c .fits .x), toZ-ofZ (c .fits .y), toZ-ofZ (kx-fits c), toZ-ofZ (ly-fits c)) (sum-fits c)
 
 returns : tie.Need-returns
 returns c =
-    simp (cast (c .args .k) (c .pre .dial .k-high), cast (c .args .l) (c .pre .dial .l-high), toZ-ofZ (c .fits .x), toZ-ofZ (c .fits .y), toZ-ofZ (kx-fits c), toZ-ofZ (ly-fits c), toZ-ofZ (sum-fits c))
+    simp (k-is c, l-is c, toZ-ofZ (c .fits .x), toZ-ofZ (c .fits .y), toZ-ofZ (kx-fits c), toZ-ofZ (ly-fits c), toZ-ofZ (sum-fits c))
 
 pub mixed-spec : {M : Type 1} → statement M
 mixed-spec = tie.close (tie.spec cast-result mul-result cast-result-2 mul-result-2 add-result returns)
