@@ -28,26 +28,19 @@ use Rattle.pmn_writer.specs.Answers.{writeAnswer, asWritten, written, bytesAfte
 use Rattle.pmn_writer.specs.declared.Written.{Written}
 use Rattle.folding.specs.Merge.{reads}
 use Rattle.folding.specs.Pair.{Pair, pair}
-use Rattle.merging.specs.Answers.{onRecord, asPair, pairFound}
+use Rattle.merging.specs.Answers.{asPair, pairFound}
+use Rattle.merging.specs.AnswerLaws.{sound-first, on-layout}
 use Rattle.folding.specs.RefusalLaws.{Numbered}
 use Rattle.folding.specs.NumberLaws.{pair-numbered}
 use Rattle.merging.specs.declared.PairFound.{PairFound}
 use Rattle.report.specs.Size.{cost, levels, reportOf, reported}
 use Rattle.report.specs.declared.SizeReport.{SizeReport}
-use Rattle.capi.specs.Exports.{room, framePlaces, pairPlaces, reportPlaces, lengthOf, fileOut, partOut}
-use Rattle.capi.specs.Places.{answerOf}
-use Rattle.capi.specs.Opening.{FileOpen}
-use Rattle.capi.specs.AnswerLaws.{left-two}
-use Rattle.capi.specs.OpeningLaws.{open-on}
-
--- the record of a sound network passes the first test of every call
-sound-first : {A : Type 0} (N : Net) → Sound N → (ts : List Test) (r : Answer A) → checks ((soundRecord (layout N) else 20) ∷ ts) r ≡ checks ts r
-sound-first N s ts r = checks-next (soundRecord (layout N)) 20 ts r (is-true (soundRecord (layout N)) (sound-layout N s))
-
--- a call on the record of a sound network is the call on the network
-pub on-layout : {A : Type 0} (N : Net) → Sound N → (call : Net → Answer A) → onRecord (layout N) call ≡ call N
-unfolding onRecord
-on-layout N s call = sound-first N s [] (call (netOf (layout N))) ∙ checks-none (call (netOf (layout N))) ∙ ap call (netOf-layout N s)
+use Rattle.opening.specs.Files.{room, lengthOf}
+use Rattle.capi.specs.Exports.{framePlaces, pairPlaces, reportPlaces, fileOut, partOut}
+use Rattle.opening.specs.Places.{answerOf}
+use Rattle.opening.specs.Opening.{FileOpen}
+use Rattle.opening.specs.AnswerLaws.{left-two}
+use Rattle.opening.specs.OpeningLaws.{open-on}
 
 -- ---- a frame
 layout-inputs : (N : Net) → layout N .inputs ≡ N .inputs

@@ -1,41 +1,19 @@
 -- What the functions for C answer: a number, 0 or a refusal, and what they leave in the lent numbers and bytes. Each begins with the
 -- read of its file. A refusal leaves everything as it was; places and bytes beyond those named are untouched. Nothing is proved here.
-use mathlib.Core.Bool.{Bool}
 use mathlib.Core.List.{List, [], _∷_}
 use Prim.Native.Nat.{ℕ}
 use lib.Dec.{leb}
 use lib.ListN.{length}
-use Rattle.integers.specs.Refusals.{Answer, accepted, refused, _else_, checks, bind}
-use Rattle.network.specs.Threshold.{Net, frame, fitsFrame, outputBits, wordOf, onesOf}
+use Rattle.integers.specs.Refusals.{Answer, accepted, _else_, checks, bind}
+use Rattle.network.specs.Threshold.{frame, fitsFrame, outputBits, wordOf, onesOf}
 use Rattle.network.specs.Limits.{isGate}
-use Rattle.format.specs.Format.{Read, done, fileBytes, parseFile}
+use Rattle.format.specs.Format.{fileBytes}
 use Rattle.format.specs.Part.{partIn}
 use Rattle.folding.specs.Pair.{pair}
 use Rattle.constraints.specs.Question.{question, alike}
 use Rattle.constraints.specs.Text.{questionText}
 use Rattle.report.specs.Size.{cost, levels}
-
--- ---- reading first
-
-unfoldable pub asAnswer : Read Net → Answer Net
-asAnswer (Read.refused k) = refused k
-asAnswer (done N l) = accepted N
-
--- "as read"
-unfoldable pub readNet : List ℕ → Answer Net
-readNet file = asAnswer (parseFile file)
-
--- "as read", then 18 where fewer places are lent than needed
-unfoldable pub openNet : List ℕ → ℕ → ℕ → Answer Net
-openNet file places needed = bind (readNet file) (λ N. checks ((leb needed places else 18) ∷ []) (accepted N))
-
--- ---- what a function leaves
-
--- n places are lent
-unfoldable pub room : ℕ → List ℕ → Bool
-room n lent = leb n (length lent)
-
--- ---- the functions
+use Rattle.opening.specs.Files.{readNet, openNet, room}
 
 -- output bits and ones
 unfoldable pub framePlaces : List ℕ → ℕ → List ℕ → Answer (List ℕ)
@@ -50,11 +28,6 @@ pairPlaces file u v answer = bind (openNet file (length answer) 2) (λ N. bind (
 -- gates, cost, levels
 unfoldable pub reportPlaces : List ℕ → List ℕ → Answer (List ℕ)
 reportPlaces file answer = bind (openNet file (length answer) 3) (λ N. accepted (length (N .gates) ∷ cost (N .gates) ∷ levels N ∷ []))
-
--- bytes for `out`, whose length goes into place 0 of `answer`
-unfoldable pub lengthOf : Answer (List ℕ) → Answer (List ℕ)
-lengthOf (accepted bytes) = accepted (length bytes ∷ [])
-lengthOf (refused k) = refused k
 
 -- the file written anew
 unfoldable pub fileOut : List ℕ → List ℕ → List ℕ → Answer (List ℕ)

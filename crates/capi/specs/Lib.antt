@@ -1,9 +1,5 @@
 pub mod Exports
 pub mod RunAnswers
-pub mod Places
-pub mod Opening
-pub mod AnswerLaws
-pub mod OpeningLaws
 pub mod ExportLaws
 pub mod LineLaws
 pub mod RunAnswerLaws

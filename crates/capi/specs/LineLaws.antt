@@ -19,10 +19,11 @@ use Rattle.constraints.specs.Question.{question, alike}
 use Rattle.constraints.specs.Text.{questionText}
 use Rattle.question.specs.Answers.{lineAnswer, asLineWritten}
 use Rattle.question.specs.declared.LineWritten.{LineWritten}
-use Rattle.capi.specs.Exports.{room, lengthOf, lineOut}
-use Rattle.capi.specs.Places.{answerOf}
-use Rattle.capi.specs.Opening.{FileOpen, Opening}
-use Rattle.capi.specs.OpeningLaws.{read-on, open-on, open-refused}
+use Rattle.opening.specs.Files.{room, lengthOf}
+use Rattle.capi.specs.Exports.{lineOut}
+use Rattle.opening.specs.Places.{answerOf}
+use Rattle.opening.specs.Opening.{FileOpen, Opening}
+use Rattle.opening.specs.OpeningLaws.{read-on, open-on, open-refused}
 use Rattle.capi.specs.ExportLaws.{Wrote, wrote-same}
 
 -- the second file's refusal, or no place for the length

@@ -20,10 +20,10 @@ use Rattle.pmn_writer.specs.Answers.{written, bytesAfter}
 use Rattle.pmn_writer.specs.declared.Written.{Written}
 use Rattle.folding.specs.Calls.{calls}
 use Rattle.folding.specs.declared.Call.{Call}
-use Rattle.capi.specs.Exports.{room}
-use Rattle.capi.specs.Places.{answerOf}
-use Rattle.capi.specs.Opening.{FileOpen}
-use Rattle.capi.specs.OpeningLaws.{read-on}
+use Rattle.opening.specs.Files.{room}
+use Rattle.opening.specs.Places.{answerOf}
+use Rattle.opening.specs.Opening.{FileOpen}
+use Rattle.opening.specs.OpeningLaws.{read-on}
 use Rattle.capi.specs.ExportLaws.{write-fits}
 use Rattle.runs.specs.Runs.{wellFormed, callsIn, answersOf, Ran, ran}
 use Rattle.capi.specs.RunAnswers.{runAnswer, ranFile, ranNumbers}

@@ -7,7 +7,7 @@ use Rattle.integers.specs.Refusals.{Answer, accepted, refused, _else_, checks, 
 use Rattle.format.specs.Format.{fileBytes}
 use Rattle.folding.specs.Calls.{calls}
 use Rattle.runs.specs.Runs.{wellFormed, callsIn, Ran, ran}
-use Rattle.capi.specs.Exports.{readNet, room}
+use Rattle.opening.specs.Files.{readNet, room}
 
 -- as read, 14, 18
 unfoldable pub runAnswer : List ℕ → List ℕ → List ℕ → List ℕ → Answer Ran

@@ -2,7 +2,8 @@
 // declarations; a slice is a pointer and then a length.
 ghost use mathlib.Core.Path.{_≡_};
 ghost use Rattle.integers.specs.Refusals.{codeOf, stored};
-ghost use Rattle.capi.specs.Exports.{readNet, lengthOf, framePlaces, pairPlaces, reportPlaces, fileOut, partOut, lineOut};
+ghost use Rattle.opening.specs.Files.{readNet, lengthOf};
+ghost use Rattle.capi.specs.Exports.{framePlaces, pairPlaces, reportPlaces, fileOut, partOut, lineOut};
 ghost use Rattle.capi.specs.RunAnswers.{runAnswer, ranFile, ranNumbers};
 
 // The network of a file is read, and nothing more.
@@ -21,12 +22,12 @@ pub extern "C" fn pmn_frame(file: &[u8], frame: u64, answer: &mut [u64]) -> u8
     ensures { λ _. ⌜ now (answer .exit) ≡ stored (framePlaces (now (file .entry)) frame (now (answer .entry))) (now (answer .entry)) ⌝ }
 {
     let loaded = pmn::read(file);
-    let code = unchecked::opening::refusal(file, loaded, answer.len(), 2);
+    let code = opening::unchecked::refusal(file, loaded, answer.len(), 2);
     if code != 0 {
         return code;
     }
     let reading = evaluation::unchecked::read_sound(loaded.network, frame);
-    unchecked::places::put_two(answer, reading.code, reading.bits, reading.ones as u64)
+    opening::unchecked::places::put_two(answer, reading.code, reading.bits, reading.ones as u64)
 }
 
 // The pair for two gates: k goes into place 0 of the answer, l into place 1.
@@ -36,12 +37,12 @@ pub extern "C" fn pmn_pair(file: &[u8], u: u64, v: u64, answer: &mut [u64]) -> u
     ensures { λ _. ⌜ now (answer .exit) ≡ stored (pairPlaces (now (file .entry)) u v (now (answer .entry))) (now (answer .entry)) ⌝ }
 {
     let loaded = pmn::read(file);
-    let code = unchecked::opening::refusal(file, loaded, answer.len(), 2);
+    let code = opening::unchecked::refusal(file, loaded, answer.len(), 2);
     if code != 0 {
         return code;
     }
     let found = merging::pair(loaded.network, u as usize, v as usize);
-    unchecked::places::put_two(answer, found.code, found.k as u64, found.l as u64)
+    opening::unchecked::places::put_two(answer, found.code, found.k as u64, found.l as u64)
 }
 
 // The size of the network: gates, cost and levels go into the first three places of the answer.
@@ -51,12 +52,12 @@ pub extern "C" fn pmn_report(file: &[u8], answer: &mut [u64]) -> u8
     ensures { λ _. ⌜ now (answer .exit) ≡ stored (reportPlaces (now (file .entry)) (now (answer .entry))) (now (answer .entry)) ⌝ }
 {
     let loaded = pmn::read(file);
-    let code = unchecked::opening::refusal(file, loaded, answer.len(), 3);
+    let code = opening::unchecked::refusal(file, loaded, answer.len(), 3);
     if code != 0 {
         return code;
     }
     let size = report::unchecked::size_of(loaded.network);
-    unchecked::places::put_three(
+    opening::unchecked::places::put_three(
         answer,
         size.code,
         size.gates as u64,
@@ -73,12 +74,12 @@ pub extern "C" fn pmn_write(file: &[u8], out: &mut [u8], answer: &mut [u64]) -> 
     ensures { λ _. ⌜ now (answer .exit) ≡ stored (lengthOf (fileOut (now (file .entry)) (now (out .entry)) (now (answer .entry)))) (now (answer .entry)) ⌝ }
 {
     let loaded = pmn::read(file);
-    let code = unchecked::opening::refusal(file, loaded, answer.len(), 1);
+    let code = opening::unchecked::refusal(file, loaded, answer.len(), 1);
     if code != 0 {
         return code;
     }
     let written = pmn_writer::unchecked::write_sound(loaded.network, out);
-    unchecked::places::put_one(answer, written.code, written.length as u64)
+    opening::unchecked::places::put_one(answer, written.code, written.length as u64)
 }
 
 // The bytes of the gate with a signal are copied into `out`, and their number goes into place 0 of the answer.
@@ -88,7 +89,7 @@ pub extern "C" fn pmn_part(file: &[u8], signal: u64, out: &mut [u8], answer: &mu
     ensures { λ _. ⌜ now (out .exit) ≡ stored (partOut (now (file .entry)) signal (now (out .entry)) (now (answer .entry))) (now (out .entry)) ⌝ }
     ensures { λ _. ⌜ now (answer .exit) ≡ stored (lengthOf (partOut (now (file .entry)) signal (now (out .entry)) (now (answer .entry)))) (now (answer .entry)) ⌝ }
 {
-    let code = unchecked::opening::read_refusal(file, answer.len(), 1);
+    let code = opening::unchecked::read_refusal(file, answer.len(), 1);
     if code != 0 {
         return code;
     }
@@ -101,7 +102,7 @@ pub extern "C" fn pmn_part(file: &[u8], signal: u64, out: &mut [u8], answer: &mu
         return 18;
     }
     integers::unchecked::copy(part, out);
-    unchecked::places::put_one(answer, 0, length as u64)
+    opening::unchecked::places::put_one(answer, 0, length as u64)
 }
 
 // Line n of the question for two files is put into `out`, and its length goes into place 0 of the answer.
@@ -118,17 +119,17 @@ pub extern "C" fn pmn_line(
     ensures { λ _. ⌜ now (answer .exit) ≡ stored (lengthOf (lineOut (now (first .entry)) (now (second .entry)) n (now (out .entry)) (now (answer .entry)))) (now (answer .entry)) ⌝ }
 {
     let one = pmn::read(first);
-    let code = unchecked::opening::refusal(first, one, 0, 0);
+    let code = opening::unchecked::refusal(first, one, 0, 0);
     if code != 0 {
         return code;
     }
     let other = pmn::read(second);
-    let refusal = unchecked::opening::refusal(second, other, answer.len(), 1);
+    let refusal = opening::unchecked::refusal(second, other, answer.len(), 1);
     if refusal != 0 {
         return refusal;
     }
     let line = question::line(one.network, other.network, n as usize, out);
-    unchecked::places::put_one(answer, line.code, line.length as u64)
+    opening::unchecked::places::put_one(answer, line.code, line.length as u64)
 }
 
 // The list of calls is run: each call's code and collapses go into the answers from place 1 on, the file of the network after the list
@@ -140,7 +141,7 @@ pub extern "C" fn pmn_run(file: &[u8], calls: &[u64], answers: &mut [u64], out: 
     ensures { λ _. ⌜ now (out .exit) ≡ stored (ranFile (runAnswer (now (file .entry)) (now (calls .entry)) (now (answers .entry)) (now (out .entry)))) (now (out .entry)) ⌝ }
 {
     let loaded = pmn::read(file);
-    let code = unchecked::opening::refusal(file, loaded, 0, 0);
+    let code = opening::unchecked::refusal(file, loaded, 0, 0);
     if code != 0 {
         return code;
     }
@@ -155,7 +156,5 @@ pub extern "C" fn pmn_run(file: &[u8], calls: &[u64], answers: &mut [u64], out: 
     }
     let after = runs::unchecked::run_storing(loaded.network, calls, answers);
     let written = pmn_writer::write(after, out);
-    unchecked::places::put_one(answers, written.code, written.length as u64)
+    opening::unchecked::places::put_one(answers, written.code, written.length as u64)
 }
-
-mod unchecked;

@@ -1,4 +1,5 @@
 pub mod Answers
+pub mod AnswerLaws
 pub mod Lent
 pub mod Readers
 pub mod LentLaws

@@ -1,6 +1,6 @@
 -- The code of a read is that of the definition.
 use borrow.Author.Needs.{needs}
-use Rattle.capi.specs.OpeningLaws.{read-code}
+use Rattle.opening.specs.OpeningLaws.{read-code}
 use Rattle.capi.proofs.pmn_check.Statement.{statement}
 use Rattle.capi.proofs.pmn_check.Tie as tie
 

@@ -2,8 +2,8 @@
 use borrow.Author.Needs.{needs}
 use mathlib.Core.Path.{_∙_}
 use Rattle.capi.specs.Exports.{lineOut}
-use Rattle.capi.specs.AnswerLaws.{refused-two}
-use Rattle.capi.specs.OpeningLaws.{read-refused}
+use Rattle.opening.specs.AnswerLaws.{refused-two}
+use Rattle.opening.specs.OpeningLaws.{read-refused}
 use Rattle.capi.specs.LineLaws.{line-refused, line-answer}
 use Rattle.capi.proofs.pmn_line.Statement.{statement}
 use Rattle.capi.proofs.pmn_line.Tie as tie

@@ -2,8 +2,8 @@
 use borrow.Author.Needs.{needs}
 use mathlib.Core.List.{[], _∷_}
 use Rattle.capi.specs.Exports.{pairPlaces}
-use Rattle.capi.specs.AnswerLaws.{refused-one, placed}
-use Rattle.capi.specs.OpeningLaws.{open-refused}
+use Rattle.opening.specs.AnswerLaws.{refused-one, placed}
+use Rattle.opening.specs.OpeningLaws.{open-refused}
 use Rattle.capi.specs.ExportLaws.{pair-answer}
 use Rattle.capi.proofs.pmn_pair.Statement.{statement}
 use Rattle.capi.proofs.pmn_pair.Tie as tie

@@ -2,8 +2,8 @@
 use borrow.Author.Needs.{needs}
 use mathlib.Core.Path.{_∙_}
 use Rattle.capi.specs.Exports.{partOut}
-use Rattle.capi.specs.AnswerLaws.{refused-two}
-use Rattle.capi.specs.OpeningLaws.{open-refused}
+use Rattle.opening.specs.AnswerLaws.{refused-two}
+use Rattle.opening.specs.OpeningLaws.{open-refused}
 use Rattle.capi.specs.ExportLaws.{part-none, part-long, part-fits, wrote-whole}
 use Rattle.capi.proofs.pmn_part.Statement.{statement}
 use Rattle.capi.proofs.pmn_part.Tie as tie

@@ -2,8 +2,8 @@
 use borrow.Author.Needs.{needs}
 use mathlib.Core.List.{[], _∷_}
 use Rattle.capi.specs.Exports.{reportPlaces}
-use Rattle.capi.specs.AnswerLaws.{refused-one, placed}
-use Rattle.capi.specs.OpeningLaws.{file-sound, open-refused}
+use Rattle.opening.specs.AnswerLaws.{refused-one, placed}
+use Rattle.opening.specs.OpeningLaws.{file-sound, open-refused}
 use Rattle.capi.specs.ExportLaws.{report-answer}
 use Rattle.capi.proofs.pmn_report.Statement.{statement}
 use Rattle.capi.proofs.pmn_report.Tie as tie

@@ -8,8 +8,8 @@ use Prim.Native.Nat.{ℕ}
 use Rattle.integers.specs.Refusals.{Answer, codeOf, stored}
 use Rattle.runs.specs.Runs.{wellFormed, Ran}
 use Rattle.capi.specs.RunAnswers.{runAnswer, ranFile, ranNumbers}
-use Rattle.capi.specs.Opening.{FileOpen}
-use Rattle.capi.specs.OpeningLaws.{read-refused}
+use Rattle.opening.specs.Opening.{FileOpen}
+use Rattle.opening.specs.OpeningLaws.{read-refused}
 use Rattle.capi.specs.RunAnswerLaws.{RunLeft, run-refused, read-holds, run-unformed, enough, run-few, run-long, run-left}
 use Rattle.capi.proofs.pmn_run.Statement.{statement}
 use Rattle.capi.proofs.pmn_run.Tie as tie

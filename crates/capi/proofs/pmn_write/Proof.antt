@@ -2,8 +2,8 @@
 use borrow.Author.Needs.{needs}
 use mathlib.Core.Path.{_∙_}
 use Rattle.capi.specs.Exports.{fileOut}
-use Rattle.capi.specs.AnswerLaws.{refused-two}
-use Rattle.capi.specs.OpeningLaws.{file-sound, open-refused}
+use Rattle.opening.specs.AnswerLaws.{refused-two}
+use Rattle.opening.specs.OpeningLaws.{file-sound, open-refused}
 use Rattle.capi.specs.ExportLaws.{write-answer}
 use Rattle.capi.proofs.pmn_write.Statement.{statement}
 use Rattle.capi.proofs.pmn_write.Tie as tie

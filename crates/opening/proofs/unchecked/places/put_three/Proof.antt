@@ -4,9 +4,9 @@ use mathlib.Core.Path.{refl}
 use mathlib.Core.List.{[], _∷_}
 use native.Mathlib.Omega.{arith}
 use lib.ListN.{length-set}
-use Rattle.capi.specs.AnswerLaws.{put-places, keep-places}
-use Rattle.capi.proofs.unchecked.places.put_three.Statement.{statement}
-use Rattle.capi.proofs.unchecked.places.put_three.Tie as tie
+use Rattle.opening.specs.AnswerLaws.{put-places, keep-places}
+use Rattle.opening.proofs.unchecked.places.put_three.Statement.{statement}
+use Rattle.opening.proofs.unchecked.places.put_three.Tie as tie
 
 slice-write-answer : tie.Need-slice-write-answer
 slice-write-answer c = search needs

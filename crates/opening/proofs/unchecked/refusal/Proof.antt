@@ -1,7 +1,7 @@
 -- By the two tests.
-use Rattle.capi.specs.OpeningLaws.{opening-refused, opening-short, opening-enough}
-use Rattle.capi.proofs.unchecked.opening.refusal.Statement.{statement}
-use Rattle.capi.proofs.unchecked.opening.refusal.Tie as tie
+use Rattle.opening.specs.OpeningLaws.{opening-refused, opening-short, opening-enough}
+use Rattle.opening.proofs.unchecked.refusal.Statement.{statement}
+use Rattle.opening.proofs.unchecked.refusal.Tie as tie
 
 returns : tie.Need-returns
 returns c = let s = c .before in opening-refused (s .args .file .now) (s .pre .0) (s .pre .1) (s .args .places) (s .args .needed) (c .if1 .taken)

@@ -8,7 +8,7 @@ use Rattle.network.specs.Sound.{Sound}
 use Rattle.network.specs.Record.{layout}
 use Rattle.network.specs.declared.Network.{Network}
 use Rattle.format.specs.Format.{done, Bytes, parseFile}
-use Rattle.capi.specs.Exports.{openNet}
+use Rattle.opening.specs.Files.{openNet}
 
 -- an accepted file, with enough of the places lent: its network, which is sound, and the record that was read
 pub record FileOpen (file : List ℕ) (places needed : ℕ) (r : Network) : Type 0 where

@@ -2,9 +2,9 @@
 use borrow.Author.Needs.{needs}
 use mathlib.Core.Path.{subst}
 use Rattle.pmn.specs.declared.Loaded.{Loaded}
-use Rattle.capi.specs.Opening.{Opening}
-use Rattle.capi.proofs.unchecked.opening.read_refusal.Statement.{statement}
-use Rattle.capi.proofs.unchecked.opening.read_refusal.Tie as tie
+use Rattle.opening.specs.Opening.{Opening}
+use Rattle.opening.proofs.unchecked.read_refusal.Statement.{statement}
+use Rattle.opening.proofs.unchecked.read_refusal.Tie as tie
 
 read-requires : tie.Need-read-requires
 read-requires c κs = search needs

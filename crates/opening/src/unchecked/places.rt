@@ -4,7 +4,7 @@ ghost use mathlib.Core.List.{[], _∷_};
 ghost use Prim.Native.Nat.{_≤_};
 ghost use lib.ListN.{length};
 ghost use Rattle.integers.specs.Refusals.{stored};
-ghost use Rattle.capi.specs.Places.{answerOf};
+ghost use Rattle.opening.specs.Places.{answerOf};
 
 // A number that came with code 0; nothing with any other code. The answer is the code.
 pub fn put_one(answer: &mut [u64], code: u8, first: u64) -> u8

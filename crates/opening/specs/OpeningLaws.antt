@@ -19,9 +19,9 @@ use Rattle.format.specs.LengthLaws.{bytes-of}
 use Rattle.pmn.specs.Answers.{asLoaded, loaded}
 use Rattle.pmn.specs.OpenLaws.{opened, loaded-net, opened-sound}
 use Rattle.pmn.specs.declared.Loaded.{Loaded}
-use Rattle.capi.specs.Exports.{asAnswer, readNet, openNet}
-use Rattle.capi.specs.Opening.{FileOpen, Opening}
-use Rattle.capi.specs.AnswerLaws.{bind-refused}
+use Rattle.opening.specs.Files.{asAnswer, readNet, openNet}
+use Rattle.opening.specs.Opening.{FileOpen, Opening}
+use Rattle.opening.specs.AnswerLaws.{bind-refused}
 
 -- ---- an accepted file
 module _ {file : List ℕ} {places needed : ℕ} {r : Network} (a : FileOpen file places needed r) where

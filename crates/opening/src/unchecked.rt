@@ -1,10 +1,12 @@
 // What follows the read of a file, with which the functions begin: its refusal, then too few places.
+pub mod places;
+
 use pmn::Loaded;
 ghost use mathlib.Core.Path.{_≡_};
 ghost use Prim.Native.Nat.{ℕ, _<_};
 ghost use lib.ListN.{getD};
 ghost use Rattle.pmn.specs.Answers.{loaded};
-ghost use Rattle.capi.specs.Opening.{Opening};
+ghost use Rattle.opening.specs.Opening.{Opening};
 
 // The refusal of a function that needs so many of the places lent, by what was read of its file: as read, then 18; 0 for none. Only the
 // contract speaks of the file. The answer is the number alone: a network handed on would be copied.

@@ -7,8 +7,8 @@ use native.Mathlib.Omega.{arith}
 use lib.ListN.{length, drop}
 use lib.Seq.{sets, sets-eq}
 use Rattle.integers.specs.Refusals.{Answer, accepted, refused, bind, codeOf, stored}
-use Rattle.capi.specs.Exports.{lengthOf}
-use Rattle.capi.specs.Places.{answerOf}
+use Rattle.opening.specs.Files.{lengthOf}
+use Rattle.opening.specs.Places.{answerOf}
 
 -- ---- answers
 module _ {a b : Answer (List ℕ)} (e : a ≡ b) (lent out : List ℕ) where

@@ -1,0 +1,5 @@
+pub mod Files
+pub mod Places
+pub mod Opening
+pub mod AnswerLaws
+pub mod OpeningLaws
