@@ -1,5 +1,7 @@
 //! Times of the proved library on the same inputs as the independent implementation, which tries everything, and as the exact method, which
-//! finds a pair by one pass over its settings: in one process, and their ratios.
+//! finds a pair by one pass over its settings: in one process, and their ratios. All rows, or those of the kinds named on the command line:
+//! file, preview, pair, sweep.
+use std::env;
 use std::hint::black_box;
 use std::time::{Duration, Instant};
 use yovrenik_tests as library;
@@ -27,6 +29,17 @@ fn time(mut call: impl FnMut()) -> Duration {
         began.elapsed() / calls
     };
     (0..runs).map(|_| run(&mut call)).min().unwrap()
+}
+
+/// The least times of several calls taken in turns, so that what the machine does meanwhile counts little in their differences.
+fn times<const N: usize>(mut calls: [&mut dyn FnMut(); N]) -> [Duration; N] {
+    let mut least = [Duration::MAX; N];
+    for _ in 0..4 {
+        for (call, least) in calls.iter_mut().zip(&mut least) {
+            *least = time(&mut **call).min(*least);
+        }
+    }
+    least
 }
 
 fn text(t: Duration) -> String {
@@ -90,6 +103,47 @@ fn file_rows() {
     row("soundness and frame on a full network (read and frame)", frame, read_too + frame_too);
 }
 
+/// The rows of a preview and of the collapse that it shows with one report after it, and how many times the latter the former is.
+fn preview_row(name: &str, net: &Net, s: u64) {
+    let collapsed = reference::collapse(net, s).unwrap();
+    let want = reference::report(&collapsed);
+    let (file, after) = (reference::write(net), reference::write(&collapsed));
+    let run = |calls: &[u64], answers: &mut [u64], out: &mut [u8]| assert_eq!(library::run(black_box(&file), calls, answers, out), 0);
+    let (mut shown, mut reported) = ([0u64; 3], [0u64; 3]);
+    let (mut answers, mut out) = ([0u64; 5], vec![0u8; library::LONGEST_FILE]);
+    let (mut answers_too, mut out_too) = (answers, out.clone());
+    let [read, preview, read_and_write, collapse, read_after, report] = times([
+        &mut || assert_eq!(library::check(black_box(&file)), 0),
+        &mut || assert_eq!(library::preview(black_box(&file), s, &mut shown), 0),
+        &mut || run(&[], &mut answers_too, &mut out_too),
+        &mut || run(&[2, s, 0, 0, 0], &mut answers, &mut out),
+        &mut || assert_eq!(library::check(black_box(&after)), 0),
+        &mut || assert_eq!(library::report(black_box(&after), &mut reported), 0),
+    ]);
+    assert_eq!((shown, reported, answers), (want, want, [after.len() as u64, 0, 0, 0, 0]));
+    assert_eq!(out[..after.len()], after);
+    let preview = preview.saturating_sub(read);
+    let both = collapse.saturating_sub(read_and_write) + report.saturating_sub(read_after);
+    let [preview_too, collapse_too, report_too] = times([
+        &mut || assert_eq!(reference::preview(black_box(net), s), Ok(want)),
+        &mut || assert!(black_box(reference::collapse(black_box(net), s)).is_ok()),
+        &mut || assert_eq!(reference::report(black_box(&collapsed)), want),
+    ]);
+    row(&format!("preview of {name} (the call less the read)"), preview, preview_too);
+    row("the collapse of it and one report (the calls less reads and write)", both, collapse_too + report_too);
+    println!("| a preview to the collapse and one report | {} | | |", ratio(both, preview));
+}
+
+fn preview_rows() {
+    let full = full_folding();
+    preview_row("a gate of a full network", &full, full.inputs as u64);
+    let chain = folding_chain(128);
+    preview_row("a gate of a chain of 128 gates", &chain, chain.inputs as u64);
+    let net = largest(&mut Random::new(7));
+    let unread = (net.inputs..net.outputs[0]).find(|&s| net.readers(s).is_empty()).unwrap();
+    preview_row("a gate of the largest network that nothing reads", &net, unread as u64);
+}
+
 /// The row of a pair of the two gates of a network, and the library's time.
 fn pair_row(name: &str, net: &Net, all: bool) -> Duration {
     let file = reference::write(net);
@@ -124,7 +178,7 @@ fn pair_rows() {
 /// The library's sweep: how many gates it collapses, and its time with the read and the write.
 fn swept(net: &Net) -> (u64, Duration) {
     let file = reference::write(net);
-    let mut answers = [0u64; 3];
+    let mut answers = [0u64; 5];
     let mut out = vec![0u8; library::LONGEST_FILE];
     let t = time(|| assert_eq!(library::run(black_box(&file), &[3, 128, 0, 0, 0], &mut answers, &mut out), 0));
     (answers[2], t)
@@ -142,11 +196,7 @@ fn sweep_row(name: &str, net: &Net, folds: u64, all: bool) {
     search_row(name, ours, swept_by(exact::pair), swept_by(exact::pair_by_halves), all.then(|| swept_by(reference::pair)));
 }
 
-fn main() {
-    println!("| on | library | independent | ratio |\n|---|---|---|---|");
-    file_rows();
-    println!("\n| on | library | exact method | ratio | the same by halves | ratio | plain search | ratio |\n|---|---|---|---|---|---|---|---|");
-    pair_rows();
+fn sweep_rows() {
     sweep_row("sweep of a full network, nothing folds", &full_standing(&mut Random::new(5)), 0, true);
     sweep_row("sweep of a full network that folds into one gate", &full_folding(), 127, true);
     for gates in [16, 32, 64, 128] {
@@ -162,4 +212,21 @@ fn main() {
         let name = format!("sweep, {gates} gates, the upper half folds, the lower half does not");
         sweep_row(&name, &mixed_chain(gates), gates as u64 / 2 - 1, false);
     }
+}
+
+/// A table of the kinds of rows that are named on the command line, or of all where none is.
+fn table(head: &str, kinds: &[(&str, fn())]) {
+    let words: Vec<String> = env::args().skip(1).filter(|word| !word.starts_with('-')).collect();
+    let asked = |kind: &str| words.is_empty() || words.iter().any(|word| word == kind);
+    if kinds.iter().any(|(kind, _)| asked(kind)) {
+        println!("{head}\n|{}", "---|".repeat(head.matches('|').count() - 1));
+        kinds.iter().filter(|(kind, _)| asked(kind)).for_each(|(_, rows)| rows());
+        println!();
+    }
+}
+
+fn main() {
+    table("| on | library | independent | ratio |", &[("file", file_rows), ("preview", preview_rows)]);
+    let head = "| on | library | exact method | ratio | the same by halves | ratio | plain search | ratio |";
+    table(head, &[("pair", pair_rows), ("sweep", sweep_rows)]);
 }

@@ -12,6 +12,7 @@ mod raw {
         pub fn pmn_frame(file: *const u8, file_length: usize, frame: u64, answer: *mut u64, answer_length: usize) -> u8;
         pub fn pmn_pair(file: *const u8, file_length: usize, u: u64, v: u64, answer: *mut u64, answer_length: usize) -> u8;
         pub fn pmn_report(file: *const u8, file_length: usize, answer: *mut u64, answer_length: usize) -> u8;
+        pub fn pmn_preview(file: *const u8, file_length: usize, signal: u64, answer: *mut u64, answer_length: usize) -> u8;
         pub fn pmn_run(
             file: *const u8,
             file_length: usize,
@@ -60,6 +61,10 @@ pub fn pair(file: &[u8], u: u64, v: u64, answer: &mut [u64]) -> u8 {
 
 pub fn report(file: &[u8], answer: &mut [u64]) -> u8 {
     unsafe { raw::pmn_report(file.as_ptr(), file.len(), answer.as_mut_ptr(), answer.len()) }
+}
+
+pub fn preview(file: &[u8], signal: u64, answer: &mut [u64]) -> u8 {
+    unsafe { raw::pmn_preview(file.as_ptr(), file.len(), signal, answer.as_mut_ptr(), answer.len()) }
 }
 
 pub fn run(file: &[u8], calls: &[u64], answers: &mut [u64], out: &mut [u8]) -> u8 {

@@ -352,6 +352,22 @@ pub fn levels(net: &Net) -> u64 {
     *levels[net.inputs..].iter().max().unwrap()
 }
 
+/// Gates, cost and levels.
+pub fn report(net: &Net) -> [u64; 3] {
+    [net.gates.len() as u64, cost(net), levels(net)]
+}
+
+/// The report on a copy that was really collapsed.
+pub fn preview(net: &Net, s: u64) -> Answer<[u64; 3]> {
+    preview_by(net, s, pair)
+}
+
+/// The same with the pairs found another way.
+pub fn preview_by(net: &Net, s: u64, find: Find) -> Answer<[u64; 3]> {
+    let copy = collapse_by(net, s, find)?;
+    Ok(report(&copy))
+}
+
 // ---- the question
 
 fn line(terms: &[(i64, usize)], right: i64) -> String {
@@ -401,15 +417,8 @@ pub fn question(first: &Net, second: &Net) -> Answer<Vec<String>> {
 
 /// What `fold` prints for a network, and for what so many collapses made of it.
 pub fn folded(net: &Net, after: &Net, collapses: usize) -> String {
-    let mut out = format!(
-        "gates {} {}\ncost {} {}\nlevels {} {}\nfolded {collapses}\n",
-        net.gates.len(),
-        after.gates.len(),
-        cost(net),
-        cost(after),
-        levels(net),
-        levels(after),
-    );
+    let ([gates, cost, levels], [gates_after, cost_after, levels_after]) = (report(net), report(after));
+    let mut out = format!("gates {gates} {gates_after}\ncost {cost} {cost_after}\nlevels {levels} {levels_after}\nfolded {collapses}\n");
     for line in question(net, after).unwrap() {
         out += &line;
     }
@@ -453,6 +462,24 @@ mod tests {
         assert_eq!(levels_of(&[&[], &[0, 1]]), 1);
         assert_eq!(levels_of(&[&[], &[1], &[2]]), 2);
         assert_eq!(levels_of(&[&[0], &[], &[1, 2]]), 2);
+    }
+
+    #[test]
+    fn before_you_fold() {
+        let f = read(F).unwrap();
+        assert_eq!(report(&f), [2, 18, 2]);
+        assert_eq!(preview(&f, 3), Ok([1, 18, 1]));
+        assert_eq!((preview(&f, 2), preview(&f, 4), preview(&f, 5), preview(&f, 259)), (Err(11), Err(17), Err(11), Err(11)));
+        let gate = |feeds: &[(usize, i64)], threshold| Gate { feeds: feeds.to_vec(), threshold };
+        // signal 1 is merged into [ ;0] and [x −1; 0], which the output reads; signal 3 has no reader
+        let net = Net {
+            inputs: 1,
+            gates: vec![gate(&[(0, 1)], 1), gate(&[(0, -1), (1, 1)], 0), gate(&[(0, 7)], 5), gate(&[(1, -1)], 0), gate(&[(2, 1), (4, 1)], 2)],
+            outputs: vec![5],
+        };
+        assert_eq!(report(&net), [5, 21, 3]);
+        assert_eq!(preview(&net, 3), Ok([4, 9, 3]));
+        assert_eq!(preview(&net, 1), Ok([4, 17, 2]));
     }
 
     #[test]

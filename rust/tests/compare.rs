@@ -17,7 +17,7 @@ fn code<T>(answer: &Result<T, u8>) -> u8 {
 }
 
 /// Everything that the library says of one file, against the paper.
-fn file_agrees(r: &mut Random, file: &[u8]) {
+fn file_agrees(r: &mut Random, reached: &mut Reached, file: &[u8]) {
     let want = paper::read(file);
     assert_eq!(check(file), code(&want), "read of {file:?}");
     let mut answer = [MARK; 4];
@@ -55,8 +55,25 @@ fn file_agrees(r: &mut Random, file: &[u8]) {
     answer = [MARK; 4];
     let got = report(file, &mut answer);
     match &want {
-        Ok(net) => assert_eq!((got, answer), (0, [net.gates.len() as u64, paper::cost(net), paper::levels(net), MARK])),
+        Ok(net) => {
+            let [gates, cost, levels] = paper::report(net);
+            assert_eq!((got, answer), (0, [gates, cost, levels, MARK]));
+        }
         Err(k) => assert_eq!((got, answer), (*k, [MARK; 4])),
+    }
+    let signals = match &want {
+        Ok(net) => {
+            let (inputs, gates) = (net.inputs as u64, net.gates.len() as u64);
+            let gate = inputs + r.below(gates);
+            let other = inputs + r.below(gates);
+            // inputs, gates and beyond; the last three are a gate's if cut to 8, 16 or 32 bits
+            let beyond = [inputs + gates, u64::MAX, gate + (1 << 8), gate + (1 << 16), gate + (1 << 32)];
+            [&[0, inputs - 1, inputs, gate, other, inputs + gates - 1], &beyond[..]].concat()
+        }
+        Err(_) => vec![0, r.below(60), u64::MAX],
+    };
+    for signal in signals {
+        preview_agrees(reached, file, &want, signal);
     }
     for signal in [0, 1, 41, 168, u64::MAX, r.below(60)] {
         answer = [MARK; 4];
@@ -76,6 +93,25 @@ fn file_agrees(r: &mut Random, file: &[u8]) {
     }
 }
 
+/// What the library says of a preview of one signal, with 0 to 4 places, against the paper. The pairs are found by the exact method: some
+/// files have gates for which trying every candidate takes too long.
+fn preview_agrees(reached: &mut Reached, file: &[u8], net: &Result<Net, u8>, signal: u64) {
+    let want = net.as_ref().map_err(|&k| k).and_then(|net| {
+        let want = paper::preview_by(net, signal, exact::pair);
+        reached.preview(net, signal, &want);
+        want
+    });
+    for places in 0..=4 {
+        let mut answer = [MARK; 4];
+        let got = preview(file, signal, &mut answer[..places]);
+        match want {
+            _ if net.is_ok() && places < 3 => assert_eq!((got, answer), (18, [MARK; 4]), "{net:?} {signal}"),
+            Ok([gates, cost, levels]) => assert_eq!((got, answer), (0, [gates, cost, levels, MARK]), "{net:?} {signal}"),
+            Err(k) => assert_eq!((got, answer), (k, [MARK; 4]), "{net:?} {signal}"),
+        }
+    }
+}
+
 /// The levels if a gate without feeds were a stage.
 fn levels_with_constants(net: &Net) -> u64 {
     let mut levels = vec![0; net.inputs];
@@ -88,25 +124,42 @@ fn levels_with_constants(net: &Net) -> u64 {
 #[test]
 fn files() {
     let mut r = Random::new(1);
+    let mut reached = Reached::default();
     let mut waiting = 0;
     for _ in 0..6_000 {
         let net = network(&mut r, 12, 16);
         let file = paper::write(&net);
         waiting += (paper::levels(&net) != levels_with_constants(&net)) as u32;
-        file_agrees(&mut r, &file);
+        file_agrees(&mut r, &mut reached, &file);
         for _ in 0..3 {
             let broken = damaged(&mut r, &file);
-            file_agrees(&mut r, &broken);
+            file_agrees(&mut r, &mut reached, &broken);
         }
     }
     for length in 0..40 {
         for _ in 0..40 {
             let noise: Vec<u8> = (0..length).map(|_| r.next() as u8).collect();
-            file_agrees(&mut r, &noise);
+            file_agrees(&mut r, &mut reached, &noise);
         }
     }
     println!("{waiting} networks would have more levels if a constant were a stage");
     assert!(waiting >= 500);
+    reached.at_least(&[
+        ("preview accepted", 8_000),
+        ("preview accepted, a gate without readers", 2_500),
+        ("preview accepted, a gate with readers", 6_000),
+        ("preview accepted, two readers or more", 3_500),
+        ("preview accepted, a vote against", 3_000),
+        ("preview accepted, more cost", 2_500),
+        ("preview accepted, less cost", 5_000),
+        ("preview accepted, fewer levels", 3_000),
+        ("preview accepted, as many levels", 5_000),
+        ("preview 7", 90),
+        ("preview 11", 30_000),
+        ("preview 16", 2_000),
+        ("preview 17", 9_000),
+        ("preview 7 or 16, not by the first reader", 900),
+    ]);
 }
 
 #[test]
@@ -116,25 +169,29 @@ fn the_largest_file() {
     let net = Net { inputs: 40, gates, outputs: vec![167; 16] };
     let file = paper::write(&net);
     assert_eq!(file.len(), LONGEST_FILE);
-    file_agrees(&mut r, &file);
+    let mut reached = Reached::default();
+    file_agrees(&mut r, &mut reached, &file);
+    // all gates but the highest nine below the output have readers, with 31 distinct feeds each
+    (0..168).for_each(|signal| preview_agrees(&mut reached, &file, &Ok(net.clone()), signal));
+    reached.at_least(&[("preview accepted, a gate without readers", 9), ("preview 7", 118), ("preview 11", 40), ("preview 17", 1)]);
     for cut in [0, 7, 8, 9, 10_000, LONGEST_FILE - 1] {
-        file_agrees(&mut r, &file[..cut]);
+        file_agrees(&mut r, &mut reached, &file[..cut]);
     }
     let mut longer = file.clone();
     longer.push(0);
-    file_agrees(&mut r, &longer);
+    file_agrees(&mut r, &mut reached, &longer);
 }
 
-/// How often a run came to gates that vote against their readers, by what came of it.
+/// How often a run came to what: merges, pairs, collapses and sweeps of gates that vote against a reader, and previews of any signal.
 #[derive(Default)]
-struct Against(BTreeMap<&'static str, u64>);
+struct Reached(BTreeMap<&'static str, u64>);
 
 /// Whether u and v are gates and u votes against v.
 fn votes_against(net: &Net, u: u64, v: u64) -> bool {
     u <= 255 && net.is_gate(u as usize) && net.voted_against(u as usize).contains(&(v as usize))
 }
 
-impl Against {
+impl Reached {
     fn count(&mut self, what: &'static str, happened: bool) {
         *self.0.entry(what).or_default() += happened as u64;
     }
@@ -211,9 +268,51 @@ impl Against {
         self.count("sweep, three collapses of it or more", against > 2);
     }
 
+    fn preview(&mut self, net: &Net, s: u64, answer: &Result<[u64; 3], u8>) {
+        match *answer {
+            Ok([_, cost, levels]) => {
+                let readers = net.readers(s as usize);
+                self.count("preview accepted", true);
+                self.count("preview accepted, a gate without readers", readers.is_empty());
+                self.count("preview accepted, a gate with readers", !readers.is_empty());
+                self.count("preview accepted, two readers or more", readers.len() > 1);
+                self.count("preview accepted, a vote against", !net.voted_against(s as usize).is_empty());
+                self.count("preview accepted, more cost", cost > paper::cost(net));
+                self.count("preview accepted, less cost", cost < paper::cost(net));
+                self.count("preview accepted, fewer levels", levels < paper::levels(net));
+                self.count("preview accepted, as many levels", levels == paper::levels(net));
+            }
+            Err(code) => {
+                self.count("preview 7", code == 7);
+                self.count("preview 11", code == 11);
+                self.count("preview 16", code == 16);
+                self.count("preview 17", code == 17);
+                assert!([7, 11, 16, 17].contains(&code), "a preview is refused with {code}");
+                // a reader below the one that is refused has a pair, and yet nothing is merged
+                let first = || net.readers(s as usize)[0] as u64;
+                self.count("preview 7 or 16, not by the first reader", matches!(code, 7 | 16) && exact::pair(net, s, first()).is_ok());
+            }
+        }
+    }
+
+    /// Where in a list with such answers its previews stand.
+    fn places_of_previews(&mut self, calls: &[[u64; 5]], answers: &[u64]) {
+        let code = |i: usize| answers[1 + 4 * i];
+        for (i, call) in previews(calls) {
+            let collapsed = calls.get(i + 1).is_some_and(|next| next[..2] == [2, call[1]]);
+            self.count("preview first in its list", i == 0);
+            self.count("preview last in its list", i + 1 == calls.len());
+            self.count("preview right after a preview", i > 0 && calls[i - 1][0] == 4);
+            self.count("preview right after an accepted change", i > 0 && calls[i - 1][0] != 4 && code(i - 1) == 0);
+            self.count("preview right after a refused call", i > 0 && code(i - 1) != 0);
+            self.count("preview right before the collapse, accepted", collapsed && code(i) == 0);
+            self.count("preview right before the collapse, refused", collapsed && code(i) != 0);
+        }
+    }
+
     /// Prints what the run came to, and asks for so much of it.
     fn at_least(&self, wanted: &[(&str, u64)]) {
-        println!("against: {:#?}", self.0);
+        println!("reached: {:#?}", self.0);
         for &(what, least) in wanted {
             let count = self.0.get(what).copied().unwrap_or(0);
             assert!(count >= least, "{what}: {count} of {least}");
@@ -221,8 +320,8 @@ impl Against {
     }
 }
 
-/// One call by the paper: its code, its number of collapses, and the network that it leaves.
-fn apply(reached: &mut Against, net: &Net, call: &[u64]) -> (u8, u64, Net) {
+/// One call by the paper: its code, its three numbers, and the network that it leaves.
+fn apply(reached: &mut Reached, net: &Net, call: &[u64]) -> (u8, [u64; 3], Net) {
     let answer = match call[0] {
         0 => {
             let answer = paper::merge(net, call[1], call[2], call[3], call[4]);
@@ -235,33 +334,55 @@ fn apply(reached: &mut Against, net: &Net, call: &[u64]) -> (u8, u64, Net) {
             reached.collapse(net, call[1], code(&answer));
             answer
         }
-        _ => match paper::sweep(net, call[1]) {
+        3 => match paper::sweep(net, call[1]) {
             Ok((next, collapses)) => {
                 reached.sweep(&collapses);
-                return (0, collapses.len() as u64, next);
+                return (0, [collapses.len() as u64, 0, 0], next);
             }
             Err(code) => Err(code),
         },
+        _ => {
+            let answer = paper::preview(net, call[1]);
+            reached.preview(net, call[1], &answer);
+            return (code(&answer), answer.unwrap_or_default(), net.clone());
+        }
     };
     match answer {
-        Ok(next) => (0, 0, next),
-        Err(code) => (code, 0, net.clone()),
+        Ok(next) => (0, [0; 3], next),
+        Err(code) => (code, [0; 3], net.clone()),
     }
 }
 
-fn random_call(r: &mut Random, net: &Net) -> [u64; 5] {
+/// The previews of a list, with their places.
+fn previews(calls: &[[u64; 5]]) -> impl Iterator<Item = (usize, &[u64; 5])> {
+    calls.iter().enumerate().filter(|(_, call)| call[0] == 4)
+}
+
+/// A signal, mostly that of a gate.
+fn random_signal(r: &mut Random, net: &Net) -> u64 {
     let signals = (net.inputs + net.gates.len()) as u64;
-    let signal = |r: &mut Random| match r.below(12) {
-        0 => r.below(signals + 2),
-        1 => r.next(),
-        _ => net.inputs as u64 + r.below(net.gates.len() as u64),
-    };
+    let gate = net.inputs as u64 + r.below(net.gates.len() as u64);
+    match r.below(24) {
+        0 | 1 => r.below(signals + 2),
+        2 => r.next(),
+        // a gate's if cut to 8, 16 or 32 bits
+        3 => gate + (1 << [8, 16, 32][r.below(3) as usize]),
+        _ => gate,
+    }
+}
+
+fn random_preview(r: &mut Random, net: &Net) -> [u64; 5] {
+    [4, random_signal(r, net), r.next(), r.next(), r.next()]
+}
+
+fn random_call(r: &mut Random, net: &Net) -> [u64; 5] {
+    let signal = |r: &mut Random| random_signal(r, net);
     let dial = |r: &mut Random| match r.below(10) {
         0 => r.below(35),
         1 => r.next(),
         _ => 1 + r.below(4),
     };
-    match r.below(8) {
+    match r.below(10) {
         0..=2 => {
             let v = signal(r);
             let fed = net.gates.get((v as usize).wrapping_sub(net.inputs)).and_then(|g| g.feeds.last()).map(|f| f.0 as u64);
@@ -275,7 +396,8 @@ fn random_call(r: &mut Random, net: &Net) -> [u64; 5] {
         }
         3 => [1, signal(r), r.next(), r.next(), r.next()],
         4..=6 => [2, signal(r), r.next(), 0, 0],
-        _ => [3, if r.below(6) == 0 { r.below(200) } else { r.below(4) }, 0, 0, r.next()],
+        7 => [3, if r.below(6) == 0 { r.below(200) } else { r.below(4) }, 0, 0, r.next()],
+        _ => random_preview(r, net),
     }
 }
 
@@ -293,20 +415,30 @@ fn some_network(r: &mut Random, most_feeds: u64) -> Net {
 #[test]
 fn lists_of_calls() {
     let mut r = Random::new(3);
-    let mut reached = Against::default();
+    let mut reached = Reached::default();
     for round in 0..20_000 {
         let net = some_network(&mut r, if round % 10 == 0 { 9 } else { 4 });
         let file = paper::write(&net);
-        let mut calls = vec![];
+        let mut list: Vec<[u64; 5]> = vec![];
         let mut now = net.clone();
         let mut want = vec![0];
-        for _ in 0..r.below(6) {
-            let call = random_call(&mut r, &now);
-            let (code, count, next) = apply(&mut reached, &now, &call);
-            want.extend([code as u64, count]);
-            calls.extend(call);
+        // now and then a preview before every call
+        let every_second = r.below(8) == 0;
+        for place in 0..r.below(8) {
+            let call = match list.last() {
+                // often a preview is taken at its word
+                Some(&[4, s, ..]) if r.below(3) == 0 => [2, s, r.next(), r.next(), r.next()],
+                _ if every_second && place % 2 == 0 => random_preview(&mut r, &now),
+                _ => random_call(&mut r, &now),
+            };
+            let (code, numbers, next) = apply(&mut reached, &now, &call);
+            want.push(code as u64);
+            want.extend(numbers);
+            list.push(call);
             now = next;
         }
+        reached.places_of_previews(&list, &want);
+        let calls = list.concat();
         let after = paper::write(&now);
         want[0] = after.len() as u64;
         let mut answers = vec![MARK; want.len() + 2];
@@ -317,6 +449,7 @@ fn lists_of_calls() {
         assert_eq!(&out[..after.len()], &after[..], "{net:?} {calls:?}");
         assert!(out[after.len()..].iter().all(|&b| b == 170));
         refusals_touch_nothing(&file, &calls, want.len(), after.len());
+        previews_come_true(&file, &list, &want);
         same_frames(&mut r, &net, &file, &after);
         lines(&mut r, &net, &now);
         pairs(&mut r, &mut reached, &net, &file);
@@ -344,7 +477,50 @@ fn lists_of_calls() {
         ("collapse 16", 450),
         ("sweep, a collapse of it", 1_400),
         ("sweep, three collapses of it or more", 400),
+        ("preview accepted", 4_000),
+        ("preview accepted, a gate without readers", 1_200),
+        ("preview accepted, a gate with readers", 3_000),
+        ("preview accepted, two readers or more", 600),
+        ("preview accepted, a vote against", 2_000),
+        ("preview accepted, more cost", 600),
+        ("preview accepted, less cost", 3_000),
+        ("preview accepted, fewer levels", 2_500),
+        ("preview accepted, as many levels", 1_700),
+        ("preview 7", 20),
+        ("preview 11", 1_500),
+        ("preview 16", 500),
+        ("preview 17", 4_500),
+        ("preview 7 or 16, not by the first reader", 45),
+        ("preview first in its list", 3_500),
+        ("preview last in its list", 2_700),
+        ("preview right after a preview", 1_200),
+        ("preview right after an accepted change", 2_300),
+        ("preview right after a refused call", 4_800),
+        ("preview right before the collapse, accepted", 1_200),
+        ("preview right before the collapse, refused", 2_000),
     ]);
+}
+
+/// By the library alone: each preview of a list with such answers leaves the file as it was, shows the code of a collapse in its place and
+/// the report of the file after that, and is what a preview of that file by itself gives.
+fn previews_come_true(file: &[u8], calls: &[[u64; 5]], answers: &[u64]) {
+    for (i, call) in previews(calls) {
+        let (_, before) = after_calls(file, &calls[..i]);
+        let (_, left) = after_calls(file, &calls[..=i]);
+        assert_eq!(before, left, "{file:?} {calls:?}");
+        let mut instead = calls[..=i].to_vec();
+        instead[i] = [2, call[1], 0, 0, 0];
+        let (code, collapsed) = after_calls(file, &instead);
+        let (mut shown, mut size) = ([0; 3], [0; 3]);
+        assert_eq!(preview(&before, call[1], &mut shown) as u64, code, "{file:?} {calls:?}");
+        if code == 0 {
+            assert_eq!(report(&collapsed, &mut size), 0);
+        } else {
+            assert_eq!(before, collapsed, "{file:?} {calls:?}");
+        }
+        assert_eq!((answers[1 + 4 * i], &answers[2 + 4 * i..5 + 4 * i]), (code, &size[..]), "{file:?} {calls:?}");
+        assert_eq!(shown, size, "{file:?} {calls:?}");
+    }
 }
 
 /// The library reads the same from the two networks on some frames.
@@ -367,10 +543,13 @@ fn refusals_touch_nothing(file: &[u8], calls: &[u64], places: usize, length: usi
     untouched(18, calls, places, length - 1);
     let mut wrong = calls.to_vec();
     wrong.push(0);
-    untouched(14, &wrong, places + 2, length);
+    untouched(14, &wrong, places + 4, length);
     wrong.extend([0, 0, 0, 0]);
-    wrong[calls.len()] = 4;
-    untouched(14, &wrong, places + 2, length);
+    for kind in [5, 4 + (1 << 32), u64::MAX] {
+        wrong[calls.len()] = kind;
+        untouched(14, &wrong, places + 4, length);
+        untouched(14, &wrong, 0, 0);
+    }
 }
 
 fn lines(r: &mut Random, first: &Net, second: &Net) {
@@ -401,8 +580,8 @@ fn lines(r: &mut Random, first: &Net, second: &Net) {
     }
 }
 
-fn pairs(r: &mut Random, reached: &mut Against, net: &Net, file: &[u8]) {
-    for _ in 0..3 {
+fn pairs(r: &mut Random, reached: &mut Reached, net: &Net, file: &[u8]) {
+    for _ in 0..4 {
         let call = random_call(r, net);
         let (u, v) = (call[1], call[2]);
         let mut answer = [MARK; 3];
@@ -425,6 +604,15 @@ fn library_pair(net: &Net, u: u64, v: u64) -> Result<(u64, u64), u8> {
     }
 }
 
+/// The library's preview of a gate.
+fn library_preview(file: &[u8], s: u64) -> Result<[u64; 3], u8> {
+    let mut answer = [MARK; 3];
+    match preview(file, s, &mut answer) {
+        0 => Ok(answer),
+        code => Err(code),
+    }
+}
+
 /// The exact method finds the pairs that trying every candidate finds.
 #[test]
 fn the_exact_method() {
@@ -438,8 +626,8 @@ fn the_exact_method() {
     }
 }
 
-/// Pairs with 16 distinct feeds, for which trying every candidate takes too long, against the exact method; and merges with multipliers at
-/// and beside those of the pair.
+/// Pairs with 16 distinct feeds, for which trying every candidate takes too long, and previews by them, against the exact method; and
+/// merges with multipliers at and beside those of the pair.
 #[test]
 fn wide_pairs() {
     let mut r = Random::new(11);
@@ -448,12 +636,15 @@ fn wide_pairs() {
         let net = wide_pair(&mut r);
         let want = exact::pair(&net, 16, 17);
         assert_eq!(library_pair(&net, 16, 17), want, "{net:?}");
+        if round % 4 == 0 {
+            assert_eq!(library_preview(&paper::write(&net), 16), paper::preview_by(&net, 16, exact::pair), "{net:?}");
+        }
         let Ok((k, l)) = want else { continue };
         found += 1;
         if round % 16 == 0 {
             let (k, l) = (k + r.below(3) - r.below(2), l + r.below(3) - r.below(2));
             let want = paper::merge(&net, 16, 17, k, l);
-            let (got, after) = after_call(&paper::write(&net), &[0, 16, 17, k, l]);
+            let (got, after) = after_calls(&paper::write(&net), &[[0, 16, 17, k, l]]);
             assert_eq!(got, code(&want) as u64, "{net:?} {k} {l}");
             if let Ok(merged) = want {
                 assert_eq!(after, paper::write(&merged), "{net:?} {k} {l}");
@@ -469,13 +660,13 @@ fn wide_pairs() {
     }
 }
 
-/// The library's file after one call, and the call's code.
-fn after_call(file: &[u8], call: &[u64; 5]) -> (u64, Vec<u8>) {
-    let mut answers = [MARK; 3];
+/// The library's file after a list, and the code of the last call, 0 where there is none.
+fn after_calls(file: &[u8], calls: &[[u64; 5]]) -> (u64, Vec<u8>) {
+    let mut answers = vec![MARK; 1 + 4 * calls.len()];
     let mut out = vec![170u8; 11_000];
-    assert_eq!(run(file, call, &mut answers, &mut out), 0);
+    assert_eq!(run(file, &calls.concat(), &mut answers, &mut out), 0);
     out.truncate(answers[0] as usize);
-    (answers[1], out)
+    (answers[1..].chunks(4).last().map_or(0, |last| last[0]), out)
 }
 
 /// A gate and its complement with the opposite votes: the library answers the same for both, and a merge or a collapse leaves the same.
@@ -492,8 +683,9 @@ fn mirrored_networks() {
         };
         let (file, mirror) = (paper::write(&net), paper::write(&other));
         let collapse = [2, u as u64, 0, 0, 0];
-        let (one, same) = (after_call(&file, &collapse), after_call(&mirror, &collapse));
+        let (one, same) = (after_calls(&file, &[collapse]), after_calls(&mirror, &[collapse]));
         assert_eq!(one.0, same.0, "{net:?} {u}");
+        assert_eq!(library_preview(&file, u as u64), library_preview(&mirror, u as u64), "{net:?} {u}");
         if one.0 == 0 {
             assert_eq!(one.1, same.1, "{net:?} {u}");
             collapses += !net.readers(u).is_empty() as u64;
@@ -504,7 +696,7 @@ fn mirrored_networks() {
             assert_eq!((codes.0, one), (codes.1, same), "{net:?} {u} {v}");
             let (k, l) = if codes.0 == 0 && r.below(2) == 0 { (one[0], one[1]) } else { (1 + r.below(4), 1 + r.below(4)) };
             let merge = [0, u as u64, v as u64, k, l];
-            let (one, same) = (after_call(&file, &merge), after_call(&mirror, &merge));
+            let (one, same) = (after_calls(&file, &[merge]), after_calls(&mirror, &[merge]));
             assert_eq!(one.0, same.0, "{net:?} {merge:?}");
             if one.0 == 0 {
                 let merged = |file: &[u8]| paper::part(file, v as u64).unwrap();

@@ -4,10 +4,13 @@ use crate::show::end;
 use crate::show::left;
 use crate::show::number;
 use folding::Call;
+use folding::Figures;
 use integers::wide;
+use lists::CallAnswer;
 use merging::Changed;
 use merging::PairFound;
 use network::Network;
+use report::SizeReport;
 use sweeping::Outcome;
 
 // The answer of a merge, a drop or a collapse.
@@ -16,10 +19,29 @@ fn changed(before: Network, r: Changed) {
     left(r.code, before, r.network);
 }
 
-// The answer of a sweep or of a call of a list: the number is that of the collapses.
+// The answer of a sweep: the number is that of the collapses.
 fn counted(before: Network, r: Outcome) {
     number(wide(r.code));
     number(r.collapses);
+    left(r.code, before, r.network);
+}
+
+// The answer of a preview: the numbers are gates, cost and levels.
+fn previewed(r: SizeReport) {
+    number(wide(r.code));
+    number(r.gates);
+    number(r.cost as usize);
+    number(r.levels);
+    end();
+}
+
+// The answer of a call of a list, with its three numbers.
+fn answered(before: Network, r: CallAnswer) {
+    let figures: Figures = r.figures;
+    number(wide(r.code));
+    number(figures.first as usize);
+    number(figures.second as usize);
+    number(figures.third as usize);
     left(r.code, before, r.network);
 }
 
@@ -42,6 +64,7 @@ pub fn call(letter: u8, network: Network, n: Numbers) {
         b'd' => changed(network, collapse::drop_gate(network, n.first)),
         b'c' => changed(network, collapse::collapse(network, n.first)),
         b's' => counted(network, sweeping::sweep(network, n.first)),
+        b'v' => previewed(preview::preview(network, n.first)),
         _ => end(),
     }
 }
@@ -57,13 +80,14 @@ fn listed(letter: u8, n: Numbers) -> Call {
         },
         b'd' => Call::Drop { s: n.first },
         b'c' => Call::Collapse { s: n.first },
-        _ => Call::Sweep { b: n.first },
+        b's' => Call::Sweep { b: n.first },
+        _ => Call::Preview { s: n.first },
     }
 }
 
 // A call of a list; the answer is the network that it leaves.
 pub fn apply(letter: u8, network: Network, n: Numbers) -> Network {
-    let r = sweeping::apply(network, listed(letter, n));
-    counted(network, r);
+    let r = lists::apply(network, listed(letter, n));
+    answered(network, r);
     r.network
 }

@@ -52,7 +52,7 @@ fn lines(script: &[u8], length: usize) {
 }
 
 fn main() {
-    let mut script = [b'\n'; 16384];
+    let mut script = [b'\n'; 32768];
     let length = io::read_full(STDIN_FILENO, &mut script);
     lines(&script, length);
 }

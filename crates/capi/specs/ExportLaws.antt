@@ -34,6 +34,7 @@ use Rattle.folding.specs.RefusalLaws.{Numbered}
 use Rattle.folding.specs.NumberLaws.{pair-numbered}
 use Rattle.merging.specs.declared.PairFound.{PairFound}
 use Rattle.report.specs.Size.{cost, levels, reportOf, reported}
+use Rattle.report.specs.ReportLaws.{report-layout}
 use Rattle.report.specs.declared.SizeReport.{SizeReport}
 use Rattle.opening.specs.Files.{room, lengthOf}
 use Rattle.capi.specs.Exports.{framePlaces, pairPlaces, reportPlaces, fileOut, partOut}
@@ -96,10 +97,6 @@ pair-answer lent a u v e =
 -- ---- the size
 abbrev sizePlaces : SizeReport → Answer (List ℕ)
 sizePlaces s = answerOf (s .code) (s .gates ∷ s .cost ∷ s .levels ∷ [])
-
-report-layout : (N : Net) → Sound N → reported (layout N) ≡ reportOf (accepted N)
-unfolding reported
-report-layout N s = ap reportOf (sound-first N s _ _ ∙ checks-none (accepted (netOf (layout N))) ∙ ap accepted (netOf-layout N s))
 
 size-whole : (N : Net) → accepted (length (N .gates) ∷ cost (N .gates) ∷ levels N ∷ []) ≡ sizePlaces (reportOf (accepted N))
 unfolding reportOf answerOf

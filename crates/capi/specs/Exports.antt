@@ -12,7 +12,7 @@ use Rattle.format.specs.Part.{partIn}
 use Rattle.folding.specs.Pair.{pair}
 use Rattle.constraints.specs.Question.{question, alike}
 use Rattle.constraints.specs.Text.{questionText}
-use Rattle.report.specs.Size.{cost, levels}
+use Rattle.report.specs.Size.{sizes}
 use Rattle.opening.specs.Files.{readNet, openNet, room}
 
 -- output bits and ones
@@ -27,7 +27,7 @@ pairPlaces file u v answer = bind (openNet file (length answer) 2) (λ N. bind (
 
 -- gates, cost, levels
 unfoldable pub reportPlaces : List ℕ → List ℕ → Answer (List ℕ)
-reportPlaces file answer = bind (openNet file (length answer) 3) (λ N. accepted (length (N .gates) ∷ cost (N .gates) ∷ levels N ∷ []))
+reportPlaces file answer = bind (openNet file (length answer) 3) (λ N. accepted (sizes N))
 
 -- the file written anew
 unfoldable pub fileOut : List ℕ → List ℕ → List ℕ → Answer (List ℕ)

@@ -58,7 +58,7 @@ module _ {file : List ℕ} {r : Network} (a : FileOpen file 0 0 r) (ns answers o
   cs = callsIn ns
 
   abbrev last : Net → List Test
-  last N = (room (1 + 2 * length cs) answers && room (length (fileBytes (calls N cs))) out else 18) ∷ []
+  last N = (room (1 + 4 * length cs) answers && room (length (fileBytes (calls N cs))) out else 18) ∷ []
 
   run-on : runAnswer file ns answers out ≡ checks ((wellFormed ns else 14) ∷ last (netOf r)) (accepted (ran (netOf r) cs))
   unfolding runAnswer
@@ -72,16 +72,16 @@ module _ {file : List ℕ} {r : Network} (a : FileOpen file 0 0 r) (ns answers o
     run-formed = run-on ∙ checks-next (wellFormed ns) 14 (last (netOf r)) (accepted (ran (netOf r) cs)) w
 
     -- the places that the answers need
-    pub enough : 2 * (length ns / 5) + 1 ≤ length answers → 1 + 2 * length cs ≤ length answers
+    pub enough : 4 * (length ns / 5) + 1 ≤ length answers → 1 + 4 * length cs ≤ length answers
     enough h = omega (arith, count-calls ns w)
 
     abbrev places : ℕ
-    places = 1 + 2 * length cs
+    places = 1 + 4 * length cs
 
     abbrev long : ℕ
     long = length (fileBytes (calls (netOf r) cs))
 
-    pub run-few : length answers < 2 * (length ns / 5) + 1 → runAnswer file ns answers out ≡ refused 18
+    pub run-few : length answers < 4 * (length ns / 5) + 1 → runAnswer file ns answers out ≡ refused 18
     unfolding room
     run-few h =
         let few : length answers < places = omega (arith, count-calls ns w) in
@@ -109,9 +109,9 @@ place-first (y ∷ l) xs x h =
     ∙ ap (λ (n : ℕ). x ∷ (xs ++ drop n (y ∷ l))) {x = 1 + length xs} {y = suc (length xs)} (omega arith)
 
 -- the calls' answers are stored, the file of the record after them is written, and its length goes into place 0
-pub run-left : {file : List ℕ} {r : Network} (a : FileOpen file 0 0 r) (ns answers out : List ℕ) → wellFormed ns ≡ true → 1 + 2 * length (callsIn ns) ≤ length answers
+pub run-left : {file : List ℕ} {r : Network} (a : FileOpen file 0 0 r) (ns answers out : List ℕ) → wellFormed ns ≡ true → 1 + 4 * length (callsIn ns) ≤ length answers
     → leb (length (fileBytes (calls (netOf r) (callsIn ns)))) (length out) ≡ true
-    → {after : Network} → after ≡ layout (calls (netOf r) (callsIn ns)) → {put : List ℕ} → put ≡ paste answers 1 (answersOf (netOf r) (callsIn ns)) (2 * length (callsIn ns))
+    → {after : Network} → after ≡ layout (calls (netOf r) (callsIn ns)) → {put : List ℕ} → put ≡ paste answers 1 (answersOf (netOf r) (callsIn ns)) (4 * length (callsIn ns))
     → {w : Written} → w ≡ written after (length out) → {bytes : List ℕ} → bytes ≡ bytesAfter after out
     → RunLeft (runAnswer file ns answers out) (w .code) answers (stored (answerOf (w .code) (w .length ∷ [])) put) out bytes
 unfolding codeOf ranNumbers ranFile ran stored
@@ -122,11 +122,11 @@ run-left {r = r} a ns answers out t h fits {after} e {put} p {w} d {bytes} b =
     let n = length (fileBytes M) in
     let f = write-fits M (after-sound r (read-holds a) cs) out fits in
     let left : w ≡ record { code = 0; length = n } = d ∙ ap (λ (z : Network). written z (length out)) e ∙ f .0 in
-    let two = answers-length (netOf r) cs in
+    let count = answers-length (netOf r) cs in
     run-same (run-whole a ns answers out t h fits) (record {
       code = ap (λ (z : Written). z .code) left;
       places = (λ x. stored (answerOf (left x .code) (left x .length ∷ [])) (p x))
-          ∙ ap (λ (k : ℕ). stored (answerOf 0 (n ∷ [])) (paste answers 1 xs k)) (sym two)
+          ∙ ap (λ (k : ℕ). stored (answerOf 0 (n ∷ [])) (paste answers 1 xs k)) (sym count)
           ∙ place-first answers xs n (omega arith);
       file = b ∙ ap (λ (z : Network). bytesAfter z out) e ∙ f .1;
     })

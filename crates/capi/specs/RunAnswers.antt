@@ -12,7 +12,7 @@ use Rattle.opening.specs.Files.{readNet, room}
 -- as read, 14, 18
 unfoldable pub runAnswer : List ℕ → List ℕ → List ℕ → List ℕ → Answer Ran
 runAnswer file numbers answers out = bind (readNet file) (λ N.
-    checks ((wellFormed numbers else 14) ∷ (room (1 + 2 * length (callsIn numbers)) answers && room (length (fileBytes (calls N (callsIn numbers)))) out else 18) ∷ [])
+    checks ((wellFormed numbers else 14) ∷ (room (1 + 4 * length (callsIn numbers)) answers && room (length (fileBytes (calls N (callsIn numbers)))) out else 18) ∷ [])
     (accepted (ran N (callsIn numbers))))
 
 unfoldable pub ranFile : Answer Ran → Answer (List ℕ)

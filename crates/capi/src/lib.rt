@@ -3,6 +3,7 @@
 ghost use mathlib.Core.Path.{_≡_};
 ghost use Rattle.integers.specs.Refusals.{codeOf, stored};
 ghost use Rattle.opening.specs.Files.{readNet, lengthOf};
+ghost use Rattle.preview.specs.Files.{previewPlaces};
 ghost use Rattle.capi.specs.Exports.{framePlaces, pairPlaces, reportPlaces, fileOut, partOut, lineOut};
 ghost use Rattle.capi.specs.RunAnswers.{runAnswer, ranFile, ranNumbers};
 
@@ -64,6 +65,15 @@ pub extern "C" fn pmn_report(file: &[u8], answer: &mut [u64]) -> u8
         size.cost,
         size.levels as u64,
     )
+}
+
+// What a collapse of the gate with a signal would give: gates, cost and levels go into the first three places of the answer.
+#[no_mangle]
+pub extern "C" fn pmn_preview(file: &[u8], signal: u64, answer: &mut [u64]) -> u8
+    ensures { λ r. ⌜ r ≡ codeOf (previewPlaces (now (file .entry)) signal (now (answer .entry))) ⌝ }
+    ensures { λ _. ⌜ now (answer .exit) ≡ stored (previewPlaces (now (file .entry)) signal (now (answer .entry))) (now (answer .entry)) ⌝ }
+{
+    preview::files::preview_of_file(file, signal, answer)
 }
 
 // The file is written anew into `out`, and its length goes into place 0 of the answer.
@@ -132,7 +142,7 @@ pub extern "C" fn pmn_line(
     opening::unchecked::places::put_one(answer, line.code, line.length as u64)
 }
 
-// The list of calls is run: each call's code and collapses go into the answers from place 1 on, the file of the network after the list
+// The list of calls is run: each call's code and three numbers go into the answers from place 1 on, the file of the network after the list
 // into `out`, and its length into place 0 of the answers.
 #[no_mangle]
 pub extern "C" fn pmn_run(file: &[u8], calls: &[u64], answers: &mut [u64], out: &mut [u8]) -> u8
@@ -148,7 +158,7 @@ pub extern "C" fn pmn_run(file: &[u8], calls: &[u64], answers: &mut [u64], out: 
     if !runs::unchecked::is_well_formed(calls) {
         return 14;
     }
-    if answers.len() < 2 * (calls.len() / 5) + 1 {
+    if answers.len() < 4 * (calls.len() / 5) + 1 {
         return 18;
     }
     if !runs::unchecked::has_room(loaded.network, calls, out.len()) {

@@ -1,4 +1,4 @@
--- The numbers that calls answer: a pair's refusal is not 0, and no call answers 13, "against the grain", since where b is negative the
+-- The numbers that calls answer: a refusal of a pair or of a collapse is not 0, and no call answers 13, "against the grain", since where b is negative the
 -- complement votes. Assumes nothing.
 use mathlib.Core.Bool.{Bool}
 use mathlib.Core.List.{List, [], _∷_}
@@ -12,10 +12,10 @@ use Rattle.folding.specs.Merge.{Edge, edgeOf, edge, silent, merged, feed
 use Rattle.folding.specs.Pair.{pairs, qualifies, first, pairTests, pairOf, pair}
 use Rattle.folding.specs.Collapse.{drop, fuse, fuseAll, collapse}
 use Rattle.folding.specs.Sweep.{sweep}
-use Rattle.folding.specs.Calls.{uncounted, answer}
+use Rattle.folding.specs.Calls.{answer}
 use Rattle.folding.specs.RefusalLaws.{NoneSays, NeverSays, checks-never, bind-never, Numbered}
 use Rattle.folding.specs.declared.Call.{Call}
-use Rattle.folding.specs.declared.Call.the-variants.{Merge, Drop, Collapse, Sweep}
+use Rattle.folding.specs.declared.Call.the-variants.{Merge, Drop, Collapse, Sweep, Preview}
 
 -- ---- merge
 pub merge-never : (N : Net) (u v k l : ℕ) → NeverSays 13 (merge N u v k l)
@@ -54,20 +54,28 @@ pub drop-never : (N : Net) (u : ℕ) → NeverSays 13 (drop N u)
 unfolding drop
 drop-never N u = checks-never 13 _ (accepted _) (omega arith, (omega arith, (omega arith, tt))) tt
 
-fuse-never : (e : Edge) → NeverSays 13 (fuse e)
+fuse-never : (n : ℕ) (e : Edge) → NeverSays n (pairOf e) → NeverSays n (fuse e)
 unfolding fuse
-fuse-never e = cond-case (NeverSays 13) (silent (e .u) (e .gateV)) {x = accepted (e .gateV)} {y = bind (pairOf e) (λ p. accepted (merged e (p .k) (p .l)))}
-    (λ t. tt) (λ t. bind-never 13 (pairOf e) _ (pairOf-13 e) (λ p. tt))
+fuse-never n e h =
+    cond-case (NeverSays n) (silent (e .u) (e .gateV)) {x = accepted (e .gateV)} {y = bind (pairOf e) (λ p. accepted (merged e (p .k) (p .l)))}
+    (λ t. tt) (λ t. bind-never n (pairOf e) _ h (λ p. tt))
 
-fuseAll-never : (u : ℕ) (gateU : Gate) (n : ℕ) (gs : List Gate) → NeverSays 13 (fuseAll u gateU n gs)
-unfolding fuseAll
-fuseAll-never u gateU n [] = tt
-fuseAll-never u gateU n (g ∷ gs) = bind-never 13 (fuse (edgeOf u n gateU g)) _ (fuse-never (edgeOf u n gateU g))
-    (λ h. bind-never 13 (fuseAll u gateU (suc n) gs) _ (fuseAll-never u gateU (suc n) gs) (λ hs. tt))
+module _ (n : ℕ) (pairs-never : (e : Edge) → NeverSays n (pairOf e)) where
+  fuseAll-never : (u : ℕ) (gateU : Gate) (m : ℕ) (gs : List Gate) → NeverSays n (fuseAll u gateU m gs)
+  unfolding fuseAll
+  fuseAll-never u gateU m [] = tt
+  fuseAll-never u gateU m (g ∷ gs) = bind-never n (fuse (edgeOf u m gateU g)) _ (fuse-never n (edgeOf u m gateU g) (pairs-never (edgeOf u m gateU g)))
+      (λ h. bind-never n (fuseAll u gateU (suc m) gs) _ (fuseAll-never u gateU (suc m) gs) (λ hs. tt))
+
+  fused-never : (N : Net) (u : ℕ) → 20 ≢ n → 11 ≢ n → 17 ≢ n → NeverSays n (collapse N u)
+  unfolding collapse
+  fused-never N u x y z = checks-never n _ _ (x, (y, (z, tt))) (bind-never n (fuseAll _ _ _ (N .gates)) _ (fuseAll-never _ _ _ (N .gates)) (λ gs. tt))
 
 pub collapse-never : (N : Net) (u : ℕ) → NeverSays 13 (collapse N u)
-unfolding collapse
-collapse-never N u = checks-never 13 _ _ (omega arith, (omega arith, (omega arith, tt))) (bind-never 13 (fuseAll _ _ _ (N .gates)) _ (fuseAll-never _ _ _ (N .gates)) (λ gs. tt))
+collapse-never N u = fused-never 13 pairOf-13 N u (omega arith) (omega arith) (omega arith)
+
+pub collapse-numbered : (N : Net) (u : ℕ) → Numbered (collapse N u)
+collapse-numbered N u = fused-never 0 pairOf-numbered N u (omega arith) (omega arith) (omega arith)
 
 pub sweep-never : (N : Net) (B : ℕ) → NeverSays 13 (sweep N B)
 unfolding sweep
@@ -75,8 +83,9 @@ sweep-never N B = checks-never 13 _ (accepted _) (omega arith, (omega arith, tt)
 
 -- one call of a list
 pub answer-never : (N : Net) (c : Call) → NeverSays 13 (answer N c)
-unfolding answer uncounted
-answer-never N (Merge u v k l) = bind-never 13 (merge N u v k l) uncounted (merge-never N u v k l) (λ M. tt)
-answer-never N (Drop u) = bind-never 13 (drop N u) uncounted (drop-never N u) (λ M. tt)
-answer-never N (Collapse u) = bind-never 13 (collapse N u) uncounted (collapse-never N u) (λ M. tt)
-answer-never N (Sweep B) = sweep-never N B
+unfolding answer
+answer-never N (Merge u v k l) = bind-never 13 (merge N u v k l) _ (merge-never N u v k l) (λ M. tt)
+answer-never N (Drop u) = bind-never 13 (drop N u) _ (drop-never N u) (λ M. tt)
+answer-never N (Collapse u) = bind-never 13 (collapse N u) _ (collapse-never N u) (λ M. tt)
+answer-never N (Sweep B) = bind-never 13 (sweep N B) _ (sweep-never N B) (λ s. tt)
+answer-never N (Preview u) = bind-never 13 (collapse N u) _ (collapse-never N u) (λ M. tt)

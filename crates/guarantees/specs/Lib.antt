@@ -4,5 +4,7 @@ pub mod Lists
 pub mod Questions
 pub mod QuestionLaws
 pub mod ListLaws
+pub mod Previews
+pub mod PreviewLaws
 pub mod Thirteen
 pub mod ThirteenLaws

@@ -18,7 +18,7 @@ use Rattle.folding.specs.GuaranteeLaws.{step-sound, calls-agree, claim, list-ke
 use Rattle.folding.specs.declared.Call.{Call}
 use Rattle.constraints.specs.Question.{alike}
 use Rattle.constraints.specs.Demand.{Differ}
-use Rattle.sweeping.specs.ApplyLaws.{call-exact, call-record}
+use Rattle.lists.specs.ApplyLaws.{call-exact, call-record}
 use Rattle.format.specs.Format.{Bytes}
 use Rattle.pmn.specs.Answers.{loaded}
 use Rattle.pmn.specs.OpenLaws.{opened, loaded-net, opened-sound}

@@ -1,5 +1,5 @@
 -- Demand 3, on records: what is claimed of every list of calls from the record of any file that a read accepts. Document 01, "A list of
--- calls". Nothing is proved here.
+-- calls", and document 02, No. 1: "A list of calls may hold previews and still agrees with the network read". Nothing is proved here.
 use mathlib.Core.Path.{_≡_}
 use mathlib.Core.Bool.{true}
 use mathlib.Core.List.{List, [], _∷_}
@@ -13,7 +13,7 @@ use Rattle.folding.specs.Guarantee.{Claim}
 use Rattle.folding.specs.declared.Call.{Call}
 use Rattle.constraints.specs.Question.{Solves, question, alike}
 use Rattle.constraints.specs.Demand.{SolvesWritten}
-use Rattle.sweeping.specs.Answers.{asOutcome, applied}
+use Rattle.lists.specs.Answers.{asCallAnswer, applied}
 use Rattle.guarantees.specs.Questions.{QuestionClaim}
 
 -- the record after a list: "each later one the network that the call before it returned"
@@ -24,9 +24,10 @@ callsOn r (c ∷ cs) = callsOn (applied r c .network) cs
 -- one call on a record: it leaves exactly the network and gives exactly the answer that the definitions give for its numbers and the
 -- network that it got; a merge within the limits is accepted exactly when merged gate and composed pair have the same bit on every
 -- setting; a collapse is accepted exactly when its gate is no output and has a qualifying pair for every reader; after an accepted sweep
--- no gate within its reader limit, outputs aside, has a qualifying pair for every gate that reads it
+-- no gate within its reader limit, outputs aside, has a qualifying pair for every gate that reads it; a preview leaves the network as it
+-- was, and its figures are those of the report of the network that a collapse would have left there, or it has the collapse's refusal
 pub record CallClaim (r : Network) (c : Call) : Type 0 where
-  pub exact : applied r c ≡ asOutcome r (answer (netOf r) c)
+  pub exact : applied r c ≡ asCallAnswer r (answer (netOf r) c)
   pub claim : Claim (netOf r) c
 
 -- each call of a list, at the record that it gets

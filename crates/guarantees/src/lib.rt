@@ -13,6 +13,7 @@ ghost use Rattle.folding.specs.declared.Call.{Call};
 ghost use Rattle.guarantees.specs.Files.{Accepted, SoundIsDescribed, WrittenIsRead, ReadIsWritten};
 ghost use Rattle.guarantees.specs.Questions.{Questions};
 ghost use Rattle.guarantees.specs.Lists.{ListClaim};
+ghost use Rattle.guarantees.specs.Previews.{PreviewClaim};
 ghost use Rattle.guarantees.specs.Thirteen.{NeverThirteen};
 
 // A record is sound exactly when some file's reading gives it.
@@ -38,11 +39,11 @@ pub fn question_decides(first: Network, second: Network)
     ensures { λ _. ⌜ Questions first second ⌝ }
 {}
 
-// Demand 3: from the record of any file that a read accepts, every list of merges, drops, collapses and sweeps with any numbers, refused
-// ones included. The record after it is read alike on every frame; the two have equal input and output counts, and the question written
+// Demand 3: from the record of any file that a read accepts, every list of merges, drops, collapses, sweeps and previews with any numbers,
+// refused ones included. The record after it is read alike on every frame; the two have equal input and output counts, and the question written
 // for them is as claimed above and has no 0/1 solution; each call leaves exactly the network and gives exactly the answer that the
-// definitions give; a merge within the limits is accepted exactly when it agrees; a collapse exactly when every reader has a pair; and
-// after an accepted sweep nothing within its reader limit is left to collapse.
+// definitions give; a merge within the limits is accepted exactly when it agrees; a collapse exactly when every reader has a pair; after an
+// accepted sweep nothing within its reader limit is left to collapse; and a preview changes nothing and shows what a collapse would leave.
 pub fn lists_of_calls()
     ensures { λ _. ⌜ ((file : List ℕ) → Bytes file → Accepted file → (calls : List Call) → ListClaim (loaded file .network) calls) ⌝ }
 {}
@@ -53,7 +54,13 @@ pub fn pairs_are_least()
     ensures { λ _. ⌜ ((net : Net) (u v : ℕ) → PairClaim net u v) ⌝ }
 {}
 
-// Document 02, No. 2: no merge, pair, drop, collapse, sweep or call of a list answers 13, on any record and with any numbers.
+// Document 02, No. 1, for every record and any number: a preview is the report of the record that a collapse leaves, or the collapse's
+// refusal; as a call of a list it hands its record back as it was, with the whole preview.
+pub fn previews_are_reports(network: Network)
+    ensures { λ _. ⌜ ((s : ℕ) → PreviewClaim network s) ⌝ }
+{}
+
+// Document 02, No. 2: no merge, pair, drop, collapse, sweep, preview or call of a list answers 13, on any record and with any numbers.
 pub fn thirteen_is_never_given(network: Network)
     ensures { λ _. ⌜ NeverThirteen network ⌝ }
 {}

@@ -53,6 +53,10 @@ levelsFrom n (g ∷ gs) levelOf = max (gateLevel levelOf g) (levelsFrom (suc n) 
 unfoldable pub levels : Net → ℕ
 levels N = levelsFrom (N .inputs) (N .gates) (λ s. 0)
 
+-- gates, cost and levels, one after the other
+abbrev pub sizes : Net → List ℕ
+sizes N = length (N .gates) ∷ cost (N .gates) ∷ levels N ∷ []
+
 -- ---- the report: order 20
 
 unfoldable pub reportOf : Answer Net → SizeReport

@@ -2,13 +2,13 @@
 -- of the file. Assumes nothing.
 use mathlib.Core.Path.{_≡_, refl, sym, ap, _∙_, subst}
 use mathlib.Core.Bool.{true, false, _&&_, false≢true}
-use mathlib.Core.List.{List, [], _∷_}
+use mathlib.Core.List.{List, [], _∷_, _++_}
 use Prim.Native.Nat.{ℕ, zero, suc, _+_, _*_, _<_, _≤_}
 use native.Mathlib.Nat.{add-zero}
 use native.Mathlib.Omega.{arith}
 use lib.Dec.{leb}
 use lib.ListN.{length, getD, drop, set, length-drop}
-use lib.Seq.{drop-drop, getD-drop, paste, paste-suc}
+use lib.Seq.{drop-drop, getD-drop, sets, paste, paste-suc}
 use Rattle.integers.specs.Refusals.{Answer, accepted, refused, codeOf}
 use Rattle.integers.specs.TestLaws.{and-right}
 use Rattle.network.specs.Threshold.{Net}
@@ -22,15 +22,14 @@ use Rattle.format.specs.LengthLaws.{longest}
 use Rattle.pmn_writer.specs.Answers.{asWritten, written}
 use Rattle.pmn_writer.specs.WriteAnswerLaws.{write-whole}
 use Rattle.pmn_writer.specs.declared.Written.{Written}
-use Rattle.folding.specs.Sweep.{Swept}
-use Rattle.folding.specs.Calls.{answer, leaves, calls}
+use Rattle.folding.specs.Calls.{Given, noFigures, answer, leaves, calls}
 use Rattle.folding.specs.GuaranteeLaws.{calls-kept, step-sound}
 use Rattle.folding.specs.declared.Call.{Call}
-use Rattle.folding.specs.declared.Call.the-variants.{Sweep}
-use Rattle.sweeping.specs.Answers.{asOutcome, applied}
-use Rattle.sweeping.specs.ApplyLaws.{call-exact, call-record}
-use Rattle.sweeping.specs.declared.Outcome.{Outcome}
-use Rattle.runs.specs.Runs.{callOf, wellFormed, callsIn, collapsesOf, answersOf}
+use Rattle.folding.specs.declared.Call.the-variants.{Preview}
+use Rattle.lists.specs.Answers.{asCallAnswer, applied}
+use Rattle.lists.specs.ApplyLaws.{call-exact, call-record}
+use Rattle.lists.specs.declared.CallAnswer.{CallAnswer}
+use Rattle.runs.specs.Runs.{callOf, wellFormed, callsIn, figuresIn, fourOf, answersOf}
 use Rattle.runs.specs.Running.{callAt, Stepped}
 
 -- ---- five numbers to a call
@@ -62,11 +61,11 @@ module _ (ns : List ℕ) (at : ℕ) (h : at + 5 ≤ length ns) where
   first-left = getD-drop at ns 0 0 ∙ ap (λ (k : ℕ). getD ns k 0) (add-zero at)
 
   -- the test of the next five
-  pub formed-next : wellFormed (drop at ns) ≡ leb (getD ns at 0) 3 && wellFormed (drop (at + 5) ns)
+  pub formed-next : wellFormed (drop at ns) ≡ leb (getD ns at 0) 4 && wellFormed (drop (at + 5) ns)
   unfolding wellFormed
   formed-next =
-      five (λ l. wellFormed l ≡ leb (getD l 0 0) 3 && wellFormed (drop 5 l)) (λ a b c d e l. refl) (drop at ns) five-left
-      ∙ (λ x. leb (first-left x) 3 && wellFormed (drop-drop 5 at ns x))
+      five (λ l. wellFormed l ≡ leb (getD l 0 0) 4 && wellFormed (drop 5 l)) (λ a b c d e l. refl) (drop at ns) five-left
+      ∙ (λ x. leb (first-left x) 4 && wellFormed (drop-drop 5 at ns x))
 
 -- the next call
 pub calls-next : (ns : List ℕ) (i : ℕ) → 5 * i + 5 ≤ length ns → callsIn (drop (5 * i) ns) ≡ callAt ns i ∷ callsIn (drop (5 * (i + 1)) ns)
@@ -85,15 +84,16 @@ count-calls (a ∷ []) h = absurd (false≢true h)
 count-calls (a ∷ b ∷ []) h = absurd (false≢true h)
 count-calls (a ∷ b ∷ c ∷ []) h = absurd (false≢true h)
 count-calls (a ∷ b ∷ c ∷ d ∷ []) h = absurd (false≢true h)
-count-calls (a ∷ b ∷ c ∷ d ∷ e ∷ ns) h = let k = count-calls ns (and-right (leb a 3) (wellFormed ns) h) in omega arith
+count-calls (a ∷ b ∷ c ∷ d ∷ e ∷ ns) h = let k = count-calls ns (and-right (leb a 4) (wellFormed ns) h) in omega arith
 
--- every kind that is not 0, 1 or 2 is a sweep
-pub sweep-call : (n b v k l : ℕ) → (n ≡ 0 → ⊥) → (n ≡ 1 → ⊥) → (n ≡ 2 → ⊥) → callOf n b v k l ≡ Sweep b
+-- every kind that is not 0, 1, 2 or 3 is a preview
+pub preview-call : (n s v k l : ℕ) → (n ≡ 0 → ⊥) → (n ≡ 1 → ⊥) → (n ≡ 2 → ⊥) → (n ≡ 3 → ⊥) → callOf n s v k l ≡ Preview s
 unfolding callOf
-sweep-call zero b v k l x y z = absurd (x refl)
-sweep-call (suc zero) b v k l x y z = absurd (y refl)
-sweep-call (suc (suc zero)) b v k l x y z = absurd (z refl)
-sweep-call (suc (suc (suc n))) b v k l x y z = refl
+preview-call zero s v k l x y z w = absurd (x refl)
+preview-call (suc zero) s v k l x y z w = absurd (y refl)
+preview-call (suc (suc zero)) s v k l x y z w = absurd (z refl)
+preview-call (suc (suc (suc zero))) s v k l x y z w = absurd (w refl)
+preview-call (suc (suc (suc (suc n)))) s v k l x y z w = refl
 
 -- ---- one call on a record
 
@@ -101,19 +101,19 @@ sweep-call (suc (suc (suc n))) b v k l x y z = refl
 pub after-sound : (r : Network) → Holds r → (cs : List Call) → Sound (calls (netOf r) cs)
 after-sound r h cs = calls-kept (netOf r) cs (h .sound) .sound
 
-step-by : (r : Network) (a : Answer Swept) → asOutcome r a .network ≡ layout (leaves (netOf r) a) → Stepped (netOf r) a (asOutcome r a)
-unfolding asOutcome codeOf collapsesOf
-step-by r (accepted s) e = record { code = refl; collapses = refl; network = e }
-step-by r (refused k) e = record { code = refl; collapses = refl; network = e }
+step-by : (r : Network) (a : Answer Given) → asCallAnswer r a .network ≡ layout (leaves (netOf r) a) → Stepped (netOf r) a (asCallAnswer r a)
+unfolding asCallAnswer codeOf figuresIn
+step-by r (accepted g) e = record { code = refl; figures = refl; network = e }
+step-by r (refused k) e = record { code = refl; figures = refl; network = e }
 
-pub step-done : (r : Network) → Holds r → (c : Call) {o : Outcome} → o ≡ applied r c → Stepped (netOf r) (answer (netOf r) c) o
+pub step-done : (r : Network) → Holds r → (c : Call) {o : CallAnswer} → o ≡ applied r c → Stepped (netOf r) (answer (netOf r) c) o
 step-done r h c e =
     let a = answer (netOf r) c in
     let same = call-exact r c (holds-sound r h) in
-    subst (Stepped (netOf r) a) (sym (e ∙ same)) (step-by r a (ap (λ (x : Outcome). x .network) (sym same) ∙ call-record r c h))
+    subst (Stepped (netOf r) a) (sym (e ∙ same)) (step-by r a (ap (λ (x : CallAnswer). x .network) (sym same) ∙ call-record r c h))
 
 -- what is left of the list after call i
-module _ (r : Network) (h : Holds r) (ns : List ℕ) (i : ℕ) (l : 5 * i + 5 ≤ length ns) (o : Outcome) (s : Stepped (netOf r) (answer (netOf r) (callAt ns i)) o) where
+module _ (r : Network) (h : Holds r) (ns : List ℕ) (i : ℕ) (l : 5 * i + 5 ≤ length ns) (o : CallAnswer) (s : Stepped (netOf r) (answer (netOf r) (callAt ns i)) o) where
   next : Net
   next = leaves (netOf r) (answer (netOf r) (callAt ns i))
 
@@ -133,33 +133,30 @@ module _ (r : Network) (h : Holds r) (ns : List ℕ) (i : ℕ) (l : 5 * i + 5 �
   unfolding next calls
   next-calls = ap (λ (N : Net). calls N (callsIn (drop (5 * (i + 1)) ns))) next-net ∙ sym (ap (calls (netOf r)) (calls-next ns i l))
 
-  pub next-answers : answersOf (netOf r) (callsIn (drop (5 * i) ns)) ≡ o .code ∷ o .collapses ∷ answersOf (netOf (o .network)) (callsIn (drop (5 * (i + 1)) ns))
+  pub next-answers : answersOf (netOf r) (callsIn (drop (5 * i) ns)) ≡ fourOf (o .code) (o .figures) ++ answersOf (netOf (o .network)) (callsIn (drop (5 * (i + 1)) ns))
   unfolding next answersOf
   next-answers =
       ap (answersOf (netOf r)) (calls-next ns i l)
-      ∙ sym (λ x. s .code x ∷ s .collapses x ∷ answersOf (next-net x) (callsIn (drop (5 * (i + 1)) ns)))
+      ∙ sym (λ x. fourOf (s .code x) (s .figures x) ++ answersOf (next-net x) (callsIn (drop (5 * (i + 1)) ns)))
 
 -- ---- the places of the answers, from 1 on
-pub answers-length : (N : Net) (cs : List Call) → length (answersOf N cs) ≡ 2 * length cs
+pub answers-length : (N : Net) (cs : List Call) → length (answersOf N cs) ≡ 4 * length cs
 unfolding answersOf
 answers-length N [] = refl
 answers-length N (c ∷ cs) = let e = answers-length (leaves N (answer N c)) cs in omega arith
 
--- two more of the numbers xs, stored after the j before them
-module _ (lent xs : List ℕ) (j : ℕ) {a b : ℕ} {rest : List ℕ} (e : drop j xs ≡ a ∷ b ∷ rest) where
-  pub after-two : drop (j + 2) xs ≡ rest
-  after-two = sym (drop-drop 2 j xs) ∙ ap (drop 2) e
-
-  pub store-two : j + 2 < length lent → set (set (paste lent 1 xs j) (1 + j) a) (2 + j) b ≡ paste lent 1 xs (j + 2)
-  store-two h =
-      let long : j + 2 ≤ length xs = omega (arith, length-drop j xs, ap length e) in
-      let p : getD xs j 0 ≡ a = sym (getD-drop j xs 0 0 ∙ ap (λ (k : ℕ). getD xs k 0) (add-zero j)) ∙ ap (λ (l : List ℕ). getD l 0 0) e in
-      let q : getD xs (suc j) 0 ≡ b = sym (getD-drop j xs 1 0 ∙ ap (λ (k : ℕ). getD xs k 0) {x = j + 1} {y = suc j} (omega arith)) ∙ ap (λ (l : List ℕ). getD l 1 0) e in
-      ap (λ (l : List ℕ). set l (2 + j) b) (ap (set (paste lent 1 xs j) (1 + j)) (sym p) ∙ paste-suc lent 1 xs j 0 (omega arith) (omega arith))
-      ∙ ap (λ (k : ℕ). set (paste lent 1 xs (suc j)) k b) {x = 2 + j} {y = 1 + suc j} (omega arith)
-      ∙ ap (set (paste lent 1 xs (suc j)) (1 + suc j)) (sym q)
-      ∙ paste-suc lent 1 xs (suc j) 0 (omega arith) (omega arith)
-      ∙ ap (paste lent 1 xs) {x = suc (suc j)} {y = j + 2} (omega arith)
+-- more of the numbers xs, stored after the j before them
+pub store-more : (lent xs : List ℕ) (at j : ℕ) (ys rest : List ℕ) → drop j xs ≡ ys ++ rest → at + j + length ys ≤ length lent
+    → sets (paste lent at xs j) (at + j) ys ≡ paste lent at xs (j + length ys)
+store-more lent xs at j [] rest e h = ap (paste lent at xs) (sym (add-zero j))
+store-more lent xs at j (y ∷ ys) rest e h =
+    let long : j < length xs = omega (arith, length-drop j xs, ap length e) in
+    let here : getD xs j 0 ≡ y = sym (getD-drop j xs 0 0 ∙ ap (λ (k : ℕ). getD xs k 0) (add-zero j)) ∙ ap (λ (l : List ℕ). getD l 0 0) e in
+    let next : drop (suc j) xs ≡ ys ++ rest = ap (λ (k : ℕ). drop k xs) {x = suc j} {y = j + 1} (omega arith) ∙ sym (drop-drop 1 j xs) ∙ ap (drop 1) e in
+    ap (λ (l : List ℕ). sets l (suc (at + j)) ys) (ap (set (paste lent at xs j) (at + j)) (sym here) ∙ paste-suc lent at xs j 0 (omega arith) long)
+    ∙ ap (λ (k : ℕ). sets (paste lent at xs (suc j)) k ys) {x = suc (at + j)} {y = at + suc j} (omega arith)
+    ∙ store-more lent xs at (suc j) ys rest next (omega arith)
+    ∙ ap (paste lent at xs) {x = suc j + length ys} {y = j + suc (length ys)} (omega arith)
 
 -- ---- a writing with room for the longest file gives the file's length
 pub length-written : (r : Network) → Holds r → (room : ℕ) → longestFile ≤ room → {w : Written} → w ≡ written r room → w .length ≡ length (fileBytes (netOf r))

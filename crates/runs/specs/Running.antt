@@ -6,18 +6,17 @@ use lib.ListN.{getD}
 use Rattle.integers.specs.Refusals.{Answer, codeOf}
 use Rattle.network.specs.Threshold.{Net}
 use Rattle.network.specs.Record.{layout}
-use Rattle.folding.specs.Sweep.{Swept}
-use Rattle.folding.specs.Calls.{leaves}
+use Rattle.folding.specs.Calls.{Given, leaves}
 use Rattle.folding.specs.declared.Call.{Call}
-use Rattle.sweeping.specs.declared.Outcome.{Outcome}
-use Rattle.runs.specs.Runs.{callOf, collapsesOf}
+use Rattle.lists.specs.declared.CallAnswer.{CallAnswer}
+use Rattle.runs.specs.Runs.{callOf, figuresIn}
 
 -- call i of a list of numbers
 abbrev pub callAt : List ℕ → ℕ → Call
 callAt ns i = callOf (getD ns (5 * i) 0) (getD ns (5 * i + 1) 0) (getD ns (5 * i + 2) 0) (getD ns (5 * i + 3) 0) (getD ns (5 * i + 4) 0)
 
--- one call of a list, by its answer: the code, the collapses, and the record of the network that it leaves
-pub record Stepped (N : Net) (a : Answer Swept) (o : Outcome) : Type 0 where
+-- one call of a list, by its answer: the code, the three numbers, and the record of the network that it leaves
+pub record Stepped (N : Net) (a : Answer Given) (o : CallAnswer) : Type 0 where
   pub code : o .code ≡ codeOf a
-  pub collapses : o .collapses ≡ collapsesOf a
+  pub figures : o .figures ≡ figuresIn a
   pub network : o .network ≡ layout (leaves N a)

@@ -1,33 +1,34 @@
--- A list of calls given as numbers, five to a call: kind (0 merge u v k l, 1 drop s, 2 collapse s, 3 sweep B) and four numbers, of which a
--- kind passes over those that it does not use. The list is run as document 01, "A list of calls", has it. Nothing is proved here.
+-- A list of calls given as numbers, five to a call: kind (0 merge u v k l, 1 drop s, 2 collapse s, 3 sweep B, 4 preview s) and four numbers, of
+-- which a kind passes over those that it does not use. The list is run as document 01, "A list of calls", has it. Nothing is proved here.
 use mathlib.Core.Bool.{Bool, true, false, _&&_}
-use mathlib.Core.List.{List, [], _∷_}
+use mathlib.Core.List.{List, [], _∷_, _++_}
 use Prim.Native.Nat.{ℕ, zero, suc}
 use lib.Dec.{leb}
 use lib.ListN.{length}
 use Rattle.integers.specs.Refusals.{Answer, accepted, refused, codeOf}
 use Rattle.network.specs.Threshold.{Net}
 use Rattle.format.specs.Format.{fileBytes}
-use Rattle.folding.specs.Sweep.{Swept}
-use Rattle.folding.specs.Calls.{answer, leaves, calls}
+use Rattle.folding.specs.Calls.{Given, noFigures, answer, leaves, calls}
+use Rattle.folding.specs.declared.Figures.{Figures}
 use Rattle.folding.specs.declared.Call.{Call}
-use Rattle.folding.specs.declared.Call.the-variants.{Merge, Drop, Collapse, Sweep}
+use Rattle.folding.specs.declared.Call.the-variants.{Merge, Drop, Collapse, Sweep, Preview}
 
--- the call of a kind from 0 to 3 and four numbers
+-- the call of a kind from 0 to 4 and four numbers
 unfoldable pub callOf : ℕ → ℕ → ℕ → ℕ → ℕ → Call
 callOf zero u v k l = Merge u v k l
 callOf (suc zero) s v k l = Drop s
 callOf (suc (suc zero)) s v k l = Collapse s
-callOf (suc (suc (suc n))) b v k l = Sweep b
+callOf (suc (suc (suc zero))) b v k l = Sweep b
+callOf (suc (suc (suc (suc n)))) s v k l = Preview s
 
--- "the length of `calls` is no multiple of 5 or a kind is above 3" does not apply
+-- "the length of `calls` is no multiple of 5 or a kind is above 4" does not apply
 unfoldable pub wellFormed : List ℕ → Bool
 wellFormed [] = true
 wellFormed (a ∷ []) = false
 wellFormed (a ∷ b ∷ []) = false
 wellFormed (a ∷ b ∷ c ∷ []) = false
 wellFormed (a ∷ b ∷ c ∷ d ∷ []) = false
-wellFormed (kind ∷ a ∷ b ∷ c ∷ d ∷ ns) = leb kind 3 && wellFormed ns
+wellFormed (kind ∷ a ∷ b ∷ c ∷ d ∷ ns) = leb kind 4 && wellFormed ns
 
 unfoldable pub callsIn : List ℕ → List Call
 callsIn [] = []
@@ -37,15 +38,18 @@ callsIn (a ∷ b ∷ c ∷ []) = []
 callsIn (a ∷ b ∷ c ∷ d ∷ []) = []
 callsIn (kind ∷ a ∷ b ∷ c ∷ d ∷ ns) = callOf kind a b c d ∷ callsIn ns
 
--- the number of collapses of a sweep, 0 for every other call
-unfoldable pub collapsesOf : Answer Swept → ℕ
-collapsesOf (accepted s) = s .collapses
-collapsesOf (refused c) = 0
+-- the three numbers of a call, 0 where it is refused
+unfoldable pub figuresIn : Answer Given → Figures
+figuresIn (accepted g) = g .figures
+figuresIn (refused c) = noFigures
 
--- "then code and collapses for each call"
+-- "four numbers for each call": its code and its three numbers
+abbrev pub fourOf : ℕ → Figures → List ℕ
+fourOf code f = code ∷ f .first ∷ f .second ∷ f .third ∷ []
+
 unfoldable pub answersOf : Net → List Call → List ℕ
 answersOf N [] = []
-answersOf N (c ∷ cs) = codeOf (answer N c) ∷ collapsesOf (answer N c) ∷ answersOf (leaves N (answer N c)) cs
+answersOf N (c ∷ cs) = fourOf (codeOf (answer N c)) (figuresIn (answer N c)) ++ answersOf (leaves N (answer N c)) cs
 
 -- what a run leaves: the file of the network after the list, and the numbers of `answers`
 pub record Ran : Type 0 where

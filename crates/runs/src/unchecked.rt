@@ -1,22 +1,23 @@
 // A list of calls, given as numbers, five to a call, run on the record of a sound network.
 use folding::Call;
+use folding::Figures;
 use format::LONGEST_FILE;
+use lists::CallAnswer;
 use network::Network;
-use sweeping::Outcome;
 ghost use mathlib.Core.Path.{_≡_};
 ghost use mathlib.Core.Bool.{true};
 ghost use Prim.Native.Nat.{_+_, _*_, _≤_};
 ghost use lib.Dec.{leb};
 ghost use lib.ListN.{length};
-ghost use lib.Seq.{paste};
+ghost use lib.Seq.{sets, paste};
 ghost use Rattle.network.specs.Record.{netOf, layout};
 ghost use Rattle.network.specs.Places.{Holds};
 ghost use Rattle.format.specs.Format.{fileBytes};
 ghost use Rattle.folding.specs.Calls.{answer, calls};
-ghost use Rattle.runs.specs.Runs.{wellFormed, callsIn, answersOf};
+ghost use Rattle.runs.specs.Runs.{wellFormed, callsIn, fourOf, answersOf};
 ghost use Rattle.runs.specs.Running.{Stepped, callAt};
 
-// Whether every call has five numbers and a kind from 0 to 3.
+// Whether every call has five numbers and a kind from 0 to 4.
 pub fn is_well_formed(numbers: &[u64]) -> bool
     ensures { λ r. ⌜ r ≡ wellFormed (now (numbers .entry)) ⌝ }
 {
@@ -25,7 +26,7 @@ pub fn is_well_formed(numbers: &[u64]) -> bool
         if numbers.len() - at < 5 {
             return false;
         }
-        if numbers[at] > 3 {
+        if numbers[at] > 4 {
             return false;
         }
         at += 5;
@@ -53,17 +54,18 @@ fn call_at(numbers: &[u64], i: usize) -> Call
         },
         1 => Call::Drop { s: a as usize },
         2 => Call::Collapse { s: a as usize },
-        _ => Call::Sweep { b: a as usize },
+        3 => Call::Sweep { b: a as usize },
+        _ => Call::Preview { s: a as usize },
     }
 }
 
 // Call i on a record.
-fn step(network: Network, numbers: &[u64], i: usize) -> Outcome
+fn step(network: Network, numbers: &[u64], i: usize) -> CallAnswer
     requires { ⌜ Holds network ⌝ }
     requires { ⌜ 5 * i + 5 ≤ length (now numbers) ⌝ }
     ensures { λ r. ⌜ Stepped (netOf network) (answer (netOf network) (callAt (now (numbers .entry)) i)) r ⌝ }
 {
-    sweeping::apply(network, call_at(numbers, i))
+    lists::apply(network, call_at(numbers, i))
 }
 
 // The record after the whole list.
@@ -74,8 +76,8 @@ fn run(network: Network, numbers: &[u64]) -> Network
 {
     let mut after = network;
     for i in 0..numbers.len() / 5 {
-        let outcome = step(after, numbers, i);
-        after = outcome.network;
+        let answer = step(after, numbers, i);
+        after = answer.network;
     }
     after
 }
@@ -103,20 +105,31 @@ pub fn has_room(network: Network, numbers: &[u64], room: usize) -> bool
     file_length(after) <= room
 }
 
-// The record after the whole list, with each call's code and collapses in the places from 1 on.
+// A call's code and its three numbers, put into four places from one on.
+fn put_four(answers: &mut [u64], at: usize, code: u8, figures: Figures)
+    requires { ⌜ at + 4 ≤ length (now answers) ⌝ }
+    ensures { λ _. ⌜ now (answers .exit) ≡ sets (now (answers .entry)) at (fourOf code figures) ⌝ }
+{
+    answers[at] = code as u64;
+    answers[at + 1] = figures.first;
+    answers[at + 2] = figures.second;
+    answers[at + 3] = figures.third;
+}
+
+// The record after the whole list, with each call's code and three numbers in the places from 1 on.
 pub fn run_storing(network: Network, numbers: &[u64], answers: &mut [u64]) -> Network
     requires { ⌜ Holds network ⌝ }
     requires { ⌜ wellFormed (now numbers) ≡ true ⌝ }
-    requires { ⌜ 1 + 2 * length (callsIn (now numbers)) ≤ length (now answers) ⌝ }
+    requires { ⌜ 1 + 4 * length (callsIn (now numbers)) ≤ length (now answers) ⌝ }
     ensures { λ r. ⌜ r ≡ layout (calls (netOf network) (callsIn (now (numbers .entry)))) ⌝ }
-    ensures { λ _. ⌜ now (answers .exit) ≡ paste (now (answers .entry)) 1 (answersOf (netOf network) (callsIn (now (numbers .entry)))) (2 * length (callsIn (now (numbers .entry)))) ⌝ }
+    ensures { λ _. ⌜ now (answers .exit) ≡ paste (now (answers .entry)) 1 (answersOf (netOf network) (callsIn (now (numbers .entry)))) (4 * length (callsIn (now (numbers .entry)))) ⌝ }
 {
     let mut after = network;
     for i in 0..numbers.len() / 5 {
-        let outcome = step(after, numbers, i);
-        answers[1 + 2 * i] = outcome.code as u64;
-        answers[2 + 2 * i] = outcome.collapses as u64;
-        after = outcome.network;
+        let answer = step(after, numbers, i);
+        let figures = answer.figures;
+        put_four(answers, 1 + 4 * i, answer.code, figures);
+        after = answer.network;
     }
     after
 }

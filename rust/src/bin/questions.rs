@@ -29,7 +29,7 @@ fn differ(first: &Net, second: &Net) -> bool {
 
 /// The network after a sweep by the library.
 fn swept(file: &[u8]) -> Vec<u8> {
-    let mut answers = [0u64; 3];
+    let mut answers = [0u64; 5];
     let mut out = vec![0u8; LONGEST_FILE];
     assert_eq!(run(file, &[3, 128, 0, 0, 0], &mut answers, &mut out), 0);
     out.truncate(answers[0] as usize);

@@ -1,7 +1,7 @@
 -- A call on the record of a sound network is the call on the network.
 use borrow.Author.Needs.{needs}
 use mathlib.Core.Path.{ap, _∙_}
-use Rattle.sweeping.specs.Answers.{applied}
+use Rattle.lists.specs.Answers.{applied}
 use Rattle.runs.specs.RunLaws.{step-done}
 use Rattle.runs.proofs.unchecked.step.Statement.{statement}
 use Rattle.runs.proofs.unchecked.step.Tie as tie

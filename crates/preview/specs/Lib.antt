@@ -1,0 +1,4 @@
+pub mod Preview
+pub mod Files
+pub mod PreviewLaws
+pub mod FileLaws
