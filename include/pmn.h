@@ -35,6 +35,12 @@ uint8_t pmn_pair(const uint8_t *file, size_t file_length, uint64_t u, uint64_t v
 uint8_t pmn_report(const uint8_t *file, size_t file_length,
                    uint64_t *answer, size_t answer_length);
 
+/* What a collapse of the gate with a signal would give, without doing it: the size of the network that it would leave. answer[0]: gates;
+ * answer[1]: cost; answer[2]: levels. A gate without readers would be dropped.
+ * Codes in order: as read, 18 where answer has under 3 places, then the collapse's: 11, 17, the first refusing reader's 7 or 16. */
+uint8_t pmn_preview(const uint8_t *file, size_t file_length, uint64_t signal,
+                    uint64_t *answer, size_t answer_length);
+
 /* Writes the file anew at the front of out. answer[0]: its length.
  * Codes in order: as read, 18 where answer has no place, 18 where the file is longer than out. */
 uint8_t pmn_write(const uint8_t *file, size_t file_length,
@@ -61,11 +67,13 @@ uint8_t pmn_line(const uint8_t *first, size_t first_length,
  *     1, s            drop of s
  *     2, s            collapse of s
  *     3, B            sweep with reader limit B
+ *     4, s            preview of the collapse of s, which leaves the network as it was
  * Each call gets the network that the call before it left; a refused call leaves it as it was, and the list goes on.
- * answers[0]: the length of the file in out. Then two numbers for each call: its code, 0 where it is accepted, and the number of
- * collapses of a sweep, 0 for every other call.
- * Codes in order: as read, 14 where calls_length is no multiple of 5 or a kind is above 3, 18 where answers has fewer places than
- * 1 and 2 for each call, or out is shorter than the file. With 10,904 bytes or more in out, which hold any file, the list is run
+ * answers[0]: the length of the file in out. Then four numbers for each call: its code, 0 where it is accepted, and three numbers: of a
+ * sweep the number of collapses, 0 and 0; of a preview gates, cost and levels after the collapse; of every other call, and where the code
+ * is not 0, 0, 0 and 0.
+ * Codes in order: as read, 14 where calls_length is no multiple of 5 or a kind is above 4, 18 where answers has fewer places than
+ * 1 and 4 for each call, or out is shorter than the file. With 10,904 bytes or more in out, which hold any file, the list is run
  * once; with fewer it is run twice. */
 uint8_t pmn_run(const uint8_t *file, size_t file_length,
                 const uint64_t *calls, size_t calls_length,

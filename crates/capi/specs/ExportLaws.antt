@@ -8,14 +8,13 @@ use native.Mathlib.Omega.{arith}
 use borrow.Author.Tests.{le-leb, lt-leb}
 use lib.Dec.{leb}
 use lib.ListN.{length, drop}
-use Rattle.integers.specs.Refusals.{Answer, accepted, refused, Test, _else_, checks, bind, codeOf, stored}
+use Rattle.integers.specs.Refusals.{Answer, accepted, refused, _else_, checks, bind, codeOf, stored}
 use Rattle.integers.specs.RefusalLaws.{checks-first, checks-next, checks-none}
-use Rattle.integers.specs.TestLaws.{is-true}
 use Rattle.network.specs.Threshold.{Net, frame, fitsFrame, outputBits, wordOf, onesOf}
 use Rattle.network.specs.Limits.{isGate, sound}
 use Rattle.network.specs.Sound.{Sound}
-use Rattle.network.specs.Record.{netOf, layout, soundRecord}
-use Rattle.network.specs.RecordLaws.{netOf-layout, sound-layout}
+use Rattle.network.specs.Record.{netOf, layout}
+use Rattle.network.specs.RecordLaws.{netOf-layout}
 use Rattle.evaluation.specs.Reading.{frameAnswer, asReading, reading}
 use Rattle.network.specs.Changes.{gateAt}
 use Rattle.network.specs.declared.Network.{Network}

@@ -28,7 +28,8 @@ pub refused-one : {a : Answer (List ℕ)} {k : ℕ} (lent : List ℕ) → a ≡ 
 unfolding codeOf stored
 refused-one lent e = left-one e lent []
 
-pub refused-two : {a : Answer (List ℕ)} {k : ℕ} (out lent : List ℕ) → a ≡ refused k → (k ≡ codeOf a) × ((out ≡ stored a out) × (lent ≡ stored (lengthOf a) lent))
+pub refused-two : {a : Answer (List ℕ)} {k : ℕ} (out lent : List ℕ) → a ≡ refused k
+    → (k ≡ codeOf a) × ((out ≡ stored a out) × (lent ≡ stored (lengthOf a) lent))
 unfolding codeOf stored lengthOf
 refused-two out lent e = left-two e lent out
 
@@ -46,12 +47,14 @@ module _ (k : ℕ) (xs lent : List ℕ) where
 
   pub put-places : k ≡ 0 → length xs ≤ length lent → sets lent 0 xs ≡ stored (answerOf k xs) lent
   unfolding stored answerOf
-  put-places e h = sets-eq xs lent 0 (omega arith) ∙ ap (λ (n : ℕ). xs ++ drop n lent) (zero-add (length xs)) ∙ sym (ap (λ (n : ℕ). stored (answerOf n xs) lent) e)
+  put-places e h = sets-eq xs lent 0 (omega arith) ∙ ap (λ (n : ℕ). xs ++ drop n lent) (zero-add (length xs))
+      ∙ sym (ap (λ (n : ℕ). stored (answerOf n xs) lent) e)
 
   pub keep-places : (k ≡ 0 → ⊥) → lent ≡ stored (answerOf k xs) lent
   unfolding stored answerOf
   keep-places h = elim k as (λ n. (n ≡ 0 → ⊥) → lent ≡ stored (answerOf n xs) lent) [ zero ↦ λ z. absurd (z refl) | suc n ↦ λ z. refl ] h
 
   -- the function's answer, where it is that of the call
-  pub placed : {a : Answer (List ℕ)} {r : ℕ} {after : List ℕ} → a ≡ answerOf k xs → (r ≡ k) × (after ≡ stored (answerOf k xs) lent) → (r ≡ codeOf a) × (after ≡ stored a lent)
+  pub placed : {a : Answer (List ℕ)} {r : ℕ} {after : List ℕ} → a ≡ answerOf k xs → (r ≡ k) × (after ≡ stored (answerOf k xs) lent)
+      → (r ≡ codeOf a) × (after ≡ stored a lent)
   placed e h = let l = left-one e lent [] in (h .0 ∙ code-of ∙ l .0, h .1 ∙ l .1)

@@ -22,7 +22,7 @@ use Rattle.format.specs.LengthLaws.{longest}
 use Rattle.pmn_writer.specs.Answers.{asWritten, written}
 use Rattle.pmn_writer.specs.WriteAnswerLaws.{write-whole}
 use Rattle.pmn_writer.specs.declared.Written.{Written}
-use Rattle.folding.specs.Calls.{Given, noFigures, answer, leaves, calls}
+use Rattle.folding.specs.Calls.{Given, answer, leaves, calls}
 use Rattle.folding.specs.GuaranteeLaws.{calls-kept, step-sound}
 use Rattle.folding.specs.declared.Call.{Call}
 use Rattle.folding.specs.declared.Call.the-variants.{Preview}
@@ -73,7 +73,8 @@ unfolding callsIn
 calls-next ns i h =
     let at = 5 * i in
     five (λ l. callsIn l ≡ callAt l 0 ∷ callsIn (drop 5 l)) (λ a b c d e l. refl) (drop at ns) (five-left ns at h)
-    ∙ (λ x. callOf (first-left ns at h x) (getD-drop at ns 1 0 x) (getD-drop at ns 2 0 x) (getD-drop at ns 3 0 x) (getD-drop at ns 4 0 x) ∷ callsIn (drop-drop 5 at ns x))
+    ∙ (λ x. callOf (first-left ns at h x) (getD-drop at ns 1 0 x) (getD-drop at ns 2 0 x) (getD-drop at ns 3 0 x) (getD-drop at ns 4 0 x)
+    ∷ callsIn (drop-drop 5 at ns x))
     ∙ ap (λ (k : ℕ). callAt ns i ∷ callsIn (drop k ns)) {x = 5 * i + 5} {y = 5 * (i + 1)} (omega arith)
 
 -- how many calls there are
@@ -113,7 +114,8 @@ step-done r h c e =
     subst (Stepped (netOf r) a) (sym (e ∙ same)) (step-by r a (ap (λ (x : CallAnswer). x .network) (sym same) ∙ call-record r c h))
 
 -- what is left of the list after call i
-module _ (r : Network) (h : Holds r) (ns : List ℕ) (i : ℕ) (l : 5 * i + 5 ≤ length ns) (o : CallAnswer) (s : Stepped (netOf r) (answer (netOf r) (callAt ns i)) o) where
+module _ (r : Network) (h : Holds r) (ns : List ℕ) (i : ℕ) (l : 5 * i + 5 ≤ length ns) (o : CallAnswer)
+    (s : Stepped (netOf r) (answer (netOf r) (callAt ns i)) o) where
   next : Net
   next = leaves (netOf r) (answer (netOf r) (callAt ns i))
 
@@ -133,7 +135,8 @@ module _ (r : Network) (h : Holds r) (ns : List ℕ) (i : ℕ) (l : 5 * i + 5 �
   unfolding next calls
   next-calls = ap (λ (N : Net). calls N (callsIn (drop (5 * (i + 1)) ns))) next-net ∙ sym (ap (calls (netOf r)) (calls-next ns i l))
 
-  pub next-answers : answersOf (netOf r) (callsIn (drop (5 * i) ns)) ≡ fourOf (o .code) (o .figures) ++ answersOf (netOf (o .network)) (callsIn (drop (5 * (i + 1)) ns))
+  pub next-answers : answersOf (netOf r) (callsIn (drop (5 * i) ns))
+      ≡ fourOf (o .code) (o .figures) ++ answersOf (netOf (o .network)) (callsIn (drop (5 * (i + 1)) ns))
   unfolding next answersOf
   next-answers =
       ap (answersOf (netOf r)) (calls-next ns i l)

@@ -1,5 +1,5 @@
 -- Each call by itself, with its three numbers; a preview leaves the record as it was. Assumes nothing.
-use mathlib.Core.Path.{_≡_, sym, ap, _∙_}
+use mathlib.Core.Path.{sym, ap, _∙_}
 use borrow.Author.Needs.{needs}
 use Rattle.network.specs.RecordLaws.{Shaped}
 use Rattle.folding.specs.Merge.{merge}
@@ -72,21 +72,24 @@ unfolding droppedRecord applied answer
 returns-2 c =
     let a = c .before .before .before .before .before .args in
     let g = c .before .before .before .call2 .given in
-    c .plain2 .ensures ∙ ap withPlain (c .before .drop-gate .ensures) ∙ call-plain (a .network) (λ N. drop N (g .0 .0)) ∙ sym (ap (applied (a .network)) (g .1))
+    c .plain2 .ensures ∙ ap withPlain (c .before .drop-gate .ensures)
+    ∙ call-plain (a .network) (λ N. drop N (g .0 .0)) ∙ sym (ap (applied (a .network)) (g .1))
 
 returns-3 : tie.Need-returns-3
 unfolding collapsedRecord applied answer
 returns-3 c =
     let a = c .before .before .before .before .before .args in
     let g = c .before .before .before .call3 .given in
-    c .plain3 .ensures ∙ ap withPlain (c .before .collapse .ensures) ∙ call-plain (a .network) (λ N. collapse N (g .0 .0)) ∙ sym (ap (applied (a .network)) (g .1))
+    c .plain3 .ensures ∙ ap withPlain (c .before .collapse .ensures)
+    ∙ call-plain (a .network) (λ N. collapse N (g .0 .0)) ∙ sym (ap (applied (a .network)) (g .1))
 
 returns-4 : tie.Need-returns-4
 unfolding sweptRecord applied answer
 returns-4 c =
     let a = c .before .before .before .before .before .args in
     let g = c .before .before .before .call4 .given in
-    c .counted .ensures ∙ ap withCount (c .before .sweep .ensures) ∙ call-counted (a .network) (λ N. sweep N (g .0 .0)) ∙ sym (ap (applied (a .network)) (g .1))
+    c .counted .ensures ∙ ap withCount (c .before .sweep .ensures)
+    ∙ call-counted (a .network) (λ N. sweep N (g .0 .0)) ∙ sym (ap (applied (a .network)) (g .1))
 
 -- a record's arrays have their lengths
 shaped : (c : tie.Start) → Shaped (c .args .network)

@@ -1,12 +1,10 @@
 -- A refused collapse is the answer; the report of the record that an accepted one leaves is the preview. Assumes nothing.
 use borrow.Author.Needs.{needs}
-use mathlib.Core.Path.{_≡_, sym, ap, _∙_}
+use mathlib.Core.Path.{sym, ap, _∙_}
 use Prim.Native.Nat.{ℕ}
 use Rattle.network.specs.Record.{soundRecord}
 use Rattle.report.specs.Size.{reported}
-use Rattle.report.specs.declared.SizeReport.{SizeReport}
 use Rattle.merging.specs.declared.Changed.{Changed}
-use Rattle.collapse.specs.Answers.{collapsedRecord}
 use Rattle.preview.specs.PreviewLaws.{Collapsed, collapsed, not-collapsed}
 use Rattle.preview.proofs.preview.Statement.{statement}
 use Rattle.preview.proofs.preview.Tie as tie

@@ -75,7 +75,8 @@ returns-5 c =
     let ns = a .numbers .now in
     let at = 5 * a .i in
     let k = c .match .rest in
-    sym (preview-call (getD ns at 0) (getD ns (at + 1) 0) (getD ns (at + 2) 0) (getD ns (at + 3) 0) (getD ns (at + 4) 0) (k .0 .0 .0 .1) (k .0 .0 .1) (k .0 .1) (k .1))
+    sym (preview-call (getD ns at 0) (getD ns (at + 1) 0) (getD ns (at + 2) 0) (getD ns (at + 3) 0) (getD ns (at + 4) 0)
+    (k .0 .0 .0 .1) (k .0 .0 .1) (k .0 .1) (k .1))
 
 pub call-at-spec : {M : Type 1} → statement M
 call-at-spec =

@@ -2,8 +2,7 @@
 -- stored.
 use borrow.Author.Needs.{needs}
 use mathlib.Core.Path.{subst, sym}
-use mathlib.Core.List.{List}
-use Prim.Native.Nat.{ℕ, _+_, _*_, _-_, _/_, _<_, _≤_, zero-le}
+use Prim.Native.Nat.{_+_, _*_, _-_, _/_, _<_, _≤_, zero-le}
 use native.Mathlib.Omega.{arith}
 use lib.ListN.{length}
 use Rattle.runs.specs.RunLaws.{count-calls}
@@ -12,7 +11,8 @@ use Rattle.runs.proofs.unchecked.run_storing.Statement.{statement}
 use Rattle.runs.proofs.unchecked.run_storing.Tie as tie
 
 abbrev Inv-loop : tie.InvT-loop
-Inv-loop numbers answers₀ after₀ i₀ i-end answers after i = (i ≤ length numbers / 5) × Reached after₀ numbers i after × Answered after₀ numbers i after answers₀ answers
+Inv-loop numbers answers₀ after₀ i₀ i-end answers after i =
+    (i ≤ length numbers / 5) × Reached after₀ numbers i after × Answered after₀ numbers i after answers₀ answers
 
 abbrev μ-loop : tie.MeasureT-loop
 μ-loop numbers answers₀ after₀ i₀ i-end answers after i = length numbers / 5 - i
