@@ -6,7 +6,8 @@
  * no other slice of the same call. A pointer is not null, even where the length is 0.
  *
  * Every function reads its file first: the refusal is the read's ("as read", 1 to 9), before any other. On a refusal everything that was
- * lent is left as it was; where the answer is 0, places and bytes after those named are left as they were. */
+ * lent is left as it was; where the answer is 0, places and bytes after those named are left as they were. pmn_witness alone writes where
+ * its answer is not 0: with 15, and only then. */
 #ifndef PMN_H
 #define PMN_H
 
@@ -29,6 +30,20 @@ uint8_t pmn_frame(const uint8_t *file, size_t file_length, uint64_t frame,
  * Codes in order: as read, 18 where answer has under 2 places, 11, 12, 7, 16. */
 uint8_t pmn_pair(const uint8_t *file, size_t file_length, uint64_t u, uint64_t v,
                  uint64_t *answer, size_t answer_length);
+
+/* Why the merge of u into v with k and l disagrees: a setting of the distinct feeds (u's feeds and v's other ones) on which the merged gate
+ * and v with u put in differ, with as few of them lit as any such setting has. Nothing is merged. The answer is the merge's own number,
+ * 0 where it would be accepted. Only where it is 15 answer[0] is written: the setting, bit i for the distinct feed i, counted from 0 in
+ * rising order; pmn_distinct says which signals these are. With every other number answer is left as it was.
+ * Codes in order: as read, 18 where answer has no place, 11, 12, 14, 7, 6, 15. */
+uint8_t pmn_witness(const uint8_t *file, size_t file_length, uint64_t u, uint64_t v, uint64_t k, uint64_t l,
+                    uint64_t *answer, size_t answer_length);
+
+/* The distinct feeds of the gates with signals u and v. answer[0]: how many they are; from answer[1] on: their signals, rising, distinct
+ * feed i in answer[1 + i].
+ * Codes in order: as read, 18 where answer has under 17 places, 11, 12, 7. */
+uint8_t pmn_distinct(const uint8_t *file, size_t file_length, uint64_t u, uint64_t v,
+                     uint64_t *answer, size_t answer_length);
 
 /* The size of the network. answer[0]: gates; answer[1]: cost; answer[2]: levels, where a gate without feeds has level 0.
  * Codes in order: as read, 18 where answer has under 3 places. */

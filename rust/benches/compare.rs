@@ -7,8 +7,8 @@ use std::time::{Duration, Instant};
 use yovrenik_tests as library;
 use yovrenik_tests::exact;
 use yovrenik_tests::generate::{
-    folding_chain, full_folding, full_standing, largest, last_setting_only, mirrored, mixed_chain, most_passes, ratio_31_32, standing_chain,
-    Random,
+    folding_chain, full_folding, full_standing, largest, last_setting_only, lit_from, mirrored, mixed_chain, most_passes, ratio_31_32,
+    standing_chain, Random,
 };
 use yovrenik_tests::reference::{self, Net};
 
@@ -196,6 +196,30 @@ fn sweep_row(name: &str, net: &Net, folds: u64, all: bool) {
     search_row(name, ours, swept_by(exact::pair), swept_by(exact::pair_by_halves), all.then(|| swept_by(reference::pair)));
 }
 
+/// The row of the witness of a merge with 1 and 1 of two gates with 16 distinct feeds: the times of the merge, with the read and the write,
+/// and of its witness, with the read, and how many times a merge that agrees, which tries every setting, the witness takes.
+fn witness_row(name: &str, net: &Net, want: u8) {
+    let (file, agreeing) = (reference::write(net), reference::write(&lit_from(17)));
+    let call = [0, 16, 17, 1, 1];
+    let run = |file: &[u8], answers: &mut [u64], out: &mut [u8]| assert_eq!(library::run(black_box(file), &call, answers, out), 0);
+    let (mut answers, mut out, mut answer) = ([0u64; 5], vec![0u8; library::LONGEST_FILE], [0u64; 1]);
+    let (mut answers_too, mut out_too) = (answers, out.clone());
+    let [merge, witness, whole] = times([
+        &mut || run(&file, &mut answers, &mut out),
+        &mut || assert_eq!(library::witness(black_box(&file), 16, 17, 1, 1, &mut answer), want),
+        &mut || run(&agreeing, &mut answers_too, &mut out_too),
+    ]);
+    assert_eq!((answers[1], answers_too[1]), (want as u64, 0));
+    println!("| {name} | {} | {} | {} |", text(merge), text(witness), ratio(whole, witness));
+}
+
+fn witness_rows() {
+    witness_row("the merge agrees", &lit_from(17), 0);
+    for least in [16, 14, 13, 12, 11, 10, 8, 6, 4, 2, 1] {
+        witness_row(&format!("the two differ where {least} or more are lit"), &lit_from(least), 15);
+    }
+}
+
 fn sweep_rows() {
     sweep_row("sweep of a full network, nothing folds", &full_standing(&mut Random::new(5)), 0, true);
     sweep_row("sweep of a full network that folds into one gate", &full_folding(), 127, true);
@@ -227,6 +251,7 @@ fn table(head: &str, kinds: &[(&str, fn())]) {
 
 fn main() {
     table("| on | library | independent | ratio |", &[("file", file_rows), ("preview", preview_rows)]);
+    table("| witness, 16 distinct feeds | merge | witness | to a merge that agrees |", &[("witness", witness_rows)]);
     let head = "| on | library | exact method | ratio | the same by halves | ratio | plain search | ratio |";
     table(head, &[("pair", pair_rows), ("sweep", sweep_rows)]);
 }

@@ -292,6 +292,14 @@ pub fn last_setting_only(n: usize) -> Net {
     Net { inputs: n, gates: vec![u, v], outputs: vec![n + 1] }
 }
 
+/// Two gates with 16 distinct feeds whose merge with 1 and 1 differs where `least` of them or more are lit: u is 1 where one fewer is, and
+/// v never is; it agrees where `least` is 17.
+pub fn lit_from(least: u32) -> Net {
+    let u = Gate { feeds: (0..16).map(|s| (s, 1)).collect(), threshold: least as i64 - 1 };
+    let v = Gate { feeds: vec![(16, 1)], threshold: 2 };
+    Net { inputs: 16, gates: vec![u, v], outputs: vec![17] }
+}
+
 /// Two gates by the weights of each on 16 inputs, 0 for none: the second has the threshold `off` and counts the first with `off - on`.
 fn two_gates(us: [i64; 16], vs: [i64; 16], own: i64, on: i64, off: i64) -> Net {
     let feeds = |weights: [i64; 16]| (0..16).map(|s| (s, weights[s])).filter(|f| f.1 != 0).collect::<Vec<_>>();

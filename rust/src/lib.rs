@@ -11,6 +11,17 @@ mod raw {
         pub fn pmn_check(file: *const u8, file_length: usize) -> u8;
         pub fn pmn_frame(file: *const u8, file_length: usize, frame: u64, answer: *mut u64, answer_length: usize) -> u8;
         pub fn pmn_pair(file: *const u8, file_length: usize, u: u64, v: u64, answer: *mut u64, answer_length: usize) -> u8;
+        pub fn pmn_witness(
+            file: *const u8,
+            file_length: usize,
+            u: u64,
+            v: u64,
+            k: u64,
+            l: u64,
+            answer: *mut u64,
+            answer_length: usize,
+        ) -> u8;
+        pub fn pmn_distinct(file: *const u8, file_length: usize, u: u64, v: u64, answer: *mut u64, answer_length: usize) -> u8;
         pub fn pmn_report(file: *const u8, file_length: usize, answer: *mut u64, answer_length: usize) -> u8;
         pub fn pmn_preview(file: *const u8, file_length: usize, signal: u64, answer: *mut u64, answer_length: usize) -> u8;
         pub fn pmn_run(
@@ -57,6 +68,14 @@ pub fn frame(file: &[u8], frame: u64, answer: &mut [u64]) -> u8 {
 
 pub fn pair(file: &[u8], u: u64, v: u64, answer: &mut [u64]) -> u8 {
     unsafe { raw::pmn_pair(file.as_ptr(), file.len(), u, v, answer.as_mut_ptr(), answer.len()) }
+}
+
+pub fn witness(file: &[u8], u: u64, v: u64, k: u64, l: u64, answer: &mut [u64]) -> u8 {
+    unsafe { raw::pmn_witness(file.as_ptr(), file.len(), u, v, k, l, answer.as_mut_ptr(), answer.len()) }
+}
+
+pub fn distinct(file: &[u8], u: u64, v: u64, answer: &mut [u64]) -> u8 {
+    unsafe { raw::pmn_distinct(file.as_ptr(), file.len(), u, v, answer.as_mut_ptr(), answer.len()) }
 }
 
 pub fn report(file: &[u8], answer: &mut [u64]) -> u8 {

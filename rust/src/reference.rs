@@ -209,12 +209,15 @@ fn merged(e: &Edge, k: i64, l: i64) -> Answer<Gate> {
     Ok(Gate { feeds, threshold })
 }
 
+/// Whether the merged gate and the composed pair have the same bit on a setting.
+fn agrees_on(e: &Edge, gate: &Gate, setting: u64) -> bool {
+    let value = |s: usize| setting >> e.distinct.binary_search(&s).unwrap() & 1 == 1;
+    let bit_u = e.gate_u.bit(value);
+    gate.bit(value) == e.gate_v.bit(|s| if s == e.u { bit_u } else { value(s) })
+}
+
 fn agrees(e: &Edge, gate: &Gate) -> bool {
-    (0..1u32 << e.distinct.len()).all(|setting| {
-        let value = |s: usize| setting >> e.distinct.binary_search(&s).unwrap() & 1 == 1;
-        let bit_u = e.gate_u.bit(value);
-        gate.bit(value) == e.gate_v.bit(|s| if s == e.u { bit_u } else { value(s) })
-    })
+    (0..1 << e.distinct.len()).all(|setting| agrees_on(e, gate, setting))
 }
 
 fn with_gate(net: &Net, v: usize, gate: Gate) -> Net {
@@ -236,6 +239,31 @@ pub fn merge(net: &Net, u: u64, v: u64, k: u64, l: u64) -> Answer<Net> {
         return Err(15);
     }
     Ok(with_gate(net, v as usize, gate))
+}
+
+/// The distinct feeds of u and v, rising.
+pub fn distinct(net: &Net, u: u64, v: u64) -> Answer<Vec<usize>> {
+    let e = edge(net, u, v)?;
+    if e.distinct.len() > 16 {
+        return Err(7);
+    }
+    Ok(e.distinct)
+}
+
+/// Every setting that a witness of a merge may have: where it is refused with 15, those on which the two differ with as few distinct feeds
+/// lit as any such setting has. None where it is accepted; any other number is the refusal.
+pub fn witnesses(net: &Net, u: u64, v: u64, k: u64, l: u64) -> Answer<Vec<u64>> {
+    match merge(net, u, v, k, l) {
+        Ok(_) => return Ok(vec![]),
+        Err(15) => {}
+        Err(code) => return Err(code),
+    }
+    let e = edge(net, u, v)?;
+    let gate = merged(&e, k as i64, l as i64)?;
+    let lit = |setting: u64| (0..e.distinct.len()).filter(|i| setting >> i & 1 == 1).count();
+    let differing: Vec<u64> = (0..1 << e.distinct.len()).filter(|&setting| !agrees_on(&e, &gate, setting)).collect();
+    let fewest = differing.iter().map(|&setting| lit(setting)).min().unwrap();
+    Ok(differing.into_iter().filter(|&setting| lit(setting) == fewest).collect())
 }
 
 pub fn pair(net: &Net, u: u64, v: u64) -> Answer<(u64, u64)> {

@@ -2,7 +2,7 @@
 use std::collections::BTreeMap;
 use yovrenik_tests::exact;
 use yovrenik_tests::generate::{
-    against, chain, damaged, heavy, inverters, mirrored, most_passes, network, ratio_31_32, wide, wide_pair, Random,
+    against, chain, damaged, heavy, inverters, lit_from, mirrored, most_passes, network, ratio_31_32, wide, wide_pair, Random,
 };
 use yovrenik_tests::reference::{self as paper, Net};
 use yovrenik_tests::*;
@@ -707,4 +707,85 @@ fn mirrored_networks() {
     }
     println!("mirrored: {merges} merges and {collapses} collapses");
     assert!(merges >= 6_000 && collapses >= 6_000);
+}
+
+/// The library's witness of one merge, and the distinct feeds of its gates, against the paper: the code, and of a witness how many are lit.
+fn witness_agrees(net: &Net, file: &[u8], call: &[u64; 5]) -> (u8, u32) {
+    let [_, u, v, k, l] = *call;
+    let mut answer = [MARK; 3];
+    let got = witness(file, u, v, k, l, &mut answer);
+    assert_eq!(got, code(&paper::merge(net, u, v, k, l)), "{net:?} {call:?}");
+    let lit = match paper::witnesses(net, u, v, k, l) {
+        Ok(settings) if settings.is_empty() => {
+            assert_eq!((got, answer), (0, [MARK; 3]), "{net:?} {call:?}");
+            0
+        }
+        Ok(settings) => {
+            assert_eq!((got, answer[1], answer[2]), (15, MARK, MARK), "{net:?} {call:?}");
+            assert!(settings.contains(&answer[0]), "{net:?} {call:?}: {} is none of {settings:?}", answer[0]);
+            answer[0].count_ones()
+        }
+        Err(code) => {
+            assert_eq!((got, answer), (code, [MARK; 3]), "{net:?} {call:?}");
+            0
+        }
+    };
+    assert_eq!(witness(file, u, v, k, l, &mut []), 18);
+    let mut places = [MARK; 18];
+    let listed = distinct(file, u, v, &mut places);
+    let mut want = [MARK; 18];
+    if let Ok(signals) = paper::distinct(net, u, v) {
+        want[0] = signals.len() as u64;
+        signals.iter().enumerate().for_each(|(i, &s)| want[1 + i] = s as u64);
+    }
+    assert_eq!((listed, places), (code(&paper::distinct(net, u, v)), want), "{net:?} {call:?}");
+    let mut short = [MARK; 16];
+    assert_eq!((distinct(file, u, v, &mut short), short), (18, [MARK; 16]));
+    (got, lit)
+}
+
+/// Witnesses of random merges and of merges with 16 distinct feeds, each held to all settings with the fewest lit.
+#[test]
+fn witnesses() {
+    let mut r = Random::new(13);
+    let mut codes: BTreeMap<u8, u64> = BTreeMap::new();
+    let (mut none, mut one, mut more) = (0, 0, 0);
+    for round in 0..40_000 {
+        let net = some_network(&mut r, if round % 8 == 0 { 9 } else { 5 });
+        let call = random_call(&mut r, &net);
+        if call[0] != 0 {
+            continue;
+        }
+        let file = paper::write(&net);
+        let (code, lit) = witness_agrees(&net, &file, &call);
+        *codes.entry(code).or_default() += 1;
+        if code == 15 {
+            none += (lit == 0) as u64;
+            one += (lit == 1) as u64;
+            more += (lit > 1) as u64;
+        }
+        let broken = damaged(&mut r, &file);
+        if let Err(code) = paper::read(&broken) {
+            let (mut answer, mut places) = ([MARK; 2], [MARK; 17]);
+            assert_eq!((witness(&broken, call[1], call[2], call[3], call[4], &mut answer), answer), (code, [MARK; 2]));
+            assert_eq!((distinct(&broken, call[1], call[2], &mut places), places), (code, [MARK; 17]));
+        }
+    }
+    println!("witnesses: {codes:?}, {none} with none lit, {one} with one, {more} with more");
+    let (mut wide_ones, mut wide_more) = (0, 0);
+    for _ in 0..600 {
+        let net = wide_pair(&mut r);
+        let (k, l) = match exact::pair(&net, 16, 17) {
+            Ok((k, l)) if r.below(2) == 0 => (k, (l + 32 - r.below(2)).clamp(1, 32)),
+            _ => (1 + r.below(32), 1 + r.below(32)),
+        };
+        let (code, lit) = witness_agrees(&net, &paper::write(&net), &[0, 16, 17, k, l]);
+        wide_ones += (code == 15) as u64;
+        wide_more += (code == 15 && lit > 1) as u64;
+    }
+    println!("with 16 distinct feeds: {wide_ones}, {wide_more} with more than one lit");
+    for least in 1..=17 {
+        let (code, lit) = witness_agrees(&lit_from(least), &paper::write(&lit_from(least)), &[0, 16, 17, 1, 1]);
+        assert_eq!((code, lit), if least == 17 { (0, 0) } else { (15, least) });
+    }
 }

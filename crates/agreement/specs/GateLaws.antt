@@ -1,9 +1,9 @@
 -- Laws of two gates by their distinct feeds: what the tests of the scale and of agreement find, feed by feed and setting by setting, is
 -- the definitions' answer. Assumes nothing.
-use mathlib.Core.Path.{_≡_, refl, sym, _∙_, subst}
+use mathlib.Core.Path.{_≡_, refl, sym, ap₂, _∙_, subst}
 use mathlib.Core.Bool.{Bool, true, false}
 use mathlib.Core.List.{List}
-use Prim.Native.Nat.{ℕ, _^_, _<_}
+use Prim.Native.Nat.{ℕ, _+_, _*_, _^_, _<_}
 use native.Mathlib.Omega.{arith}
 use lib.Dec.{T}
 use lib.IntN.{ℤ, pos}
@@ -18,7 +18,8 @@ use Rattle.alignment.specs.declared.Alignment.{Alignment}
 use Rattle.alignment.specs.Alignments.{alignedIn, Searchable}
 use Rattle.sums.specs.Tables.{Sums, sumFrom}
 use Rattle.sums.specs.SumLaws.{sums-small, sum-from}
-use Rattle.agreement.specs.Agreement.{SumTables}
+use Rattle.agreement.specs.Agreement.{SumTables, reduced}
+use Rattle.agreement.specs.HalfLaws.{Halved, sum-halves, same-reduced}
 
 module _ (a : Alignment) where
   abbrev pub gates : Aligned
@@ -72,3 +73,17 @@ module _ (a : Alignment) where
         let p : ℕ → Bool = λ s. sameBits (a .thresholds) k l (sumFrom tu s) (sumFrom tv s) in
         agreement
         ∙ is-true _ (at-below (2 ^ a .count) (agreesOn gates k l) λ s h. subst T (sym (agrees-is f u v k l s h)) (below-at (2 ^ a .count) p (T-is _ e) s h))
+
+-- ---- what a test says, of a whole setting and of its two halves
+module _ {a : Alignment} {tu tv : List ℤ} (f : Searchable a) (u : Sums (a .us) 256 tu) (v : Sums (a .vs) 256 tv) where
+  pub tested : (k l s : ℕ) {b : Bool} → s < 2 ^ a .count → b ≡ sameBits (a .thresholds) k l (sumFrom tu s) (sumFrom tv s) → b ≡ agreesOn (alignedIn a) k l s
+  tested k l s h t = t ∙ sym (agrees-is a f u v k l s h)
+
+  pub tested-low : (k l lows high low : ℕ) {b : Bool} → Halved (a .count) lows high low
+      → b ≡ sameBits (reduced (a .thresholds) (getD tu (256 + high) (pos 0)) (getD tv (256 + high) (pos 0))) k l (getD tu low (pos 0)) (getD tv low (pos 0))
+      → b ≡ agreesOn (alignedIn a) k l (high * lows + low)
+  tested-low k l lows high low h t =
+      tested k l (high * lows + low) (h .inside)
+      (t
+      ∙ same-reduced (a .thresholds) k l (getD tu (256 + high) (pos 0)) (getD tv (256 + high) (pos 0)) (getD tu low (pos 0)) (getD tv low (pos 0))
+      ∙ sym (ap₂ (sameBits (a .thresholds) k l) (sum-halves tu (a .count) lows high low h) (sum-halves tv (a .count) lows high low h)))

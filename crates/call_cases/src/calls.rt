@@ -3,6 +3,7 @@ use crate::script::Numbers;
 use crate::show::end;
 use crate::show::left;
 use crate::show::number;
+use crate::show::signals;
 use folding::Call;
 use folding::Figures;
 use integers::wide;
@@ -12,6 +13,8 @@ use merging::PairFound;
 use network::Network;
 use report::SizeReport;
 use sweeping::Outcome;
+use witness::DistinctFeeds;
+use witness::Witnessed;
 
 // The answer of a merge, a drop or a collapse.
 fn changed(before: Network, r: Changed) {
@@ -53,6 +56,22 @@ fn found(r: PairFound) {
     end();
 }
 
+// The answer of a witness: the number is the setting.
+fn witnessed(r: Witnessed) {
+    number(wide(r.code));
+    number(r.setting);
+    end();
+}
+
+// The distinct feeds: their number, and the 16 places of their signals.
+fn listed_feeds(r: DistinctFeeds) {
+    number(wide(r.code));
+    number(r.count);
+    let places = r.signals;
+    signals(places);
+    end();
+}
+
 // The call with a first letter and with numbers.
 pub fn call(letter: u8, network: Network, n: Numbers) {
     match letter {
@@ -61,6 +80,8 @@ pub fn call(letter: u8, network: Network, n: Numbers) {
             merging::merge(network, n.first, n.second, n.third, n.fourth),
         ),
         b'p' => found(merging::pair(network, n.first, n.second)),
+        b'w' => witnessed(witness::witness(network, n.first, n.second, n.third, n.fourth)),
+        b'f' => listed_feeds(witness::distinct_feeds(network, n.first, n.second)),
         b'd' => changed(network, collapse::drop_gate(network, n.first)),
         b'c' => changed(network, collapse::collapse(network, n.first)),
         b's' => counted(network, sweeping::sweep(network, n.first)),

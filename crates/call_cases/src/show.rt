@@ -45,6 +45,15 @@ pub fn end() {
     text(b"\n");
 }
 
+// The 16 places of a list of signals.
+pub fn signals(places: [u8; 16]) {
+    let mut i: usize = 0;
+    while i < 16 {
+        number(wide(places[i]));
+        i = i + 1;
+    }
+}
+
 // What a record holds at a place of the feeds: a feed, the fan-in and the threshold of its gate, and an output. There are 16 places to
 // a gate and 128 to an output, so that the 2,048 places reach every number of the arrays.
 struct Held {

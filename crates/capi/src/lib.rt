@@ -2,8 +2,10 @@
 // declarations; a slice is a pointer and then a length.
 ghost use mathlib.Core.Path.{_≡_};
 ghost use Rattle.integers.specs.Refusals.{codeOf, stored};
-ghost use Rattle.opening.specs.Files.{readNet, lengthOf};
+ghost use lib.ListN.{length};
+ghost use Rattle.opening.specs.Files.{readNet, openNet, lengthOf};
 ghost use Rattle.preview.specs.Files.{previewPlaces};
+ghost use Rattle.witness.specs.Files.{WitnessLeft, distinctPlaces};
 ghost use Rattle.capi.specs.Exports.{framePlaces, pairPlaces, reportPlaces, fileOut, partOut, lineOut};
 ghost use Rattle.capi.specs.RunAnswers.{runAnswer, ranFile, ranNumbers};
 
@@ -44,6 +46,24 @@ pub extern "C" fn pmn_pair(file: &[u8], u: u64, v: u64, answer: &mut [u64]) -> u
     }
     let found = merging::pair(loaded.network, u as usize, v as usize);
     opening::unchecked::places::put_two(answer, found.code, found.k as u64, found.l as u64)
+}
+
+// A witness of a merge: the merge's own number; only where it is 15, the setting with the fewest ones that shows it goes into place 0 of
+// the answer.
+#[no_mangle]
+pub extern "C" fn pmn_witness(file: &[u8], u: u64, v: u64, k: u64, l: u64, answer: &mut [u64]) -> u8
+    ensures { λ r. ⌜ WitnessLeft (openNet (now (file .entry)) (length (now (answer .entry))) 1) u v k l (now (answer .entry)) (now (answer .exit)) r ⌝ }
+{
+    witness::files::witness_of_file(file, u, v, k, l, answer)
+}
+
+// The distinct feeds of two gates: their number goes into place 0 of the answer, their signals into the places after it, rising.
+#[no_mangle]
+pub extern "C" fn pmn_distinct(file: &[u8], u: u64, v: u64, answer: &mut [u64]) -> u8
+    ensures { λ r. ⌜ r ≡ codeOf (distinctPlaces (now (file .entry)) u v (now (answer .entry))) ⌝ }
+    ensures { λ _. ⌜ now (answer .exit) ≡ stored (distinctPlaces (now (file .entry)) u v (now (answer .entry))) (now (answer .entry)) ⌝ }
+{
+    witness::files::distinct_of_file(file, u, v, answer)
 }
 
 // The size of the network: gates, cost and levels go into the first three places of the answer.

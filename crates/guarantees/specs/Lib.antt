@@ -8,3 +8,5 @@ pub mod Previews
 pub mod PreviewLaws
 pub mod Thirteen
 pub mod ThirteenLaws
+pub mod Witnesses
+pub mod WitnessLaws

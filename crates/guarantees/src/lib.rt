@@ -10,11 +10,13 @@ ghost use Rattle.pmn.specs.Answers.{loaded};
 ghost use Rattle.folding.specs.Bench.{bench, reply};
 ghost use Rattle.folding.specs.Guarantee.{PairClaim};
 ghost use Rattle.folding.specs.declared.Call.{Call};
+ghost use Rattle.witness.specs.declared.Witnessed.{Witnessed};
 ghost use Rattle.guarantees.specs.Files.{Accepted, SoundIsDescribed, WrittenIsRead, ReadIsWritten};
 ghost use Rattle.guarantees.specs.Questions.{Questions};
 ghost use Rattle.guarantees.specs.Lists.{ListClaim};
 ghost use Rattle.guarantees.specs.Previews.{PreviewClaim};
 ghost use Rattle.guarantees.specs.Thirteen.{NeverThirteen};
+ghost use Rattle.guarantees.specs.Witnesses.{LightsFewest};
 
 // A record is sound exactly when some file's reading gives it.
 pub fn sound_is_described(network: Network)
@@ -63,6 +65,12 @@ pub fn previews_are_reports(network: Network)
 // Document 02, No. 2: no merge, pair, drop, collapse, sweep, preview or call of a list answers 13, on any record and with any numbers.
 pub fn thirteen_is_never_given(network: Network)
     ensures { λ _. ⌜ NeverThirteen network ⌝ }
+{}
+
+// Document 02, No. 9: for every record and any numbers, whatever answer with 15 meets the promise of `witness` lights, counted signal by
+// signal, no more of the distinct signals than any setting on which the merged gate and the composed pair differ.
+pub fn witnesses_light_fewest(network: Network)
+    ensures { λ _. ⌜ ((u v k l : ℕ) (w : Witnessed) → LightsFewest network u v k l w) ⌝ }
 {}
 
 // The bench gates P1 to P11 and the example of document 02, No. 2: what the definitions say is what the papers say.

@@ -3,26 +3,32 @@ use mathlib.Core.Path.{_≡_, refl, sym, ap, _∙_}
 use mathlib.Core.Bool.{Bool, true, false, cond, _&&_}
 use mathlib.Core.List.{List, [], _∷_}
 use Prim.Native.Nat.{ℕ, _≤_}
+use native.Mathlib.Omega.{arith}
 use lib.Dec.{T, leb, leb→le}
 use lib.ListN.{length}
-use Rattle.integers.specs.Refusals.{Answer, Test, _else_, checks}
+use Rattle.integers.specs.Refusals.{Answer, Test, _else_, checks, Passed}
+use Rattle.integers.specs.TestLaws.{T-and}
 use Rattle.network.specs.Limits.{scaleOk}
 use Rattle.network.specs.Record.{gateRecord}
 use Rattle.folding.specs.Merge.{Edge, distinct, merged, agrees, onDial, narrow}
 use Rattle.folding.specs.Pair.{pairs, qualifies, first, pairTests, pairOf}
-use Rattle.folding.specs.Aligned.{Aligned, qualifiesOn}
+use Rattle.folding.specs.Aligned.{Aligned, scaleFits, qualifiesOn}
 use Rattle.folding.specs.AlignedLaws.{EdgeOk, scaleOk-fits, agrees-all, first-on}
 use Rattle.folding.specs.PairLaws.{qualified-of, dial-of}
 use Rattle.folding.specs.StepLaws.{narrow-few}
-use Rattle.alignment.specs.Alignments.{alignmentOf, alignedIn, mergedOf, Mergeable}
+use Rattle.alignment.specs.Alignments.{alignmentOf, alignedIn, mergedOf, Fair, Mergeable}
+use Rattle.alignment.specs.declared.Alignment.{Alignment}
 use Rattle.alignment.specs.AlignmentLaws.{aligned-in, merged-is, mergeable}
-use Rattle.merging.specs.Codes.{firstFailing, mergeTests, fitTests, mergeTestsOn, pairOn}
+use Rattle.merging.specs.Codes.{firstFailing, mergeTests, settingTests, limitTestsOn, mergeTestsOn, pairOn}
+use Rattle.merging.specs.CodeLaws.{code-passed}
 
 module _ (e : Edge) (ok : EdgeOk e) where
   -- 6 and 15, where 7 does not apply
-  fit-is : length (distinct e) ≤ 16 → (k l : ℕ) → fitTests (alignedIn (alignmentOf e)) k l ≡ (scaleOk (merged e k l) else 6) ∷ (agrees e k l else 15) ∷ []
-  unfolding fitTests
-  fit-is few k l = ap (λ (a : Aligned). fitTests a k l) (aligned-in e few) ∙ rw (scaleOk-fits e k l, agrees-all e ok k l)
+  fit-is : length (distinct e) ≤ 16 → (k l : ℕ)
+      → (scaleFits (alignedIn (alignmentOf e)) k l else 6) ∷ settingTests (alignedIn (alignmentOf e)) k l
+      ≡ (scaleOk (merged e k l) else 6) ∷ (agrees e k l else 15) ∷ []
+  unfolding settingTests
+  fit-is few k l = ap (λ (a : Aligned). (scaleFits a k l else 6) ∷ settingTests a k l) (aligned-in e few) ∙ rw (scaleOk-fits e k l, agrees-all e ok k l)
 
   -- the first pair, where 7 does not apply
   first-is : length (distinct e) ≤ 16 → first (qualifiesOn (alignedIn (alignmentOf e))) pairs 16 ≡ first (qualifies e) pairs 16
@@ -40,12 +46,27 @@ module _ (e : Edge) (ok : EdgeOk e) where
   after-checks false c h = refl
 
   pub tests-on : (k l : ℕ) → firstFailing (mergeTestsOn (alignmentOf e) k l) ≡ firstFailing (mergeTests e k l)
-  unfolding firstFailing mergeTestsOn mergeTests narrow alignmentOf
-  tests-on k l = ap (λ (n : ℕ). cond (onDial k && onDial l) n 14) (after-test (leb (length (distinct e)) 16) 7 (λ t. fit-is (leb→le (length (distinct e)) 16 t) k l))
+  unfolding firstFailing mergeTestsOn limitTestsOn mergeTests narrow alignmentOf
+  tests-on k l = ap (λ (n : ℕ). cond (onDial k && onDial l) n 14)
+      (after-test (leb (length (distinct e)) 16) 7 (λ t. fit-is (leb→le (length (distinct e)) 16 t) k l))
 
   pub pair-on : pairOn (alignmentOf e) ≡ pairOf e
   unfolding pairOn pairOf pairTests narrow alignmentOf
   pair-on = after-checks (leb (length (distinct e)) 16) 7 (λ t. first-is (leb→le (length (distinct e)) 16 t))
+
+-- ---- where the tests before the settings hold
+pub limits-hold : (a : Alignment) (k l : ℕ) → Passed (limitTestsOn a k l) → Fair a → Mergeable a k l
+unfolding limitTestsOn
+limits-hold a k l p f =
+    let d = T-and (onDial k) (onDial l) (p .0) in
+    record {
+      searchable = record { few = leb→le (a .count) 16 (p .1 .0); fair = f };
+      dial = record { k-high = dial-of k (d .0) .1; l-high = dial-of l (d .1) .1 };
+    }
+
+pub limits-passed : (a : Alignment) (k l : ℕ) → firstFailing (limitTestsOn a k l) ≡ 0 → Passed (limitTestsOn a k l)
+unfolding limitTestsOn
+limits-passed a k l e = code-passed (limitTestsOn a k l) (omega arith, (omega arith, (omega arith, tt))) e
 
 -- ---- the merged gate of k and l that qualify
 module _ (e : Edge) (ok : EdgeOk e) (k l : ℕ) (t : T (narrow e)) where

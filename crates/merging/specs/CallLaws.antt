@@ -1,10 +1,10 @@
 -- Laws of a pair and a merge on a record: the answer by the number of the first test that fails. Assumes nothing.
-use mathlib.Core.Path.{_≡_, sym, ap, _∙_}
+use mathlib.Core.Path.{_≡_, refl, sym, ap, _∙_}
 use mathlib.Core.Bool.{true, false}
 use Prim.Native.Nat.{ℕ}
 use native.Mathlib.Omega.{arith}
 use lib.Dec.{T}
-use Rattle.integers.specs.Refusals.{accepted, refused, checks, Passed}
+use Rattle.integers.specs.Refusals.{Answer, accepted, refused, checks, Passed}
 use Rattle.integers.specs.RefusalLaws.{passed-checks}
 use Rattle.integers.specs.TestLaws.{is-true, T-and, and-left}
 use Rattle.network.specs.Limits.{scaleOk, sound, isGate}
@@ -23,17 +23,31 @@ use Rattle.folding.specs.StepLaws.{narrow-few}
 use Rattle.folding.specs.AlignedLaws.{EdgeOk}
 use Rattle.alignment.specs.Alignments.{alignmentOf, mergedOf, Mergeable}
 use Rattle.alignment.specs.AlignmentLaws.{merged-is, mergeable}
+use Rattle.merging.specs.declared.Changed.{Changed}
 use Rattle.merging.specs.Answers.{onRecord, asChanged, asPair, mergedRecord, pairFound}
 use Rattle.merging.specs.Lent.{edgeIn, Joined}
 use Rattle.merging.specs.Codes.{firstFailing, edgeTests, edgeTestsIn, mergeTests}
-use Rattle.merging.specs.CodeLaws.{code-passed, code-refused}
+use Rattle.merging.specs.CodeLaws.{code-passed, code-refused, code-checks}
+use Rattle.merging.specs.AnswerLaws.{changed-code}
 use Rattle.merging.specs.EdgeLaws.{joined-of, edge-is, tests-are}
+
+-- a call on two gates of a record, of which u feeds v
+abbrev pub onGates : {A : Type 0} → (Edge → Answer A) → Network → ℕ → ℕ → Answer A
+onGates call r u v = onRecord r (λ N. checks (feedTests N u v) (call (edge N u v)))
+
+-- the pair is one
+pair-call : (r : Network) (u v : ℕ) → pairFound r u v ≡ asPair (onGates pairOf r u v)
+unfolding pairFound pair
+pair-call r u v = refl
 
 -- ---- a record that is not sound
 module _ (r : Network) (s : soundRecord r ≡ false) where
+  pub call-broken : {A : Type 0} (call : Edge → Answer A) (u v : ℕ) → onGates call r u v ≡ refused 20
+  unfolding onRecord checks
+  call-broken call u v = rw s
+
   pub pair-broken : (u v : ℕ) → pairFound r u v ≡ asPair (refused 20)
-  unfolding pairFound onRecord checks
-  pair-broken u v = rw s
+  pair-broken u v = pair-call r u v ∙ ap asPair (call-broken pairOf u v)
 
   pub merge-broken : (u v k l : ℕ) → mergedRecord r u v k l ≡ asChanged r (refused 20)
   unfolding mergedRecord onRecord checks
@@ -45,9 +59,9 @@ module _ (r : Network) (s : soundRecord r ≡ true) (u v : ℕ) where
   unfolding soundRecord
   sound-is = and-left (sound (netOf r)) (spareClear r) s
 
-  pair-sound : pairFound r u v ≡ asPair (checks (edgeTests (netOf r) u v) (pairOf (edge (netOf r) u v)))
-  unfolding pairFound onRecord pair feedTests edgeTests checks
-  pair-sound = rw (s, sound-is)
+  call-sound : {A : Type 0} (call : Edge → Answer A) → onGates call r u v ≡ checks (edgeTests (netOf r) u v) (call (edge (netOf r) u v))
+  unfolding onRecord feedTests edgeTests checks
+  call-sound call = rw (s, sound-is)
 
   merge-sound : (k l : ℕ) → mergedRecord r u v k l
       ≡ asChanged r (checks (edgeTests (netOf r) u v) (checks (mergeTests (edge (netOf r) u v) k l) (accepted (withGate (netOf r) v (merged (edge (netOf r) u v) k l)))))
@@ -61,8 +75,12 @@ module _ (r : Network) (s : soundRecord r ≡ true) (u v : ℕ) where
 
     -- 11 or 12
     module _ (other : n ≡ 0 → ⊥) where
+      pub call-apart : {A : Type 0} (call : Edge → Answer A) → onGates call r u v ≡ refused n
+      call-apart call =
+          call-sound call ∙ code-refused (edgeTests (netOf r) u v) (call (edge (netOf r) u v)) (λ e. other (number-is ∙ e)) ∙ ap refused (sym number-is)
+
       pub pair-apart : pairFound r u v ≡ asPair (refused n)
-      pair-apart = pair-sound ∙ ap asPair (code-refused (edgeTests (netOf r) u v) (pairOf (edge (netOf r) u v)) (λ e. other (number-is ∙ e)) ∙ ap refused (sym number-is))
+      pair-apart = pair-call r u v ∙ ap asPair (call-apart pairOf)
 
       pub merge-apart : (k l : ℕ) → mergedRecord r u v k l ≡ asChanged r (refused n)
       merge-apart k l = merge-sound k l ∙ ap (asChanged r) (code-refused (edgeTests (netOf r) u v) _ (λ e. other (number-is ∙ e)) ∙ ap refused (sym number-is))
@@ -85,15 +103,24 @@ module _ (r : Network) (s : soundRecord r ≡ true) (u v : ℕ) where
       abbrev here : Edge
       here = edgeIn (r .fanins) (r .thresholds) (r .signals) (r .weights) (r .inputs) u v
 
-      here-is : here ≡ edge (netOf r) u v
+      pub here-is : here ≡ edge (netOf r) u v
       here-is = edge-is r u v (apart-none .u-gate) (apart-none .v-gate)
 
+      pub call-joined : {A : Type 0} (call : Edge → Answer A) → onGates call r u v ≡ call here
+      call-joined call = call-sound call ∙ passed-checks (edgeTests (netOf r) u v) (call (edge (netOf r) u v)) feeds ∙ ap call (sym here-is)
+
       pub pair-joined : pairFound r u v ≡ asPair (pairOf here)
-      pair-joined = pair-sound ∙ ap asPair (passed-checks (edgeTests (netOf r) u v) (pairOf (edge (netOf r) u v)) feeds ∙ ap pairOf (sym here-is))
+      pair-joined = pair-call r u v ∙ ap asPair (call-joined pairOf)
 
       merge-joined : (k l : ℕ) → mergedRecord r u v k l ≡ asChanged r (checks (mergeTests here k l) (accepted (withGate (netOf r) v (merged here k l))))
       merge-joined k l = merge-sound k l ∙ ap (asChanged r) (passed-checks (edgeTests (netOf r) u v) _ feeds
           ∙ ap (λ (e : Edge). checks (mergeTests e k l) (accepted (withGate (netOf r) v (merged e k l)))) (sym here-is))
+
+      -- the merge's number is that of its first test that fails
+      pub merge-number : (k l : ℕ) → mergedRecord r u v k l .code ≡ firstFailing (mergeTests here k l)
+      merge-number k l =
+          ap (λ (c : Changed). c .code) (merge-joined k l) ∙ changed-code r _
+          ∙ code-checks (mergeTests here k l) (withGate (netOf r) v (merged here k l))
 
       -- 14, 7, 6 or 15
       pub merge-refused : (k l m : ℕ) → m ≡ firstFailing (mergeTests here k l) → (m ≡ 0 → ⊥) → mergedRecord r u v k l ≡ asChanged r (refused m)

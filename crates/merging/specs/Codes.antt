@@ -1,6 +1,6 @@
 -- The tests of a merge and of a pair after that of the record, and the number of the first that fails. Nothing is proved here.
 use mathlib.Core.Bool.{cond, _&&_}
-use mathlib.Core.List.{List, [], _∷_}
+use mathlib.Core.List.{List, [], _∷_, _++_}
 use Prim.Native.Nat.{ℕ, _-_}
 use lib.Dec.{leb}
 use lib.IntN.{ℤ}
@@ -38,13 +38,17 @@ mergeTests e k l =
 
 -- ---- of two gates by their distinct feeds
 
--- 6 and 15
-unfoldable pub fitTests : Aligned → ℕ → ℕ → List Test
-fitTests a k l = (scaleFits a k l else 6) ∷ (agreesAll a k l else 15) ∷ []
+-- 14, 7 and 6: what is tested before the settings
+unfoldable pub limitTestsOn : Alignment → ℕ → ℕ → List Test
+limitTestsOn a k l = (onDial k && onDial l else 14) ∷ (leb (a .count) 16 else 7) ∷ (scaleFits (alignedIn a) k l else 6) ∷ []
+
+-- 15: on every setting
+unfoldable pub settingTests : Aligned → ℕ → ℕ → List Test
+settingTests a k l = (agreesAll a k l else 15) ∷ []
 
 -- 14, 7, 6 and 15
 unfoldable pub mergeTestsOn : Alignment → ℕ → ℕ → List Test
-mergeTestsOn a k l = (onDial k && onDial l else 14) ∷ (leb (a .count) 16 else 7) ∷ fitTests (alignedIn a) k l
+mergeTestsOn a k l = limitTestsOn a k l ++ settingTests (alignedIn a) k l
 
 -- 7 and 16
 unfoldable pub pairOn : Alignment → Answer Pair

@@ -34,7 +34,7 @@ module _ {file : List ℕ} {places needed : ℕ} {r : Network} (a : FileOpen fil
   unfolding bind readNet asAnswer
   read-on f = ap (λ (x : Read Net). bind (asAnswer x) f) (a .reads)
 
-  open-net : openNet file places needed ≡ accepted (a .net)
+  pub open-net : openNet file places needed ≡ accepted (a .net)
   unfolding openNet
   open-net = read-on _ ∙ checks-next (leb needed places) 18 [] (accepted (a .net)) (le-leb needed places (a .room)) ∙ checks-none (accepted (a .net))
 

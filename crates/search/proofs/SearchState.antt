@@ -1,28 +1,22 @@
 -- What the pair search knows at a sum, at a candidate and at a setting of either half, and how a turn of each loop keeps it. Assumes
 -- nothing.
-use mathlib.Core.Path.{_≡_, refl, sym, ap, ap₂, _∙_}
+use mathlib.Core.Path.{_≡_, refl, sym, ap, _∙_}
 use mathlib.Core.Bool.{Bool, true, false, not}
 use mathlib.Core.List.{List}
 use Prim.Native.Nat.{ℕ, _+_, _-_, _*_, _^_, _≤_, _<_}
 use native.Mathlib.Omega.{arith}
-use lib.IntN.{ℤ, pos}
-use lib.ListN.{getD}
 use lib.Pow.{pow-pos}
 use borrow.Author.Tests.{not-true, not-false}
 use Rattle.integers.specs.Lists.{below}
 use Rattle.integers.specs.TestLaws.{both-true}
 use Rattle.integers.specs.ListLaws.{below-none, below-more}
-use Rattle.sums.specs.Tables.{Sums, sumFrom}
 use Rattle.folding.specs.Pair.{Pair, pairs, first}
-use Rattle.folding.specs.Aligned.{sameBits, agreesOn, scaleFits, qualifiesOn}
+use Rattle.folding.specs.Aligned.{agreesOn, scaleFits, qualifiesOn}
 use Rattle.alignment.specs.declared.Alignment.{Alignment}
 use Rattle.alignment.specs.Alignments.{alignedIn, Searchable}
 use Rattle.search.specs.declared.Found.the-variants.{At, Nothing}
-use Rattle.agreement.specs.Agreement.{reduced}
 use Rattle.search.specs.Search.{foundAs}
-use Rattle.agreement.specs.HalfLaws.{Halved, sum-halves, same-reduced}
 use Rattle.search.proofs.OrderLaws.{pairAt, later, left, later-start, left-start, first-none, first-hit, first-miss, first-past, first-next}
-use Rattle.agreement.specs.GateLaws.{agrees-is}
 use Rattle.search.proofs.CandidateLaws.{off-scale, differing, qualified, k-off-dial, l-off-dial}
 
 -- at a sum, n being the number of settings: the answer among the sums from here on is the whole answer
@@ -163,17 +157,3 @@ module _ {g : Alignment} (f : Searchable g) where
       let all : high * lows ≡ n = ap (λ (m : ℕ). m * lows) (let m : high ≡ highs = omega (arith, c .within) in m) ∙ e in
       rw (c .kept)
       (sym (first-hit q 16 sum k j (qualified g f k (sum - k) (a .low) h (omega arith) o (sym t ∙ not-false b y) (rw all at (c .clear)))) ∙ a .same)
-
--- ---- what a test says, of a whole setting and of its two halves
-module _ {g : Alignment} {tu tv : List ℤ} (f : Searchable g) (u : Sums (g .us) 256 tu) (v : Sums (g .vs) 256 tv) where
-  pub tested : (k l s : ℕ) {b : Bool} → s < 2 ^ g .count → b ≡ sameBits (g .thresholds) k l (sumFrom tu s) (sumFrom tv s) → b ≡ agreesOn (alignedIn g) k l s
-  tested k l s h t = t ∙ sym (agrees-is g f u v k l s h)
-
-  pub tested-low : (k l lows high low : ℕ) {b : Bool} → Halved (g .count) lows high low
-      → b ≡ sameBits (reduced (g .thresholds) (getD tu (256 + high) (pos 0)) (getD tv (256 + high) (pos 0))) k l (getD tu low (pos 0)) (getD tv low (pos 0))
-      → b ≡ agreesOn (alignedIn g) k l (high * lows + low)
-  tested-low k l lows high low h t =
-      tested k l (high * lows + low) (h .inside)
-      (t
-      ∙ same-reduced (g .thresholds) k l (getD tu (256 + high) (pos 0)) (getD tv (256 + high) (pos 0)) (getD tu low (pos 0)) (getD tv low (pos 0))
-      ∙ sym (ap₂ (sameBits (g .thresholds) k l) (sum-halves tu (g .count) lows high low h) (sum-halves tv (g .count) lows high low h)))

@@ -9,9 +9,9 @@ use Rattle.folding.specs.Aligned.{agreesOn, qualifiesOn}
 use Rattle.alignment.specs.Alignments.{alignedIn, Near, Dial}
 use Rattle.agreement.specs.Agreement.{SumTables}
 use Rattle.agreement.specs.HalfLaws.{Halved, halved, halves-all, half-few, high-few, near-wider, reduced-near}
-use Rattle.agreement.specs.GateLaws.{tables-small}
+use Rattle.agreement.specs.GateLaws.{tables-small, tested, tested-low}
 use Rattle.search.proofs.SearchState.{AtSum, AtCandidate, AtHigh, AtLow, begin, turn, next-sum, none, over, off, unscaled, differs, found}
-use Rattle.search.proofs.SearchState.{tested, tested-low, high-begin, low-begin, low-more, high-more, differs-low}
+use Rattle.search.proofs.SearchState.{high-begin, low-begin, low-more, high-more, differs-low}
 use borrow.Author.Needs.{needs}
 use Rattle.search.proofs.unchecked.scan.Statement.{statement}
 use Rattle.search.proofs.unchecked.scan.Tie as tie

@@ -1,53 +1,42 @@
--- The first two tests in their order, then the last two. Assumes nothing.
-use mathlib.Core.Path.{_≡_, sym, _∙_}
-use mathlib.Core.Bool.{true, _&&_}
-use borrow.Author.Tests.{not-true, not-false, le-leb, lt-leb}
-use Rattle.integers.specs.TestLaws.{T-is, T-and}
-use Rattle.folding.specs.Merge.{onDial}
-use Rattle.folding.specs.PairLaws.{dial-of}
-use Rattle.merging.specs.Codes.{firstFailing, mergeTestsOn}
-use borrow.Author.Needs.{needs}
+-- The tests before the settings, then that of the settings. Assumes nothing.
+use mathlib.Core.Path.{sym, _∙_}
+use borrow.Author.Tests.{not-true, not-false}
+use Rattle.integers.specs.Refusals.{Passed}
+use Rattle.merging.specs.Codes.{firstFailing, limitTestsOn, settingTests, mergeTestsOn}
+use Rattle.merging.specs.CodeLaws.{code-after, code-before}
+use Rattle.merging.specs.AlignedLaws.{limits-passed, limits-hold}
 use Rattle.merging.proofs.unchecked.merges.merge_code.Statement.{statement}
 use Rattle.merging.proofs.unchecked.merges.merge_code.Tie as tie
 
-on-dial-requires : tie.Need-on-dial-requires
-on-dial-requires c κs = search needs
-
-on-dial-requires-2 : tie.Need-on-dial-requires-2
-on-dial-requires-2 c κs = search needs
-
--- what the first test found
-dial : (c : tie.After-on-dial2) → let a = c .before .before .args in (c .before .on-dial .result && c .on-dial2 .result) ≡ (onDial (a .k) && onDial (a .l))
-dial c = rw (c .before .on-dial .ensures, c .on-dial2 .ensures)
-
-within : (c : tie.Else1) → let a = c .before .before .before .args in (onDial (a .k) && onDial (a .l)) ≡ true
-within c = sym (dial (c .before)) ∙ not-false _ (c .if1 .left)
+limit-code-requires : tie.Need-limit-code-requires
+limit-code-requires c κs = c .pre
 
 returns : tie.Need-returns
-unfolding firstFailing mergeTestsOn
-returns c = rw (sym (dial (c .before)) ∙ not-true _ (c .if1 .taken))
+unfolding mergeTestsOn
+returns c =
+    let e = c .before .limit-code .ensures in
+    e ∙ sym (code-before _ _ (λ z. c .if1 .taken (e ∙ z)))
+
+-- past them, those tests hold
+passed : (c : tie.Else1) → let a = c .before .before .args in Passed (limitTestsOn (a .a) (a .k) (a .l))
+passed c = limits-passed _ _ _ (sym (c .before .limit-code .ensures) ∙ c .if1 .left)
+
+agrees-everywhere-requires : tie.Need-agrees-everywhere-requires
+agrees-everywhere-requires c κs = let m = limits-hold _ _ _ (passed c) (c .before .before .pre) in (m .searchable, m .dial)
 
 returns-2 : tie.Need-returns-2
-unfolding firstFailing mergeTestsOn
-returns-2 c = rw (within (c .before), lt-leb _ 16 (c .if2 .taken))
-
-fit-code-requires : tie.Need-fit-code-requires
-fit-code-requires c κs =
-    let s = c .before .before .before .before in
-    let d = T-and (onDial (s .args .k)) (onDial (s .args .l)) (T-is _ (within (c .before))) in
-    (record { few = c .if2 .left; fair = s .pre }, record { k-high = dial-of (s .args .k) (d .0) .1; l-high = dial-of (s .args .l) (d .1) .1 })
+unfolding firstFailing mergeTestsOn settingTests
+returns-2 c =
+    let a = c .before .before .before .before .args in
+    let differs = sym (c .before .agrees-everywhere .ensures) ∙ not-true (c .before .agrees-everywhere .result) (c .if2 .taken) in
+    sym (code-after (limitTestsOn (a .a) (a .k) (a .l)) _ (passed (c .before .before)) ∙ rw differs)
 
 returns-3 : tie.Need-returns-3
-unfolding firstFailing mergeTestsOn
-returns-3 c = let e = c .before in c .fit-code .ensures ∙ rw (within (e .before), le-leb _ 16 (e .if2 .left))
+unfolding firstFailing mergeTestsOn settingTests
+returns-3 c =
+    let a = c .before .before .before .before .args in
+    let agrees = sym (c .before .agrees-everywhere .ensures) ∙ not-false (c .before .agrees-everywhere .result) (c .if2 .left) in
+    sym (code-after (limitTestsOn (a .a) (a .k) (a .l)) _ (passed (c .before .before)) ∙ rw agrees)
 
 pub merge-code-spec : {M : Type 1} → statement M
-merge-code-spec =
-    tie.close
-    (tie.spec
-    on-dial-requires
-    on-dial-requires-2
-    returns
-    returns-2
-    fit-code-requires
-    returns-3)
+merge-code-spec = tie.close (tie.spec limit-code-requires returns agrees-everywhere-requires returns-2 returns-3)

@@ -1,0 +1,10 @@
+-- By the law of the settings' ones. Assumes nothing.
+use Rattle.guarantees.specs.WitnessLaws.{lights-fewest}
+use Rattle.guarantees.proofs.witnesses_light_fewest.Statement.{statement}
+use Rattle.guarantees.proofs.witnesses_light_fewest.Tie as tie
+
+returns : tie.Need-returns
+returns c = lights-fewest (c .args .network)
+
+pub witnesses-light-fewest-spec : {M : Type 1} → statement M
+witnesses-light-fewest-spec = tie.close (tie.spec returns)

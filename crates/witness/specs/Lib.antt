@@ -1,0 +1,8 @@
+pub mod Witness
+pub mod Feeds
+pub mod Parts
+pub mod WitnessLaws
+pub mod CallLaws
+pub mod LitLaws
+pub mod Files
+pub mod FileLaws

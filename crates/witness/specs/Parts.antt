@@ -1,0 +1,36 @@
+-- What the parts of the two calls promise, on two gates by their distinct feeds: needed by proofs only, no public call cites it. Nothing
+-- is proved here.
+use mathlib.Core.Bool.{cond}
+use mathlib.Core.List.{List, _∷_}
+use Prim.Native.Nat.{ℕ, _^_}
+use lib.Dec.{leb}
+use lib.ListN.{take}
+use Rattle.integers.specs.Refusals.{refused}
+use Rattle.folding.specs.Aligned.{agreesOn}
+use Rattle.alignment.specs.Alignments.{alignedIn}
+use Rattle.alignment.specs.declared.Alignment.{Alignment}
+use Rattle.merging.specs.Codes.{firstFailing, settingTests, mergeTestsOn}
+use Rattle.witness.specs.declared.Witnessed.{Witnessed}
+use Rattle.witness.specs.declared.DistinctFeeds.{DistinctFeeds}
+use Rattle.witness.specs.Witness.{Shows}
+use Rattle.witness.specs.Feeds.{asFeeds}
+
+-- none, with a number
+unfoldable pub noWitness : ℕ → Witnessed
+noWitness code = record { code = code; setting = 0 }
+
+-- a witness of two gates, with 15 or 0
+abbrev pub FewestOn : Alignment → ℕ → ℕ → Witnessed → Type 0
+FewestOn a k l w = Shows (firstFailing (settingTests (alignedIn a) k l)) (2 ^ a .count) (agreesOn (alignedIn a) k l) w
+
+-- with 14, 7 and 6 before
+abbrev pub WitnessOn : Alignment → ℕ → ℕ → Witnessed → Type 0
+WitnessOn a k l w = Shows (firstFailing (mergeTestsOn a k l)) (2 ^ a .count) (agreesOn (alignedIn a) k l) w
+
+-- the distinct feeds of two gates, or 7
+unfoldable pub feedsOn : Alignment → DistinctFeeds
+feedsOn a = cond (leb (a .count) 16) (record { code = 0; count = a .count; signals = a .signals }) (asFeeds (refused 7))
+
+-- their number, and their signals after it
+abbrev pub feedPlaces : DistinctFeeds → List ℕ
+feedPlaces d = d .count ∷ take (d .count) (d .signals)
