@@ -1,7 +1,7 @@
 /* The folder's functions for C: threshold networks in PMN files (libcapi.a).
  *
- * Every function takes whole files and numbers, and answers 0 or the number of a refusal (the table of codes in document 01). The
- * number 13 is never given.
+ * Every function takes whole files and numbers, and answers 0 or the number of a refusal (the table of codes in document 01; 26 is from
+ * document 02). The number 13 is never given.
  * A slice is a pointer and then a length, in bytes for uint8_t and in numbers for uint64_t. A slice that is written overlaps
  * no other slice of the same call. A pointer is not null, even where the length is 0.
  *
@@ -25,6 +25,12 @@ uint8_t pmn_check(const uint8_t *file, size_t file_length);
  * Codes in order: as read, 18 where answer has under 2 places, 10. */
 uint8_t pmn_frame(const uint8_t *file, size_t file_length, uint64_t frame,
                   uint64_t *answer, size_t answer_length);
+
+/* Reads up to 64 frames in one pass. answers[i]: the output bits on frames[i], as pmn_frame gives them.
+ * Codes in order: as read, 26 for more than 64 frames or where answers has fewer places than frames, 10 where any frame is refused. */
+uint8_t pmn_frames(const uint8_t *file, size_t file_length,
+                   const uint64_t *frames, size_t frames_length,
+                   uint64_t *answers, size_t answers_length);
 
 /* The pair for the gates with signals u and v. answer[0]: k; answer[1]: l.
  * Codes in order: as read, 18 where answer has under 2 places, 11, 12, 7, 16. */

@@ -1,6 +1,6 @@
 //! Times of the proved library on the same inputs as the independent implementation, which tries everything, and as the exact method, which
 //! finds a pair by one pass over its settings: in one process, and their ratios. All rows, or those of the kinds named on the command line:
-//! file, preview, pair, sweep.
+//! file, preview, frames, witness, pair, sweep.
 use std::env;
 use std::hint::black_box;
 use std::time::{Duration, Instant};
@@ -144,6 +144,39 @@ fn preview_rows() {
     preview_row("a gate of the largest network that nothing reads", &net, unread as u64);
 }
 
+/// Lists of frames on a full network, in one process: in one pass and one by one, each less the reads of the file; one by one by the
+/// independent implementation; and in one call and in single calls, with their reads.
+fn frames_rows() {
+    let mut r = Random::new(8);
+    let net = largest(&mut r);
+    let file = reference::write(&net);
+    let list: Vec<u64> = (0..64).map(|_| r.next() >> (64 - net.inputs)).collect();
+    let (mut answers, mut answer) = ([0u64; 64], [0u64; 2]);
+    let read = time(|| {
+        black_box(library::check(black_box(&file)));
+    });
+    for count in [1, 8, 16, 32, 33, 64] {
+        let frames = &list[..count];
+        let together = time(|| {
+            black_box(library::frames(black_box(&file), frames, &mut answers));
+        });
+        let single = time(|| {
+            for &x in frames {
+                black_box(library::frame(black_box(&file), x, &mut answer));
+            }
+        });
+        let theirs = time(|| {
+            for &x in frames {
+                black_box(reference::frame(black_box(&net), x).unwrap());
+            }
+        });
+        let pass = together.saturating_sub(read);
+        let readings = single.saturating_sub(read * count as u32);
+        let cells = [(pass, readings), (pass, theirs), (together, single)].map(|(one, all)| format!("{} | {}", text(all), ratio(one, all)));
+        println!("| {count} | {} | {} | {} | {} | {} |", text(pass), cells[0], cells[1], text(together), cells[2]);
+    }
+}
+
 /// The row of a pair of the two gates of a network, and the library's time.
 fn pair_row(name: &str, net: &Net, all: bool) -> Duration {
     let file = reference::write(net);
@@ -251,6 +284,10 @@ fn table(head: &str, kinds: &[(&str, fn())]) {
 
 fn main() {
     table("| on | library | independent | ratio |", &[("file", file_rows), ("preview", preview_rows)]);
+    table(
+        "| frames | one pass | single readings | ratio | independent | ratio | one call | single calls | ratio |",
+        &[("frames", frames_rows)],
+    );
     table("| witness, 16 distinct feeds | merge | witness | to a merge that agrees |", &[("witness", witness_rows)]);
     let head = "| on | library | exact method | ratio | the same by halves | ratio | plain search | ratio |";
     table(head, &[("pair", pair_rows), ("sweep", sweep_rows)]);

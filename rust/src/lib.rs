@@ -10,6 +10,14 @@ mod raw {
     extern "C" {
         pub fn pmn_check(file: *const u8, file_length: usize) -> u8;
         pub fn pmn_frame(file: *const u8, file_length: usize, frame: u64, answer: *mut u64, answer_length: usize) -> u8;
+        pub fn pmn_frames(
+            file: *const u8,
+            file_length: usize,
+            frames: *const u64,
+            frames_length: usize,
+            answers: *mut u64,
+            answers_length: usize,
+        ) -> u8;
         pub fn pmn_pair(file: *const u8, file_length: usize, u: u64, v: u64, answer: *mut u64, answer_length: usize) -> u8;
         pub fn pmn_witness(
             file: *const u8,
@@ -64,6 +72,10 @@ pub fn check(file: &[u8]) -> u8 {
 
 pub fn frame(file: &[u8], frame: u64, answer: &mut [u64]) -> u8 {
     unsafe { raw::pmn_frame(file.as_ptr(), file.len(), frame, answer.as_mut_ptr(), answer.len()) }
+}
+
+pub fn frames(file: &[u8], frames: &[u64], answers: &mut [u64]) -> u8 {
+    unsafe { raw::pmn_frames(file.as_ptr(), file.len(), frames.as_ptr(), frames.len(), answers.as_mut_ptr(), answers.len()) }
 }
 
 pub fn pair(file: &[u8], u: u64, v: u64, answer: &mut [u64]) -> u8 {

@@ -171,6 +171,14 @@ pub fn frame(net: &Net, frame: u64) -> Answer<(u64, u64)> {
     Ok((bits, net.outputs.iter().filter(|&&s| values[s]).count() as u64))
 }
 
+/// The output bits on each of several frames, with so many places for the answers.
+pub fn frames(net: &Net, frames: &[u64], places: usize) -> Answer<Vec<u64>> {
+    if frames.len() > 64 || places < frames.len() {
+        return Err(26);
+    }
+    frames.iter().map(|&x| frame(net, x).map(|(bits, _)| bits)).collect()
+}
+
 // ---- merge, pair, drop, collapse, sweep
 
 /// u and v with the weight b, and the distinct feeds.

@@ -3,6 +3,7 @@
 ghost use mathlib.Core.Path.{_≡_};
 ghost use Rattle.integers.specs.Refusals.{codeOf, stored};
 ghost use lib.ListN.{length};
+ghost use Rattle.frames.specs.Frames.{fileFrames};
 ghost use Rattle.opening.specs.Files.{readNet, openNet, lengthOf};
 ghost use Rattle.preview.specs.Files.{previewPlaces};
 ghost use Rattle.witness.specs.Files.{WitnessLeft, distinctPlaces};
@@ -31,6 +32,15 @@ pub extern "C" fn pmn_frame(file: &[u8], frame: u64, answer: &mut [u64]) -> u8
     }
     let reading = evaluation::unchecked::read_sound(loaded.network, frame);
     opening::unchecked::places::put_two(answer, reading.code, reading.bits, reading.ones as u64)
+}
+
+// Up to 64 frames are read in one pass: the output bits on frame i go into place i of the answers.
+#[no_mangle]
+pub extern "C" fn pmn_frames(file: &[u8], frames: &[u64], answers: &mut [u64]) -> u8
+    ensures { λ r. ⌜ r ≡ codeOf (fileFrames (now (file .entry)) (now (frames .entry)) (now (answers .entry))) ⌝ }
+    ensures { λ _. ⌜ now (answers .exit) ≡ stored (fileFrames (now (file .entry)) (now (frames .entry)) (now (answers .entry))) (now (answers .entry)) ⌝ }
+{
+    frames::files::read_file_frames(file, frames, answers)
 }
 
 // The pair for two gates: k goes into place 0 of the answer, l into place 1.

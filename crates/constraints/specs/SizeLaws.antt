@@ -5,18 +5,17 @@ use mathlib.Core.Bool.{true, false, cond}
 use mathlib.Core.List.{List, [], _∷_, _++_, map}
 use Prim.Native.Nat.{ℕ, zero, suc, _+_, _*_, _^_, _≤_, _<_}
 use native.Mathlib.Omega.{arith}
-use lib.Dec.{T, ltb, leb→le}
+use lib.Dec.{ltb}
 use lib.IntN.{ℤ, pos, negsuc, natAbs, _+ℤ_, _-ℤ_}
 use lib.Signed.{nonNeg}
 use lib.ListN.{length, length-append, length-map}
-use Rattle.integers.specs.Lists.{all, range, Each}
-use Rattle.integers.specs.ListLaws.{each-of, each-imp, each-getD, length-range}
+use Rattle.integers.specs.Lists.{range, Each}
+use Rattle.integers.specs.ListLaws.{each-imp, each-getD, length-range}
 use Rattle.integers.specs.SizeLaws.{size-neg, size-add, size-sub}
-use Rattle.integers.specs.TestLaws.{T-and}
 use Rattle.network.specs.Threshold.{Feed, negated, Gate, Net}
-use Rattle.network.specs.Limits.{signalsOf, inScale, weightOk, scaleOk}
+use Rattle.network.specs.Limits.{signalsOf}
 use Rattle.network.specs.Sound.{GateOk, Gates, Has, Sound}
-use Rattle.network.specs.LimitLaws.{rise-below}
+use Rattle.network.specs.LimitLaws.{rise-below, gate-sizes}
 use Rattle.constraints.specs.Question.{Line, most, least, term, upper, lower, secondVariable, overGate, gateLines, someLine, notBothLine, outputLines, lastLine, firstDifference, question, variables}
 use Rattle.constraints.specs.Text.{termsText, lineText, noLine, variableWord, constraintWord, headerText, questionText}
 use Rattle.constraints.specs.Demand.{Named}
@@ -26,20 +25,6 @@ use Rattle.constraints.specs.LineLaws.{question-is, question-length}
 use Rattle.constraints.specs.TextLaws.{decimal-short, Within, terms-short, terms-append, right-short, line-length}
 
 -- ---- the numbers of a gate
-scale-size : (z : ℤ) → T (inScale z) → natAbs z ≤ 1000000
-unfolding inScale
-scale-size z t = leb→le (natAbs z) 1000000 t
-
-weight-size : (f : Feed) → T (weightOk f) → natAbs (f .weight) ≤ 1000000
-unfolding weightOk
-weight-size f t = scale-size (f .weight) (T-and (inScale (f .weight)) _ t .0)
-
--- T and each weight are at most 1,000,000 in size
-pub gate-sizes : (g : Gate) → T (scaleOk g) → (natAbs (g .threshold) ≤ 1000000) × Each (λ f. natAbs (f .weight) ≤ 1000000) (g .feeds)
-unfolding scaleOk
-gate-sizes g t = let h = T-and (inScale (g .threshold)) (all weightOk (g .feeds)) t in
-    (scale-size (g .threshold) (h .0), each-of weightOk (λ f. natAbs (f .weight) ≤ 1000000) weight-size (g .feeds) (h .1))
-
 part-size : (w : ℤ) → (natAbs (cond (nonNeg w) w (pos 0)) ≤ natAbs w) × (natAbs (cond (nonNeg w) (pos 0) w) ≤ natAbs w)
 part-size (pos n) = omega arith
 part-size (negsuc n) = omega arith

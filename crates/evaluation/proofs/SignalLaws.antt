@@ -2,7 +2,7 @@
 use mathlib.Core.Path.{_≡_, refl, sym, _∙_, fun-ext}
 use mathlib.Core.Bool.{Bool, true, false}
 use mathlib.Core.List.{List, map}
-use Prim.Native.Nat.{ℕ, zero, suc, _+_, _-_, _*_, _/_, _%_, _^_, _≤_, _<_}
+use Prim.Native.Nat.{ℕ, _+_, _-_, _*_, _/_, _%_, _^_, _≤_, _<_}
 use native.Mathlib.Nat.{div-eq-of-lt, div-lt-iff-lt-mul}
 use native.Mathlib.Decide.{decLt}
 use native.Mathlib.Numerals.{add-one}
@@ -12,6 +12,7 @@ use lib.ListN.{length, getD, set, replicate, length-set, length-replicate}
 use lib.Pow.{pow-pos, pow-mono}
 use lib.Seq.{getD-set-same, getD-set-other}
 use Rattle.integers.specs.Lists.{range, other}
+use Rattle.integers.specs.ListLaws.{getD-spare}
 use Rattle.integers.specs.TestLaws.{T-is, cond-case, other-ne}
 use Rattle.network.specs.Threshold.{Gate, Assignment, bit, assign, run, frame, fitsFrame}
 use Rattle.evaluation.specs.Evaluation.{bitsIn}
@@ -31,13 +32,8 @@ pub record Inputs (x i : ℕ) (a : List Bool) : Type 0 where
   pub set-bits : (s : ℕ) → s < i → getD a s false ≡ frame x s
   pub clear : (s : ℕ) → i ≤ s → getD a s false ≡ false
 
-all-false : (n s : ℕ) → getD (replicate n false) s false ≡ false
-all-false zero s = refl
-all-false (suc n) zero = refl
-all-false (suc n) (suc s) = all-false n s
-
 pub inputs-none : (x : ℕ) → Inputs x 0 (replicate 256 false)
-inputs-none x = record { long = length-replicate 256 false; set-bits = λ s h. absurd (omega arith); clear = λ s h. all-false 256 s }
+inputs-none x = record { long = length-replicate 256 false; set-bits = λ s h. absurd (omega arith); clear = λ s h. getD-spare 256 s false }
 
 pub inputs-next : {x i : ℕ} {a : List Bool} → Inputs x i a → i < 256 → Inputs x (i + 1) (set a i (eqb (x / 2 ^ i % 2) 1))
 unfolding frame
@@ -90,8 +86,8 @@ module _ {gate : ℕ → Gate} {inputs gates : ℕ} where
     left = rw (let p : inputs + 0 ≡ inputs = omega arith in p, let q : gates - 0 ≡ gates = omega arith in q, e);
   }
 
-  pub gates-next : {all : Assignment} {g : ℕ} {a : List Bool} (b : Bool) → GatesLeft gate inputs gates all g a → g < gates → inputs + g < 256 → b ≡ bit (bitsIn a) (gate g)
-      → GatesLeft gate inputs gates all (g + 1) (set a (inputs + g) b)
+  pub gates-next : {all : Assignment} {g : ℕ} {a : List Bool} (b : Bool) → GatesLeft gate inputs gates all g a → g < gates → inputs + g < 256
+      → b ≡ bit (bitsIn a) (gate g) → GatesLeft gate inputs gates all (g + 1) (set a (inputs + g) b)
   gates-next {all} {g} {a} b h k l e = record {
     within = omega arith;
     long = length-set a (inputs + g) b ∙ h .long;

@@ -144,6 +144,75 @@ fn frame(network: Network, x: u64) {
     end();
 }
 
+// Words as numbers.
+fn words(list: &[u64]) {
+    let mut i: usize = 0;
+    while i < list.len() {
+        number(list[i]);
+        i = i + 1;
+    }
+}
+
+fn words_66(list: &[u64; 66]) {
+    words(list);
+}
+
+// The frames 0 to 7 over and over, but 8 at one place.
+fn frames_but(long: usize) -> [u64; 65] {
+    let mut list = [0u64; 65];
+    let mut i: usize = 0;
+    while i < 65 {
+        list[i] = if i == long { 8 } else { i as u64 % 8 };
+        i = i + 1;
+    }
+    list
+}
+
+// The first frames of a list, read into the first of the places lent.
+fn read_first(network: Network, list: &[u64], count: usize, answers: &mut [u64], room: usize) {
+    if count <= list.len() {
+        if room <= answers.len() {
+            let code = frames::read_frames(network, &list[..count], &mut answers[..room]);
+            number(code as u64);
+        }
+    }
+}
+
+// The first frames of 65, of which one is 8, read in one pass into the first places of 66, each of which was 170: the answer, and all 66
+// places.
+fn several(network: Network, count: usize, room: usize, long: usize) {
+    let list = frames_but(long);
+    let mut answers = [170u64; 66];
+    text(b"frames");
+    number(count as u64);
+    number(room as u64);
+    number(long as u64);
+    read_first(network, &list, count, &mut answers, room);
+    words_66(&answers);
+    end();
+}
+
+// Lists of every kind: of 0, 1, 32, 33, 63, 64 and 65 frames; places one short, all, and more; 8, which is long, first, last and after
+// the last.
+fn lists(network: Network) {
+    several(network, 0, 0, 65);
+    several(network, 0, 2, 65);
+    several(network, 1, 1, 65);
+    several(network, 32, 32, 65);
+    several(network, 33, 33, 65);
+    several(network, 63, 64, 65);
+    several(network, 64, 63, 65);
+    several(network, 64, 64, 65);
+    several(network, 64, 66, 65);
+    several(network, 65, 66, 65);
+    several(network, 1, 1, 0);
+    several(network, 64, 64, 63);
+    several(network, 64, 66, 0);
+    several(network, 64, 66, 64);
+    several(network, 64, 63, 63);
+    several(network, 65, 66, 0);
+}
+
 // Bytes as numbers.
 fn numbers(bytes: &[u8]) {
     let mut i: usize = 0;
@@ -227,6 +296,7 @@ fn main() {
     frame(network, 3);
     frame(network, 7);
     frame(network, 8);
+    lists(network);
     part(3);
     part(4);
     part(2);
@@ -239,6 +309,8 @@ fn main() {
     let mut broken = network;
     broken.signals[2] = 1;
     frame(broken, 7);
+    several(broken, 0, 0, 65);
+    several(broken, 65, 0, 0);
     written(broken, 41);
     let blank = network::blank();
     frame(blank, 0);

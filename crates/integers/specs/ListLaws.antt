@@ -11,7 +11,7 @@ use lib.Dec.{T, T-not, eqb, eqb→eq, eqb-refl}
 use lib.ListN.{length, getD, replicate, length-map, length-replicate, getD-replicate}
 use lib.Seq.{ext-getD}
 use Rattle.integers.specs.Lists.{all, below, keep, range, tab, other, Each}
-use Rattle.integers.specs.TestLaws.{is-true, refuted, fails, T-and, and-T, cond-case, other-ne}
+use Rattle.integers.specs.TestLaws.{is-true, T-is, refuted, fails, T-and, and-T, cond-case, other-ne}
 
 -- ---- below: a test at each number
 pub below-none : (p : ℕ → Bool) → below 0 p ≡ true
@@ -59,6 +59,12 @@ module _ {A : Type 0} where
   each-getD P [] d h i k = absurd (omega arith)
   each-getD P (x ∷ xs) d h zero k = h .0
   each-getD P (x ∷ xs) d h (suc i) k = each-getD P xs d (h .1) i (omega arith)
+
+  -- a member of a list of which every one passes
+  pub all-at : (p : A → Bool) (xs : List A) (d : A) → all p xs ≡ true → (i : ℕ) → i < length xs → p (getD xs i d) ≡ true
+  all-at p xs d h i k =
+      let passes : A → Type 0 = λ x. T (p x) in
+      is-true (p (getD xs i d)) (each-getD passes xs d (each-of p passes (λ x t. t) xs (T-is (all p xs) h)) i k)
 
   pub each-keep : (P : A → Type 0) (p : A → Bool) (xs : List A) → Each P xs → Each P (keep p xs)
   unfolding keep
@@ -124,6 +130,12 @@ range-same f g a (suc n) h = rw (h a (omega arith), range-same f g (suc a) n (λ
 pub tab-same : {A : Type 0} (n : ℕ) (f g : ℕ → A) → ((i : ℕ) → i < n → f i ≡ g i) → tab n f ≡ tab n g
 tab-same n f g h = range-same f g 0 n λ i k. h i (omega arith)
 
+-- a run of one value has it at every place, past its end too
+pub getD-spare : {A : Type 0} (n i : ℕ) (a : A) → getD (replicate n a) i a ≡ a
+getD-spare zero i a = refl
+getD-spare (suc n) zero a = refl
+getD-spare (suc n) (suc i) a = getD-spare n i a
+
 -- a run of one value is its table
 pub tab-replicate : {A : Type 0} (n : ℕ) (a : A) → tab n (λ i. a) ≡ replicate n a
 tab-replicate n a = tab-of a n (λ i. a) (replicate n a) (sym (length-replicate n a)) λ i h. sym (getD-replicate n i a a (omega (arith, length-replicate n a)))
@@ -131,7 +143,10 @@ tab-replicate n a = tab-of a n (λ i. a) (replicate n a) (sym (length-replicate 
 pub range-append : (a n m : ℕ) → range a (n + m) ≡ range a n ++ range (a + n) m
 unfolding range
 range-append a zero m = ap (range a) (let e : 0 + m ≡ m = omega arith in e) ∙ ap (λ (x : ℕ). range x m) (let e : a ≡ a + 0 = omega arith in e)
-range-append a (suc n) m = ap (range a) (let e : suc n + m ≡ suc (n + m) = omega arith in e) ∙ ap (λ (l : List ℕ). a ∷ l) (range-append (suc a) n m ∙ ap (λ (x : ℕ). range (suc a) n ++ range x m) (let e : suc a + n ≡ a + suc n = omega arith in e))
+range-append a (suc n) m =
+    let longer : suc n + m ≡ suc (n + m) = omega arith in
+    let later : suc a + n ≡ a + suc n = omega arith in
+    ap (range a) longer ∙ ap (λ (l : List ℕ). a ∷ l) (range-append (suc a) n m ∙ ap (λ (x : ℕ). range (suc a) n ++ range x m) later)
 
 pub range-more : (a n : ℕ) → range a (n + 1) ≡ range a n ++ ((a + n) ∷ [])
 unfolding range

@@ -99,6 +99,10 @@ pub or-second : (a b : Bool) → T (not a) → T (a || b) → T b
 or-second true b n t = absurd n
 or-second false b n t = t
 
+pub or-false : (a b : Bool) → a || b ≡ false → (a ≡ false) × (b ≡ false)
+or-false true b h = absurd (true≢false h)
+or-false false b h = (refl, h)
+
 -- ---- equal Bools
 pub beq-eq : (a b : Bool) → T (Bool·beq a b) → a ≡ b
 beq-eq true true h = refl

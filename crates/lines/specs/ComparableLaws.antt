@@ -15,7 +15,7 @@ use Rattle.network.specs.Threshold.{Gate, Net}
 use Rattle.network.specs.Record.{netOf, soundRecord, gateIn, gateRecord, nthGate, noGate}
 use Rattle.network.specs.Places.{rowAt}
 use Rattle.network.specs.Sound.{Sound, GateOk}
-use Rattle.network.specs.LimitLaws.{gates-at}
+use Rattle.network.specs.LimitLaws.{gates-at, gate-sizes}
 use Rattle.network.specs.PlaceLaws.{gateIn-gateRecord}
 use Rattle.network.specs.RecordLaws.{count-gates, count-outputs, gate-within, sound-net, row-gate}
 use Rattle.network.specs.SoundLaws.{sized-of}
@@ -24,7 +24,7 @@ use Rattle.network.specs.declared.Network.{Network}
 use Rattle.constraints.specs.Question.{firstDifference, question, variables, alike}
 use Rattle.constraints.specs.Text.{lineText, noLine, headerText, questionText}
 use Rattle.constraints.specs.LineLaws.{question-length}
-use Rattle.constraints.specs.SizeLaws.{gate-sizes, Narrow, question-narrow, line-short}
+use Rattle.constraints.specs.SizeLaws.{Narrow, question-narrow, line-short}
 use Rattle.lines.specs.Lines.{InLimits, Comparable, linesOf}
 
 -- ---- a gate of a sound record, by itself
@@ -107,7 +107,8 @@ module _ {a b : Network} (p : Comparable a b) where
   text-short n h = line-short (netOf a) (netOf b) first-net second-net same-signals same-drivers n h
 
   -- the text of line n, the header or a line after it
-  pub header-is : {n v c : ℕ} → n ≡ 0 → v ≡ a .inputs + a .gates + b .gates + a .outputs → c ≡ linesOf (netOf a) (netOf b) → headerText v c ≡ questionText (netOf a) (netOf b) n
+  pub header-is : {n v c : ℕ} → n ≡ 0 → v ≡ a .inputs + a .gates + b .gates + a .outputs → c ≡ linesOf (netOf a) (netOf b)
+      → headerText v c ≡ questionText (netOf a) (netOf b) n
   unfolding questionText linesOf
   header-is z e d = rw (z, e, d, variables-are)
 

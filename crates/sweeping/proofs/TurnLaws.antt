@@ -1,6 +1,6 @@
 -- The turns of a sweep: the gates passed over, the gate that is taken, and the sweep that goes on from there. Assumes nothing.
 use mathlib.Core.Path.{_≡_, refl, sym, ap, _∙_, subst}
-use mathlib.Core.Bool.{Bool, true, false, cond, _||_, true≢false}
+use mathlib.Core.Bool.{Bool, true, false, cond, _||_}
 use mathlib.Core.List.{[], _∷_}
 use Prim.Native.Nat.{ℕ, zero, suc, _+_, _-_, _≤_, _<_}
 use native.Mathlib.Numerals.{add-one}
@@ -8,7 +8,7 @@ use native.Mathlib.Omega.{arith}
 use borrow.Author.Tests.{ltb-false, lt-ltb, le-leb, lt-leb}
 use lib.Dec.{leb, ltb, ltb→lt}
 use Rattle.integers.specs.Refusals.{Answer, accepted, refused, _else_, checks, Refused}
-use Rattle.integers.specs.TestLaws.{is-true, T-is, both-true, or-case}
+use Rattle.integers.specs.TestLaws.{is-true, T-is, both-true, or-case, or-false}
 use Rattle.integers.specs.ListLaws.{length-tab}
 use Rattle.network.specs.Threshold.{Net}
 use Rattle.network.specs.Sound.{Sound}
@@ -96,11 +96,6 @@ module _ (N : Net) (B : ℕ) where
   sweeping-last n c e = rw e
 
 -- ---- a sound record's gates, as the code tries them
--- neither of two tests holds
-neither : (x y : Bool) → x || y ≡ false → (x ≡ false) × (y ≡ false)
-neither true y h = absurd (true≢false h)
-neither false y h = (refl, h)
-
 pub sweep-start : (r : Network) (b : ℕ) → sweepFrom (netOf r) b (r .inputs + 0) (r .gates - 0) ≡ sweepOnce (netOf r) b
 unfolding sweepOnce netOf
 sweep-start r b = rw (let e : r .inputs + 0 ≡ r .inputs = omega arith in e, let e : r .gates - 0 ≡ r .gates = omega arith in e, length-tab (r .gates) (gateOf r))
@@ -128,7 +123,7 @@ module _ (r : Network) (b g : ℕ) (whole : soundRecord r ≡ true) (within : g 
 
   module _ (free : barred ≡ false) where
     parts : (ltb b (readers (netOf r) signal) ≡ false) × (occurs (r .drivers) 0 (r .outputs) signal ≡ false)
-    parts = neither (ltb b (readers (netOf r) signal)) (occurs (r .drivers) 0 (r .outputs) signal) free
+    parts = or-false (ltb b (readers (netOf r) signal)) (occurs (r .drivers) 0 (r .outputs) signal) free
 
     pub pass-refused : Refused (fusion (gateOf r) (r .inputs) (r .gates) signal) → sweepFrom (netOf r) b signal (r .gates - g) ≡ sweepFrom (netOf r) b (r .inputs + (g + 1)) (r .gates - (g + 1))
     pass-refused h = turn-refused (netOf r) b (r .inputs) (r .gates) g within

@@ -18,13 +18,13 @@ use Rattle.evaluation.proofs.unchecked.gate_sum.Statement.{statement}
 use Rattle.evaluation.proofs.unchecked.gate_sum.Tie as tie
 
 abbrev Inv-loop : tie.InvT-loop
-Inv-loop signals weights values base count total₀ i₀ total i = Added (bitsIn values) signals weights base count i (toZ w64 total)
+Inv-loop signals weights values base count total₀ i₀ total i = Added 2147483648 (bitsIn values) signals weights base count i (toZ w64 total)
 
 abbrev μ-loop : tie.MeasureT-loop
 μ-loop signals weights values base count total₀ i₀ total i = count - i
 
 loop-holds : tie.Need-loop-holds Inv-loop μ-loop
-loop-holds c = added-none _ _ _ _ _
+loop-holds c = added-none _ _ _ _ _ _
 
 add-place : tie.Need-add-place Inv-loop μ-loop
 add-place c = search needs
@@ -77,13 +77,19 @@ module _ (c : tie.After-total Inv-loop μ-loop) where
   w-is = read-back w64 (c .before .widened .ok) (c .before .widened .ensures ∙ toZ-ofZ w-fits)
 
   x-is : toZ w64 (boolByte (getD bits (c .before .before .before .wide .result) false)) *ℤ toZ w64 (ofZ w64 (c .before .widened .result)) ≡ x
-  x-is = share-is bits (start .args .signals .now) (start .args .weights .now) place (c .before .before .before .wide .result) _ (c .before .before .before .wide .ensures .0) w-is
+  x-is =
+      let signal = c .before .before .before .wide in
+      share-is bits (start .args .signals .now) (start .args .weights .now) place (signal .result) _ (signal .ensures .0) w-is
 
   x-fits : SFits w64 x
   x-fits = share-fits (bitsIn bits) (start .args .signals .now) (start .args .weights .now) place (fits-size w-fits)
 
+  added : Added 2147483648 (bitsIn bits) (start .args .signals .now) (start .args .weights .now) (start .args .base) (start .args .count)
+      (at .loop .i + 1) (toZ w64 (at .loop .total) +ℤ x)
+  added = added-next (at .loop .inv) (omega arith) (fits-size w-fits)
+
   sum-fits : SFits w64 (toZ w64 (at .loop .total) +ℤ x)
-  sum-fits = added-fits (at .loop .inv) (start .pre .1) (omega arith) (fits-size w-fits)
+  sum-fits = added-fits added (start .pre .1)
 
 mul-total : tie.Need-mul-total Inv-loop μ-loop
 mul-total c = rw (x-is c) (x-fits c)
@@ -98,7 +104,7 @@ loop-less : tie.Need-loop-less Inv-loop μ-loop
 loop-less c = search needs
 
 loop-again : tie.Need-loop-again Inv-loop μ-loop
-loop-again c = rw (x-is c, toZ-ofZ (x-fits c), toZ-ofZ (sum-fits c)) (added-next (at c .loop .inv) (omega arith) (fits-size (w-fits c)))
+loop-again c = rw (x-is c, toZ-ofZ (x-fits c), toZ-ofZ (sum-fits c)) (added c)
 
 returns : tie.Need-returns Inv-loop μ-loop
 returns c = added-all (c .before .loop .inv) (omega arith)

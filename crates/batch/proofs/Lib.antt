@@ -1,0 +1,5 @@
+pub mod MaskLaws
+pub mod LaneLaws
+pub mod LaneSumLaws
+pub mod SignalLaneLaws
+pub mod RecordLaws

@@ -1,0 +1,72 @@
+-- The answer for a list of frames, as the code's tests find it, and what is left in the lent places. Assumes nothing.
+use mathlib.Core.Path.{_≡_, sym, ap, _∙_}
+use mathlib.Core.Bool.{true, false}
+use mathlib.Core.List.{List, [], _++_}
+use Prim.Native.Nat.{ℕ, _≤_, _<_}
+use native.Mathlib.Omega.{arith}
+use lib.ListN.{length, take, drop, length-map}
+use lib.Seq.{ext-getD, getD-take, length-take-le}
+use Rattle.integers.specs.Lists.{all}
+use Rattle.integers.specs.TableLaws.{getD-map}
+use Rattle.integers.specs.Refusals.{Answer, accepted, refused, codeOf, stored, checks}
+use Rattle.integers.specs.RefusalLaws.{checks-next}
+use Rattle.network.specs.Threshold.{fitsFrame}
+use Rattle.network.specs.Record.{layout, soundRecord}
+use Rattle.network.specs.declared.Network.{Network}
+use Rattle.evaluation.specs.Reading.{reading}
+use Rattle.batch.specs.Batch.{Readable, FirstWords}
+use Rattle.opening.specs.Opening.{FileOpen}
+use Rattle.opening.specs.AnswerLaws.{left-one}
+use Rattle.opening.specs.OpeningLaws.{file-sound, read-on}
+use Rattle.frames.specs.Frames.{roomFor, frameWords, framesAnswer, fileFrames}
+
+-- ---- the answers in order
+module _ (r : Network) (frames lent : List ℕ) where
+  pub answer-broken : soundRecord r ≡ false → framesAnswer r frames lent ≡ refused 20
+  unfolding framesAnswer checks
+  answer-broken s = rw s
+
+  pub answer-crowded : soundRecord r ≡ true → roomFor frames lent ≡ false → framesAnswer r frames lent ≡ refused 26
+  unfolding framesAnswer checks
+  answer-crowded s h = rw (s, h)
+
+  pub answer-long : soundRecord r ≡ true → roomFor frames lent ≡ true → all (fitsFrame (r .inputs)) frames ≡ false
+      → framesAnswer r frames lent ≡ refused 10
+  unfolding framesAnswer checks
+  answer-long s h f = rw (s, h, f)
+
+  pub answer-words : Readable r frames → roomFor frames lent ≡ true → framesAnswer r frames lent ≡ accepted (frameWords r frames)
+  unfolding framesAnswer checks
+  answer-words a h = rw (a .sound, h, a .fit)
+
+-- the answer for an accepted file is that of its record
+pub file-answer : {file : List ℕ} {r : Network} → FileOpen file 0 0 r → (frames lent : List ℕ) → fileFrames file frames lent ≡ framesAnswer r frames lent
+unfolding fileFrames framesAnswer layout
+file-answer {file} {r} a frames lent =
+    read-on a _
+    ∙ sym (checks-next (soundRecord (layout (a .net))) 20 _ _ (sym (ap soundRecord (a .laid)) ∙ file-sound a))
+    ∙ ap (λ (x : Network). framesAnswer x frames lent) (sym (a .laid))
+
+-- ---- what a call leaves
+
+-- the words in front, and every place after them as it was
+module _ (r : Network) {frames words : List ℕ} (few : length frames ≤ 64) (w : FirstWords r frames words) where
+  long : length (take (length frames) words) ≡ length frames
+  long = length-take-le (length frames) words (omega (arith, w .long))
+
+  first-words : take (length frames) words ≡ frameWords r frames
+  unfolding frameWords
+  first-words = ext-getD 0 (take (length frames) words) (frameWords r frames) (long ∙ sym (length-map frames (λ x. reading r x .bits)))
+      λ f k.
+      let l : f < length frames = omega (arith, long) in
+      getD-take (length frames) words f 0 l ∙ w .word f l ∙ sym (getD-map (λ x. reading r x .bits) frames f 0 0 l)
+
+  pub left-words : (lent : List ℕ) {new : List ℕ} {a : Answer (List ℕ)} → a ≡ accepted (frameWords r frames)
+      → new ≡ take (length frames) words ++ drop (length frames) lent → (0 ≡ codeOf a) × (new ≡ stored a lent)
+  unfolding codeOf stored frameWords
+  left-words lent {new} {a} e h =
+      let same : length frames ≡ length (frameWords r frames) = sym (length-map frames (λ x. reading r x .bits)) in
+      let left = left-one e lent [] in (
+        left .0,
+        h ∙ ap (λ (ws : List ℕ). ws ++ drop (length frames) lent) first-words ∙ ap (λ (n : ℕ). frameWords r frames ++ drop n lent) same ∙ left .1,
+      )
