@@ -152,24 +152,14 @@ fn frames_rows() {
     let file = reference::write(&net);
     let list: Vec<u64> = (0..64).map(|_| r.next() >> (64 - net.inputs)).collect();
     let (mut answers, mut answer) = ([0u64; 64], [0u64; 2]);
-    let read = time(|| {
-        black_box(library::check(black_box(&file)));
-    });
     for count in [1, 8, 16, 32, 33, 64] {
         let frames = &list[..count];
-        let together = time(|| {
-            black_box(library::frames(black_box(&file), frames, &mut answers));
-        });
-        let single = time(|| {
-            for &x in frames {
-                black_box(library::frame(black_box(&file), x, &mut answer));
-            }
-        });
-        let theirs = time(|| {
-            for &x in frames {
-                black_box(reference::frame(black_box(&net), x).unwrap());
-            }
-        });
+        let [read, together, single, theirs] = times([
+            &mut || assert_eq!(library::check(black_box(&file)), 0),
+            &mut || assert_eq!(library::frames(black_box(&file), frames, &mut answers), 0),
+            &mut || frames.iter().for_each(|&x| assert_eq!(library::frame(black_box(&file), x, &mut answer), 0)),
+            &mut || frames.iter().for_each(|&x| assert!(black_box(reference::frame(black_box(&net), x)).is_ok())),
+        ]);
         let pass = together.saturating_sub(read);
         let readings = single.saturating_sub(read * count as u32);
         let cells = [(pass, readings), (pass, theirs), (together, single)].map(|(one, all)| format!("{} | {}", text(all), ratio(one, all)));
