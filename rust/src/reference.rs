@@ -449,6 +449,21 @@ pub fn question(first: &Net, second: &Net) -> Answer<Vec<String>> {
     Ok(lines)
 }
 
+/// How many 0/1 solutions the question has: the sum over all frames of 2 to the power t, less 1, where t is the number of outputs that
+/// differ on the frame.
+pub fn ways(first: &Net, second: &Net) -> Answer<u64> {
+    if first.inputs != second.inputs || first.outputs.len() != second.outputs.len() {
+        return Err(19);
+    }
+    let mut sum = 0;
+    for x in 0..1u64 << first.inputs {
+        let (one, other) = (frame(first, x)?.0, frame(second, x)?.0);
+        let differing = (0..first.outputs.len()).filter(|j| one >> j & 1 != other >> j & 1).count();
+        sum += (1 << differing) - 1;
+    }
+    Ok(sum)
+}
+
 // ---- the program
 
 /// What `fold` prints for a network, and for what so many collapses made of it.
@@ -516,6 +531,21 @@ mod tests {
         assert_eq!(report(&net), [5, 21, 3]);
         assert_eq!(preview(&net, 3), Ok([4, 9, 3]));
         assert_eq!(preview(&net, 1), Ok([4, 17, 2]));
+    }
+
+    /// The example of the theorem: two outputs that name one gate, which differs on one of two frames.
+    #[test]
+    fn three_ways() {
+        let twice = |feeds: &[(usize, i64)], threshold| Net {
+            inputs: 1,
+            gates: vec![Gate { feeds: feeds.to_vec(), threshold }],
+            outputs: vec![1, 1],
+        };
+        let (input, one) = (twice(&[(0, 1)], 1), twice(&[], 0));
+        assert_eq!((ways(&input, &one), ways(&one, &input), ways(&one, &one)), (Ok(3), Ok(3), Ok(0)));
+        assert_eq!(ways(&input, &twice(&[], 1)), Ok(3));
+        assert_eq!(ways(&one, &twice(&[], 1)), Ok(6));
+        assert_eq!(ways(&input, &read(F).unwrap()), Err(19));
     }
 
     #[test]

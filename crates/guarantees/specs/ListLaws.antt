@@ -3,7 +3,6 @@ use mathlib.Core.Path.{_≡_, refl, sym, ap, _∙_, subst}
 use mathlib.Core.Bool.{true}
 use mathlib.Core.List.{List, [], _∷_}
 use Prim.Native.Nat.{ℕ}
-use borrow.Author.Tests.{eq-eqb}
 use lib.ListN.{length}
 use Rattle.integers.specs.Refusals.{checks}
 use Rattle.network.specs.Threshold.{Net, Assignment, frame, outputBits}
@@ -16,7 +15,7 @@ use Rattle.network.specs.declared.Network.{Network}
 use Rattle.folding.specs.Calls.{answer, leaves, calls}
 use Rattle.folding.specs.GuaranteeLaws.{step-sound, calls-agree, claim, list-kept}
 use Rattle.folding.specs.declared.Call.{Call}
-use Rattle.constraints.specs.Question.{alike}
+use Rattle.constraints.specs.AlikeLaws.{alike-of}
 use Rattle.constraints.specs.Demand.{Differ}
 use Rattle.lists.specs.ApplyLaws.{call-exact, call-record}
 use Rattle.format.specs.Format.{Bytes}
@@ -53,19 +52,14 @@ list-left r (c ∷ cs) s =
     }
 
 -- two sound records with as many inputs and the same output bits are read alike
-read-alike : (r q : Network) (x : ℕ) → soundRecord r ≡ true → soundRecord q ≡ true → q .inputs ≡ r .inputs → outputBits (netOf q) (frame x) ≡ outputBits (netOf r) (frame x)
-    → reading q x ≡ reading r x
+read-alike : (r q : Network) (x : ℕ) → soundRecord r ≡ true → soundRecord q ≡ true → q .inputs ≡ r .inputs
+    → outputBits (netOf q) (frame x) ≡ outputBits (netOf r) (frame x) → reading q x ≡ reading r x
 unfolding reading frameAnswer checks
 read-alike r q x s t e h = rw (s, t, h, e)
 
-inputs-of : (r : Network) → netOf r .inputs ≡ r .inputs
+pub inputs-of : (r : Network) → netOf r .inputs ≡ r .inputs
 unfolding netOf
 inputs-of r = refl
-
--- networks with as many inputs and as many outputs
-alike-of : (N M : Net) → N .inputs ≡ M .inputs → length (N .outputs) ≡ length (M .outputs) → alike N M ≡ true
-unfolding alike
-alike-of N M e f = rw (eq-eqb (N .inputs) (M .inputs) e, eq-eqb (length (N .outputs)) (length (M .outputs)) f)
 
 pub list-claim : (r : Network) (cs : List Call) → Holds r → ListClaim r cs
 list-claim r cs s =

@@ -4,11 +4,10 @@ use mathlib.Core.Path.{_≡_, sym, ap, _∙_, subst}
 use mathlib.Core.Bool.{true, _&&_}
 use Prim.Native.Nat.{ℕ, zero, suc, _+_, _*_, _-_, _≤_, _<_}
 use native.Mathlib.Omega.{arith}
-use borrow.Author.Tests.{eqb-true}
 use lib.Dec.{eqb}
 use lib.IntN.{natAbs}
 use lib.ListN.{length, getD}
-use Rattle.integers.specs.TestLaws.{T-is, and-left, and-right}
+use Rattle.integers.specs.TestLaws.{T-is}
 use Rattle.integers.specs.Lists.{Each}
 use Rattle.integers.specs.ListLaws.{each-getD}
 use Rattle.network.specs.Threshold.{Gate, Net}
@@ -22,6 +21,7 @@ use Rattle.network.specs.SoundLaws.{sized-of}
 use Rattle.network.specs.declared.GateRecord.{GateRecord}
 use Rattle.network.specs.declared.Network.{Network}
 use Rattle.constraints.specs.Question.{firstDifference, question, variables, alike}
+use Rattle.constraints.specs.AlikeLaws.{alike-inputs, alike-outputs}
 use Rattle.constraints.specs.Text.{lineText, noLine, headerText, questionText}
 use Rattle.constraints.specs.LineLaws.{question-length}
 use Rattle.constraints.specs.SizeLaws.{Narrow, question-narrow, line-short}
@@ -64,18 +64,18 @@ module _ {a b : Network} (p : Comparable a b) where
   pub small-counts : (a .inputs ≤ 40) × (a .gates ≤ 128) × (b .gates ≤ 128) × (a .outputs ≤ 16)
   small-counts = let x = sized-of a (p .first-sound) in (x .few-inputs, x .few-gates, sized-of b (p .second-sound) .few-gates, x .few-outputs)
 
-  pub same-inputs : a .inputs ≡ b .inputs
-  same-inputs = eqb-true (a .inputs) (b .inputs) (and-left _ (eqb (a .outputs) (b .outputs)) (alike-is a b ∙ p .same-counts))
+  pub same-drivers : length (netOf a .outputs) ≡ length (netOf b .outputs)
+  same-drivers = alike-outputs (netOf a) (netOf b) (p .same-counts)
 
   pub same-outputs : a .outputs ≡ b .outputs
-  same-outputs = eqb-true (a .outputs) (b .outputs) (and-right (eqb (a .inputs) (b .inputs)) _ (alike-is a b ∙ p .same-counts))
-
-  pub same-drivers : length (netOf a .outputs) ≡ length (netOf b .outputs)
-  same-drivers = count-outputs a ∙ same-outputs ∙ sym (count-outputs b)
+  same-outputs = sym (count-outputs a) ∙ same-drivers ∙ count-outputs b
 
   same-signals : netOf a .inputs ≡ netOf b .inputs
+  same-signals = alike-inputs (netOf a) (netOf b) (p .same-counts)
+
+  pub same-inputs : a .inputs ≡ b .inputs
   unfolding netOf
-  same-signals = same-inputs
+  same-inputs = same-signals
 
   first-net : Sound (netOf a)
   first-net = sound-net a (T-is (soundRecord a) (p .first-sound))

@@ -1,5 +1,5 @@
-//! Writes questions of the library into a folder, for a solver: each file's name says whether the question has a solution, as found by
-//! trying every frame with the independent implementation.
+//! Writes questions of the library into a folder, for a solver: each file's name says whether the question has a solution, and how many,
+//! as found by trying every frame with the independent implementation.
 //!
 //!     questions FOLDER COUNT
 use std::{env, fs, path::Path};
@@ -46,10 +46,28 @@ fn moved(r: &mut Random, net: &Net) -> Net {
     other
 }
 
+/// The second network with its outputs at other gates, as long as the question has at most so many solutions.
+fn rewired(r: &mut Random, first: &Net, second: &Net) -> Net {
+    const MOST: u64 = 100_000;
+    let gates = second.gates.len();
+    let mut other = second.clone();
+    for j in 0..second.outputs.len() {
+        let mut next = other.clone();
+        let step = 1 + r.below(gates.max(2) as u64 - 1) as usize;
+        next.outputs[j] = second.inputs + (second.outputs[j] - second.inputs + step) % gates;
+        if reference::ways(first, &next).unwrap() > MOST {
+            break;
+        }
+        other = next;
+    }
+    other
+}
+
 fn store(folder: &Path, number: usize, first: &Net, second: &Net) {
     let word = if differ(first, second) { "satisfiable" } else { "unsatisfiable" };
+    let ways = reference::ways(first, second).unwrap();
     let text = question(&reference::write(first), &reference::write(second));
-    fs::write(folder.join(format!("{number:04}.{word}.opb")), text).unwrap();
+    fs::write(folder.join(format!("{number:04}.{word}.{ways}.opb")), text).unwrap();
 }
 
 fn main() {
@@ -59,7 +77,7 @@ fn main() {
     let count: usize = count.parse().unwrap();
     let mut r = Random::new(11);
     let (mut number, mut against) = (0, 0);
-    while number < 2 * count {
+    while number < 3 * count {
         let net = match r.below(8) {
             0 | 1 => chain(&mut r),
             2 => inverters(&mut r),
@@ -71,7 +89,8 @@ fn main() {
         let after = reference::read(&swept(&reference::write(&net))).unwrap();
         store(folder, number, &net, &after);
         store(folder, number + 1, &net, &moved(&mut r, &after));
-        number += 2;
+        store(folder, number + 2, &net, &rewired(&mut r, &net, &after));
+        number += 3;
         let collapses = reference::sweep(&net, 128).unwrap().1;
         against += collapses.iter().any(|(before, u)| !before.voted_against(*u as usize).is_empty()) as usize;
     }
