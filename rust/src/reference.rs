@@ -549,6 +549,22 @@ mod tests {
     }
 
     #[test]
+    fn the_fewest_lit_patches() {
+        let f = read(F).unwrap();
+        assert_eq!(distinct(&f, 3, 4), Ok(vec![0, 1, 2]));
+        // "[4,3,2;7] differs at 1,1 with y = 0"
+        assert_eq!(witnesses(&f, 3, 4, 1, 2), Ok(vec![0b011]));
+        assert_eq!((witnesses(&f, 3, 4, 1, 3), witnesses(&f, 3, 4, 1, 33)), (Ok(vec![]), Err(14)));
+        assert_eq!((distinct(&f, 2, 4), distinct(&f, 4, 3), witnesses(&f, 4, 3, 1, 1)), (Err(11), Err(12), Err(12)));
+        // [ ;0] is 1 where one of x and y is lit, P9's v is not; signals 1 and 2 are the distinct ones
+        let u = Gate { feeds: vec![(1, -1), (2, -1)], threshold: 0 };
+        let v = Gate { feeds: vec![(1, 1), (2, 1), (3, 2)], threshold: 2 };
+        let p9 = Net { inputs: 3, gates: vec![u, v], outputs: vec![4] };
+        assert_eq!(distinct(&p9, 3, 4), Ok(vec![1, 2]));
+        assert_eq!(witnesses(&p9, 3, 4, 1, 1), Ok(vec![0b01, 0b10]));
+    }
+
+    #[test]
     fn the_bench_gates() {
         let net = |u: &[(usize, i64)], tu, v: &[(usize, i64)], tv| Net {
             inputs: 3,

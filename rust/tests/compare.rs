@@ -744,25 +744,45 @@ fn witness_agrees(net: &Net, file: &[u8], call: &[u64; 5]) -> (u8, u32) {
     (got, lit)
 }
 
-/// Witnesses of random merges and of merges with 16 distinct feeds, each held to all settings with the fewest lit.
+/// How often a run came to each code of a merge, and to witnesses with none, one and more lit.
+#[derive(Default)]
+struct Shown {
+    codes: BTreeMap<u8, u64>,
+    lit: [u64; 3],
+}
+
+impl Shown {
+    fn count(&mut self, (code, lit): (u8, u32)) {
+        *self.codes.entry(code).or_default() += 1;
+        self.lit[lit.min(2) as usize] += (code == 15) as u64;
+    }
+
+    /// Prints what the run came to, and asks for so much of it.
+    fn at_least(&self, what: &str, codes: &[(u8, u64)], lit: [u64; 3]) {
+        println!("{what}: {:?}, witnesses with none, one and more lit {:?}", self.codes, self.lit);
+        for &(code, least) in codes {
+            assert!(self.codes.get(&code).copied().unwrap_or(0) >= least, "{what}: {code}");
+        }
+        assert!(self.lit.iter().zip(lit).all(|(&count, least)| count >= least), "{what}");
+    }
+}
+
+/// Witnesses of random merges, and of merges with 16 distinct feeds, each held to every setting with the fewest lit.
 #[test]
 fn witnesses() {
     let mut r = Random::new(13);
-    let mut codes: BTreeMap<u8, u64> = BTreeMap::new();
-    let (mut none, mut one, mut more) = (0, 0, 0);
-    for round in 0..40_000 {
+    let mut shown = Shown::default();
+    for round in 0..30_000 {
         let net = some_network(&mut r, if round % 8 == 0 { 9 } else { 5 });
-        let call = random_call(&mut r, &net);
-        if call[0] != 0 {
-            continue;
-        }
         let file = paper::write(&net);
-        let (code, lit) = witness_agrees(&net, &file, &call);
-        *codes.entry(code).or_default() += 1;
-        if code == 15 {
-            none += (lit == 0) as u64;
-            one += (lit == 1) as u64;
-            more += (lit > 1) as u64;
+        let mut call = random_call(&mut r, &net);
+        if call[0] == 0 {
+            shown.count(witness_agrees(&net, &file, &call));
+        }
+        let u = net.inputs + r.below(net.gates.len() as u64) as usize;
+        if let Some(&v) = net.readers(u).last() {
+            call = [0, u as u64, v as u64, 1 + r.below(5), 1 + r.below(5)];
+            shown.count(witness_agrees(&net, &file, &call));
         }
         let broken = damaged(&mut r, &file);
         if let Err(code) = paper::read(&broken) {
@@ -771,21 +791,21 @@ fn witnesses() {
             assert_eq!((distinct(&broken, call[1], call[2], &mut places), places), (code, [MARK; 17]));
         }
     }
-    println!("witnesses: {codes:?}, {none} with none lit, {one} with one, {more} with more");
-    let (mut wide_ones, mut wide_more) = (0, 0);
-    for _ in 0..600 {
+    let codes = [(0, 8_000), (6, 1_500), (7, 60), (11, 3_000), (12, 1_000), (14, 300), (15, 4_500)];
+    shown.at_least("random merges", &codes, [1_800, 1_500, 1_000]);
+    let mut wide = Shown::default();
+    for _ in 0..250 {
         let net = wide_pair(&mut r);
         let (k, l) = match exact::pair(&net, 16, 17) {
-            Ok((k, l)) if r.below(2) == 0 => (k, (l + 32 - r.below(2)).clamp(1, 32)),
+            Ok((k, l)) if r.below(2) == 0 => (k, if l > 1 { l - 1 } else { 32 }),
             _ => (1 + r.below(32), 1 + r.below(32)),
         };
-        let (code, lit) = witness_agrees(&net, &paper::write(&net), &[0, 16, 17, k, l]);
-        wide_ones += (code == 15) as u64;
-        wide_more += (code == 15 && lit > 1) as u64;
+        wide.count(witness_agrees(&net, &paper::write(&net), &[0, 16, 17, k, l]));
     }
-    println!("with 16 distinct feeds: {wide_ones}, {wide_more} with more than one lit");
     for least in 1..=17 {
-        let (code, lit) = witness_agrees(&lit_from(least), &paper::write(&lit_from(least)), &[0, 16, 17, 1, 1]);
-        assert_eq!((code, lit), if least == 17 { (0, 0) } else { (15, least) });
+        let net = lit_from(least);
+        let got = witness_agrees(&net, &paper::write(&net), &[0, 16, 17, 1, 1]);
+        assert_eq!(got, if least == 17 { (0, 0) } else { (15, least) });
     }
+    wide.at_least("merges with 16 distinct feeds", &[(0, 10), (6, 40), (15, 140)], [30, 20, 70]);
 }
