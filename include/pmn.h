@@ -2,12 +2,12 @@
  *
  * Every function takes whole files and numbers, and answers 0 or the number of a refusal (the table of codes in document 01; 26 is from
  * document 02). The number 13 is never given.
- * A slice is a pointer and then a length, in bytes for uint8_t and in numbers for uint64_t. A slice that is written overlaps
+ * A slice is a pointer and then a length, in bytes for uint8_t and in numbers for uint64_t and int64_t. A slice that is written overlaps
  * no other slice of the same call. A pointer is not null, even where the length is 0.
  *
- * Every function reads its file first: the refusal is the read's ("as read", 1 to 9), before any other. On a refusal everything that was
- * lent is left as it was; where the answer is 0, places and bytes after those named are left as they were. pmn_witness alone writes where
- * its answer is not 0: with 15, and only then. */
+ * Every function but pmn_three_feeds, which is given no file, reads its file first: the refusal is the read's ("as read", 1 to 9), before
+ * any other. On a refusal everything that was lent is left as it was; where the answer is 0, places and bytes after those named are left
+ * as they were. pmn_witness alone writes where its answer is not 0: with 15, and only then. */
 #ifndef PMN_H
 #define PMN_H
 
@@ -100,6 +100,13 @@ uint8_t pmn_run(const uint8_t *file, size_t file_length,
                 const uint64_t *calls, size_t calls_length,
                 uint64_t *answers, size_t answers_length,
                 uint8_t *out, size_t out_length);
+
+/* The entry of a truth table of three feeds: bit s of table is the value on setting s, and bit i of s is feed i, from 0.
+ * Where a gate has that function, answer[0] is 1, answer[1] to answer[3] are the weights of feeds 0, 1 and 2 (-2 to 2, 0 leaves the feed
+ * out), and answer[4] is T (-4 to 4). Where no gate of any weights has it, answer[0] is 0, answer[1] and answer[2] are two settings that
+ * are 1, and answer[3] and answer[4] two that are 0 (repeats allowed), whose feed-by-feed sums are equal.
+ * Codes in order: 18 where answer has under 5 places, 14 where table is above 255. */
+uint8_t pmn_three_feeds(uint64_t table, int64_t *answer, size_t answer_length);
 
 #ifdef __cplusplus
 }

@@ -63,6 +63,7 @@ mod raw {
             answer: *mut u64,
             answer_length: usize,
         ) -> u8;
+        pub fn pmn_three_feeds(table: u64, answer: *mut i64, answer_length: usize) -> u8;
     }
 }
 
@@ -135,4 +136,8 @@ pub fn write(file: &[u8], out: &mut [u8], answer: &mut [u64]) -> u8 {
 
 pub fn part(file: &[u8], signal: u64, out: &mut [u8], answer: &mut [u64]) -> u8 {
     unsafe { raw::pmn_part(file.as_ptr(), file.len(), signal, out.as_mut_ptr(), out.len(), answer.as_mut_ptr(), answer.len()) }
+}
+
+pub fn three_feeds(table: u64, answer: &mut [i64]) -> u8 {
+    unsafe { raw::pmn_three_feeds(table, answer.as_mut_ptr(), answer.len()) }
 }

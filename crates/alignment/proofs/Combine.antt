@@ -10,10 +10,9 @@ use lib.Seq.{getD-take}
 use Rattle.integers.specs.Lists.{keep, range, places}
 use Rattle.integers.specs.ListLaws.{length-keep, length-range, range-more}
 use Rattle.network.specs.Threshold.{Feed}
-use Rattle.network.specs.Limits.{signalsOf, isZero}
+use Rattle.network.specs.Limits.{signalsOf, isZero, stays}
 use Rattle.network.specs.Record.{gateRecord}
 use Rattle.network.specs.declared.GateRecord.{GateRecord}
-use Rattle.folding.specs.Merge.{stays}
 use Rattle.folding.specs.Aligned.{mix, mixedThreshold, mixedWeight}
 use Rattle.alignment.specs.Alignments.{alignedIn, mixedFeed, mergedOf, Mixable, Mergeable}
 use Rattle.alignment.specs.AlignmentLaws.{gate-places}

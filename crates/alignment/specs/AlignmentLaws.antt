@@ -12,9 +12,9 @@ use lib.ListN.{length, getD, take, length-map, List·getD-map, List·getD-eq-def
 use Rattle.integers.specs.Lists.{keep, tab, places, Small}
 use Rattle.integers.specs.ListLaws.{tab-of, tab-same}
 use Rattle.network.specs.Threshold.{Feed, negated, Gate}
-use Rattle.network.specs.Limits.{signalsOf}
+use Rattle.network.specs.Limits.{signalsOf, stays}
 use Rattle.network.specs.Record.{noFeed, gateRecord}
-use Rattle.folding.specs.Merge.{Edge, weightOf, feedWeight, distinct, complement, votesFor, voter, whereOn, whereOff, mergedFeed, stays, mergedThreshold, merged}
+use Rattle.folding.specs.Merge.{Edge, weightOf, feedWeight, distinct, complement, votesFor, voter, whereOn, whereOff, mergedFeed, mergedThreshold, merged}
 use Rattle.folding.specs.Aligned.{Aligned, edgeThresholds, aligned, mix, mixedThreshold, mixedWeight}
 use Rattle.folding.specs.AlignedLaws.{EdgeOk, us-length, vs-length, fed-small, aligned-small, vote-for}
 use Rattle.folding.specs.WeightLaws.{weight-negated}

@@ -5,9 +5,10 @@ use lib.IntN.{ℤ, pos, natAbs, negℤ, _-ℤ_}
 use lib.ListN.{length, getD, take}
 use Rattle.integers.specs.Lists.{keep, range, tab, places, Small}
 use Rattle.network.specs.Threshold.{Feed, Gate}
+use Rattle.network.specs.Limits.{stays}
 use Rattle.network.specs.Record.{gateIn}
 use Rattle.network.specs.declared.GateRecord.{GateRecord}
-use Rattle.folding.specs.Merge.{Edge, edgeOf, weightOf, distinct, stays}
+use Rattle.folding.specs.Merge.{Edge, edgeOf, weightOf, distinct}
 use Rattle.folding.specs.Aligned.{Aligned, aligned, fedBy, mixedThreshold, mixedWeight}
 use Rattle.folding.specs.AlignedLaws.{EdgeOk}
 use Rattle.folding.specs.declared.Thresholds.{Thresholds}

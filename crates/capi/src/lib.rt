@@ -1,11 +1,12 @@
-// The folder for C and Rust: each function takes a PMN file and numbers, and answers 0 or the refusal. include/pmn.h has the
-// declarations; a slice is a pointer and then a length.
+// The folder for C and Rust: each function takes a PMN file and numbers (the last takes a number alone), and answers 0 or the refusal.
+// include/pmn.h has the declarations; a slice is a pointer and then a length.
 ghost use mathlib.Core.Path.{_≡_};
 ghost use Rattle.integers.specs.Refusals.{codeOf, stored};
 ghost use lib.ListN.{length};
 ghost use Rattle.frames.specs.Frames.{fileFrames};
 ghost use Rattle.opening.specs.Files.{readNet, openNet, lengthOf};
 ghost use Rattle.preview.specs.Files.{previewPlaces};
+ghost use Rattle.three_feeds.specs.Places.{entryPlaces};
 ghost use Rattle.witness.specs.Files.{WitnessLeft, distinctPlaces};
 ghost use Rattle.capi.specs.Exports.{framePlaces, pairPlaces, reportPlaces, fileOut, partOut, lineOut};
 ghost use Rattle.capi.specs.RunAnswers.{runAnswer, ranFile, ranNumbers};
@@ -197,4 +198,14 @@ pub extern "C" fn pmn_run(file: &[u8], calls: &[u64], answers: &mut [u64], out: 
     let after = runs::unchecked::run_storing(loaded.network, calls, answers);
     let written = pmn_writer::write(after, out);
     opening::unchecked::places::put_one(answers, written.code, written.length as u64)
+}
+
+// The entry of a truth table of three feeds: 1, the three weights and T go into the first five places of the answer; or 0, two settings
+// that are 1 and two that are 0.
+#[no_mangle]
+pub extern "C" fn pmn_three_feeds(table: u64, answer: &mut [i64]) -> u8
+    ensures { λ r. ⌜ r ≡ codeOf (entryPlaces table (now (answer .entry))) ⌝ }
+    ensures { λ _. ⌜ now (answer .exit) ≡ stored (entryPlaces table (now (answer .entry))) (now (answer .entry)) ⌝ }
+{
+    three_feeds::places::put_entry(table, answer)
 }

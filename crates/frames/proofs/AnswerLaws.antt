@@ -1,7 +1,7 @@
 -- The answer for a list of frames, as the code's tests find it, and what is left in the lent places. Assumes nothing.
 use mathlib.Core.Path.{_≡_, sym, ap, _∙_}
 use mathlib.Core.Bool.{true, false}
-use mathlib.Core.List.{List, [], _++_}
+use mathlib.Core.List.{List, _++_}
 use Prim.Native.Nat.{ℕ, _≤_, _<_}
 use native.Mathlib.Omega.{arith}
 use lib.ListN.{length, take, drop, length-map}
@@ -9,14 +9,13 @@ use lib.Seq.{ext-getD, getD-take, length-take-le}
 use Rattle.integers.specs.Lists.{all}
 use Rattle.integers.specs.TableLaws.{getD-map}
 use Rattle.integers.specs.Refusals.{Answer, accepted, refused, codeOf, stored, checks}
-use Rattle.integers.specs.RefusalLaws.{checks-next}
+use Rattle.integers.specs.RefusalLaws.{checks-next, left-one}
 use Rattle.network.specs.Threshold.{fitsFrame}
 use Rattle.network.specs.Record.{layout, soundRecord}
 use Rattle.network.specs.declared.Network.{Network}
 use Rattle.evaluation.specs.Reading.{reading}
 use Rattle.batch.specs.Batch.{Readable, FirstWords}
 use Rattle.opening.specs.Opening.{FileOpen}
-use Rattle.opening.specs.AnswerLaws.{left-one}
 use Rattle.opening.specs.OpeningLaws.{file-sound, read-on}
 use Rattle.frames.specs.Frames.{roomFor, frameWords, framesAnswer, fileFrames}
 
@@ -66,7 +65,7 @@ module _ (r : Network) {frames words : List ℕ} (few : length frames ≤ 64) (w
   unfolding codeOf stored frameWords
   left-words lent {new} {a} e h =
       let same : length frames ≡ length (frameWords r frames) = sym (length-map frames (λ x. reading r x .bits)) in
-      let left = left-one e lent [] in (
+      let left = left-one e lent in (
         left .0,
         h ∙ ap (λ (ws : List ℕ). ws ++ drop (length frames) lent) first-words ∙ ap (λ (n : ℕ). frameWords r frames ++ drop n lent) same ∙ left .1,
       )

@@ -10,7 +10,7 @@ use native.Mathlib.Omega.{arith}
 use lib.Dec.{T, T-not, eqb, eqb→eq, eqb-refl}
 use lib.ListN.{length, getD, replicate, length-map, length-replicate, getD-replicate}
 use lib.Seq.{ext-getD}
-use Rattle.integers.specs.Lists.{all, below, keep, range, tab, other, Each}
+use Rattle.integers.specs.Lists.{all, allFrom, below, keep, range, tab, other, Each}
 use Rattle.integers.specs.TestLaws.{is-true, T-is, refuted, fails, T-and, and-T, cond-case, other-ne}
 
 -- ---- below: a test at each number
@@ -41,6 +41,14 @@ below-no n p s h e = refuted (below n p) (λ t. fails (p s) e (below-at n p t s 
 
 -- ---- each member
 module _ {A : Type 0} where
+  -- a test of each member with its number, at one
+  pub allFrom-at : (p : ℕ → A → Bool) (n : ℕ) (xs : List A) (d : A) → T (allFrom p n xs) → (i : ℕ) → i < length xs → T (p (n + i) (getD xs i d))
+  unfolding allFrom
+  allFrom-at p n [] d t i h = absurd (omega arith)
+  allFrom-at p n (x ∷ xs) d t zero h = rw (let e : n + 0 ≡ n = omega arith in e) (T-and (p n x) (allFrom p (suc n) xs) t .0)
+  allFrom-at p n (x ∷ xs) d t (suc i) h =
+      rw (let e : n + suc i ≡ suc n + i = omega arith in e) (allFrom-at p (suc n) xs d (T-and (p n x) (allFrom p (suc n) xs) t .1) i (omega arith))
+
   pub each-of : (p : A → Bool) (P : A → Type 0) → ((x : A) → T (p x) → P x) → (xs : List A) → T (all p xs) → Each P xs
   unfolding all
   each-of p P f [] t = tt

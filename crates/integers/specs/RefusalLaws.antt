@@ -1,10 +1,10 @@
 -- Laws of answers and refusals. Assumes nothing.
-use mathlib.Core.Path.{_≡_, refl, sym}
+use mathlib.Core.Path.{_≡_, refl, sym, ap}
 use mathlib.Core.Bool.{Bool, true, false}
 use mathlib.Core.List.{List, [], _∷_}
 use Prim.Native.Nat.{ℕ}
 use native.Mathlib.Omega.{arith}
-use Rattle.integers.specs.Refusals.{Answer, accepted, refused, Test, _else_, checks, bind, Passed}
+use Rattle.integers.specs.Refusals.{Answer, accepted, refused, codeOf, stored, Test, _else_, checks, bind, Passed}
 
 pub accepted≢refused : {A X : Type 0} {a : A} {c : ℕ} → accepted a ≡ refused c → X
 accepted≢refused e = let z : _≡_ {A = ℕ} 0 1 = cc in absurd (omega arith)
@@ -41,3 +41,14 @@ pub bind-accepted : {A B : Type 0} (r : Answer A) (f : A → Answer B) {b : B} �
 unfolding bind
 bind-accepted (accepted a) f e = (a, refl, e)
 bind-accepted (refused c) f e = accepted≢refused (sym e)
+
+-- ---- what an answer leaves in one lent slice
+module _ {A : Type 0} {a : Answer (List A)} where
+  -- equal answers leave the same
+  pub left-one : {b : Answer (List A)} → a ≡ b → (lent : List A) → (codeOf b ≡ codeOf a) × (stored b lent ≡ stored a lent)
+  left-one e lent = (sym (ap codeOf e), sym (ap (λ (x : Answer (List A)). stored x lent) e))
+
+  -- a refusal: its number, and everything as it was
+  pub refused-one : {k : ℕ} (lent : List A) → a ≡ refused k → (k ≡ codeOf a) × (lent ≡ stored a lent)
+  unfolding codeOf stored
+  refused-one lent e = left-one e lent

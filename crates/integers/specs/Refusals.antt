@@ -17,7 +17,7 @@ codeOf (accepted a) = 0
 codeOf (refused k) = k
 
 -- what a call leaves in lent places: a list at the front and what stood after it, or what stood there
-unfoldable pub stored : Answer (List ℕ) → List ℕ → List ℕ
+unfoldable pub stored : {A : Type 0} → Answer (List A) → List A → List A
 stored (accepted xs) lent = xs ++ drop (length xs) lent
 stored (refused k) lent = lent
 

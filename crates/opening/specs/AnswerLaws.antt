@@ -1,22 +1,19 @@
 -- Laws of what the functions answer: what an answer leaves in the lent places. Assumes nothing.
 use mathlib.Core.Path.{_≡_, refl, sym, ap, _∙_}
-use mathlib.Core.List.{List, [], _++_}
+use mathlib.Core.List.{List, _++_}
 use Prim.Native.Nat.{ℕ, zero, suc, _≤_}
 use native.Mathlib.Nat.{zero-add}
 use native.Mathlib.Omega.{arith}
 use lib.ListN.{length, drop}
 use lib.Seq.{sets, sets-eq}
 use Rattle.integers.specs.Refusals.{Answer, accepted, refused, bind, codeOf, stored}
+use Rattle.integers.specs.RefusalLaws.{left-one}
 use Rattle.opening.specs.Files.{lengthOf}
 use Rattle.opening.specs.Places.{answerOf}
 
 -- ---- answers
 module _ {a b : Answer (List ℕ)} (e : a ≡ b) (lent out : List ℕ) where
-  -- equal answers leave the same in one lent slice
-  pub left-one : (codeOf b ≡ codeOf a) × (stored b lent ≡ stored a lent)
-  left-one = (sym (ap codeOf e), sym (ap (λ (x : Answer (List ℕ)). stored x lent) e))
-
-  -- and in bytes and the place of their length
+  -- equal answers leave the same in bytes and the place of their length
   pub left-two : (codeOf b ≡ codeOf a) × ((stored b out ≡ stored a out) × (stored (lengthOf b) lent ≡ stored (lengthOf a) lent))
   left-two = (
     sym (ap codeOf e),
@@ -24,10 +21,6 @@ module _ {a b : Answer (List ℕ)} (e : a ≡ b) (lent out : List ℕ) where
   )
 
 -- a refusal: its number, and everything as it was
-pub refused-one : {a : Answer (List ℕ)} {k : ℕ} (lent : List ℕ) → a ≡ refused k → (k ≡ codeOf a) × (lent ≡ stored a lent)
-unfolding codeOf stored
-refused-one lent e = left-one e lent []
-
 pub refused-two : {a : Answer (List ℕ)} {k : ℕ} (out lent : List ℕ) → a ≡ refused k
     → (k ≡ codeOf a) × ((out ≡ stored a out) × (lent ≡ stored (lengthOf a) lent))
 unfolding codeOf stored lengthOf
@@ -57,4 +50,4 @@ module _ (k : ℕ) (xs lent : List ℕ) where
   -- the function's answer, where it is that of the call
   pub placed : {a : Answer (List ℕ)} {r : ℕ} {after : List ℕ} → a ≡ answerOf k xs → (r ≡ k) × (after ≡ stored (answerOf k xs) lent)
       → (r ≡ codeOf a) × (after ≡ stored a lent)
-  placed e h = let l = left-one e lent [] in (h .0 ∙ code-of ∙ l .0, h .1 ∙ l .1)
+  placed e h = let l = left-one e lent in (h .0 ∙ code-of ∙ l .0, h .1 ∙ l .1)

@@ -36,7 +36,7 @@ fn put_feeds<'a>(out: &mut [u8], signals: &'a [u8; 16], weights: &'a [i32; 16], 
 }
 
 // One gate: its feed count, its threshold and its feeds. The answer is its length.
-fn put_gate(out: &mut [u8], gate: GateRecord) -> usize
+pub fn put_gate(out: &mut [u8], gate: GateRecord) -> usize
     requires { ⌜ (gate .fanin ≤ 16) × (5 + 5 * gate .fanin ≤ length (now out)) ⌝ }
     ensures { λ r. ⌜ r ≡ 5 + 5 * gate .fanin ⌝ }
     ensures { λ r. ⌜ now (out .exit) ≡ gateBytes (gateIn gate) ++ drop r (now (out .entry)) ⌝ }

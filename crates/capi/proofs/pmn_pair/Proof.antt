@@ -2,7 +2,8 @@
 use borrow.Author.Needs.{needs}
 use mathlib.Core.List.{[], _∷_}
 use Rattle.capi.specs.Exports.{pairPlaces}
-use Rattle.opening.specs.AnswerLaws.{refused-one, placed}
+use Rattle.integers.specs.RefusalLaws.{refused-one}
+use Rattle.opening.specs.AnswerLaws.{placed}
 use Rattle.opening.specs.OpeningLaws.{open-refused}
 use Rattle.capi.specs.ExportLaws.{pair-answer}
 use Rattle.capi.proofs.pmn_pair.Statement.{statement}

@@ -2,7 +2,7 @@
 use mathlib.Core.Path.{sym, _∙_}
 use borrow.Author.Needs.{needs}
 use borrow.Author.Tests.{not-true, not-false}
-use Rattle.opening.specs.AnswerLaws.{refused-one}
+use Rattle.integers.specs.RefusalLaws.{refused-one}
 use Rattle.frames.proofs.AnswerLaws.{answer-broken}
 use Rattle.frames.proofs.read_frames.Statement.{statement}
 use Rattle.frames.proofs.read_frames.Tie as tie

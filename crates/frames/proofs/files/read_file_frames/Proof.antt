@@ -1,8 +1,7 @@
 -- The read's refusal, then the reading of the file's record, which is sound. Assumes nothing.
 use mathlib.Core.Path.{_∙_}
-use mathlib.Core.List.{[]}
 use borrow.Author.Needs.{needs}
-use Rattle.opening.specs.AnswerLaws.{left-one, refused-one}
+use Rattle.integers.specs.RefusalLaws.{left-one, refused-one}
 use Rattle.opening.specs.OpeningLaws.{file-sound, read-refused}
 use Rattle.frames.specs.Frames.{fileFrames}
 use Rattle.frames.proofs.AnswerLaws.{file-answer}
@@ -31,7 +30,7 @@ returns-2 c =
     let left = read .before .before in
     let a = left .before .before .before .before .before .before .args in
     let file = left .before .refusal .ensures .gives (left .if1 .left) in
-    let same = left-one (file-answer file (a .frames .now) (a .answers .now)) (a .answers .now) [] in
+    let same = left-one (file-answer file (a .frames .now) (a .answers .now)) (a .answers .now) in
     (read .read-sound .ensures .0 ∙ same .0, read .read-sound .ensures .1 ∙ same .1)
 
 pub read-file-frames-spec : {M : Type 1} → statement M

@@ -4,7 +4,7 @@ use borrow.Author.Needs.{needs}
 use borrow.Author.Tests.{not-true, not-false}
 use Rattle.network.specs.SoundLaws.{sized-of}
 use Rattle.batch.specs.Batch.{Readable}
-use Rattle.opening.specs.AnswerLaws.{refused-one}
+use Rattle.integers.specs.RefusalLaws.{refused-one}
 use Rattle.frames.proofs.RoomLaws.{no-room, room-few, room-fits, room-yes}
 use Rattle.frames.proofs.AnswerLaws.{answer-crowded, answer-long, answer-words, left-words}
 use Rattle.frames.proofs.unchecked.read_sound.Statement.{statement}

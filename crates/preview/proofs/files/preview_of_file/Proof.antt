@@ -1,7 +1,8 @@
 -- The refusal, then the preview of the file's network.
 use borrow.Author.Needs.{needs}
 use mathlib.Core.List.{[], _∷_}
-use Rattle.opening.specs.AnswerLaws.{refused-one, placed}
+use Rattle.integers.specs.RefusalLaws.{refused-one}
+use Rattle.opening.specs.AnswerLaws.{placed}
 use Rattle.opening.specs.OpeningLaws.{open-refused}
 use Rattle.preview.specs.Files.{previewPlaces}
 use Rattle.preview.specs.FileLaws.{preview-answer}

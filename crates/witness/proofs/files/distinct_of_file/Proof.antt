@@ -1,6 +1,7 @@
 -- `witness::files::distinct_of_file` meets its contract: the refusal, then the distinct feeds in the file's network. Assumes nothing.
 use borrow.Author.Needs.{needs}
-use Rattle.opening.specs.AnswerLaws.{refused-one, placed}
+use Rattle.integers.specs.RefusalLaws.{refused-one}
+use Rattle.opening.specs.AnswerLaws.{placed}
 use Rattle.opening.specs.OpeningLaws.{open-refused}
 use Rattle.witness.specs.Parts.{feedPlaces}
 use Rattle.witness.specs.Files.{distinctPlaces}
