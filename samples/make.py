@@ -1,11 +1,13 @@
 #!/usr/bin/env python3
 """Writes the sample files of this folder: python3 samples/make.py
+Or puts PMN files together to an alley file: python3 samples/make.py ALLEY FILE ..
 
 Each sample is a PMN file, version 1, of a mask that a mechanic would recognise. A gate is a list of feeds (signal, weight) and a
 threshold; inputs have the signals 0 to inputs - 1, and gates follow in order.
 """
 import os
 import struct
+import sys
 
 HERE = os.path.dirname(os.path.abspath(__file__))
 
@@ -108,6 +110,28 @@ def no_fold():
     mask.write("no_fold.pmn", outputs)
 
 
+def read(name):
+    with open(name, "rb") as file:
+        return file.read()
+
+
+def alley(name, lanes):
+    """An alley file: each lane is a 16-bit little-endian length and its file."""
+    data = b"".join(struct.pack("<H", len(lane)) + lane for lane in lanes)
+    with open(name, "wb") as file:
+        file.write(data)
+    print(f"{os.path.basename(name)}: {len(data)} bytes, {len(lanes)} lanes")
+
+
+def six_lanes():
+    """An alley of six lanes: the third has a corner pin's mask that was cut off when it was copied, the fifth a file that is no mask."""
+    rack, shadows, corner = (read(os.path.join(HERE, f"{mask}.pmn")) for mask in ("full_rack", "shadow_rack", "corner_pin"))
+    alley(os.path.join(HERE, "six_lanes.alley"), [rack, shadows, corner[:-9], rack, b"lane 5: see the workshop", corner])
+
+
 if __name__ == "__main__":
-    for sample in (f, full_rack, corner_pin, shadow_rack, strapped_pin, far_fold, no_fold):
-        sample()
+    if len(sys.argv) > 2:
+        alley(sys.argv[1], [read(name) for name in sys.argv[2:]])
+    else:
+        for sample in (f, full_rack, corner_pin, shadow_rack, strapped_pin, far_fold, no_fold, six_lanes):
+            sample()

@@ -1,14 +1,17 @@
 //! Times of the proved library on the same inputs as the independent implementation, which tries everything, and as the exact method, which
 //! finds a pair by one pass over its settings: in one process, and their ratios. All rows, or those of the kinds named on the command line:
-//! file, preview, frames, witness, pair, sweep.
+//! file, preview, frames, witness, pair, sweep, alley.
 use std::env;
+use std::fs::{self, File};
 use std::hint::black_box;
+use std::process::Command;
 use std::time::{Duration, Instant};
 use yovrenik_tests as library;
+use yovrenik_tests::direct;
 use yovrenik_tests::exact;
 use yovrenik_tests::generate::{
-    folding_chain, full_folding, full_standing, largest, last_setting_only, lit_from, mirrored, mixed_chain, most_passes, ratio_31_32,
-    standing_chain, Random,
+    folding_chain, full_folding, full_standing, largest, last_setting_only, lit_from, mirrored, mixed_chain, most_passes, network,
+    ratio_31_32, standing_chain, Random,
 };
 use yovrenik_tests::reference::{self, Net};
 
@@ -261,6 +264,43 @@ fn sweep_rows() {
     }
 }
 
+/// A run of lanes with these files, again and again.
+fn alley(files: &[Vec<u8>], lanes: usize) -> Vec<u8> {
+    let lane = |file: &Vec<u8>| [&(file.len() as u16).to_le_bytes(), &file[..]].concat();
+    files.iter().cycle().take(lanes).flat_map(lane).collect()
+}
+
+/// One row: the program `alley` from a file to a pipe, the independent implementation and the one pass on bytes at hand, each with how many
+/// million bytes it takes in a second.
+fn alley_row(name: &str, bytes: &[u8]) {
+    let path = env::temp_dir().join(format!("alley-{}", std::process::id()));
+    fs::write(&path, bytes).unwrap();
+    let program = || {
+        let program = concat!(env!("CARGO_MANIFEST_DIR"), "/../target/bin/alley");
+        Command::new(program).stdin(File::open(&path).unwrap()).output().expect("`rt check alley` makes the program").stdout
+    };
+    assert_eq!(program(), direct::alley(bytes));
+    assert_eq!(program(), reference::alley(bytes).into_bytes());
+    let [ours, theirs, one_pass] = times([
+        &mut || drop(black_box(program())),
+        &mut || drop(black_box(reference::alley(black_box(bytes)))),
+        &mut || drop(black_box(direct::alley(black_box(bytes)))),
+    ]);
+    fs::remove_file(&path).unwrap();
+    let cell = |t: Duration| format!("{} ({:.0} MB/s)", text(t), bytes.len() as f64 / 1e6 / t.as_secs_f64());
+    let [a, b, c] = [ours, theirs, one_pass].map(cell);
+    println!("| {name}, {:.1} MB | {a} | {b} | {} | {c} | {} |", bytes.len() as f64 / 1e6, ratio(ours, theirs), ratio(ours, one_pass));
+}
+
+fn alley_rows() {
+    let mut r = Random::new(41);
+    let small: Vec<Vec<u8>> = (0..100).map(|_| reference::write(&network(&mut r, 20, 6))).collect();
+    let large = reference::write(&largest(&mut r));
+    alley_row("65,535 small lanes", &alley(&small, 65_535));
+    alley_row("2,000 of the largest lanes", &alley(&[large], 2_000));
+    alley_row("65,535 lanes without a file", &alley(&[vec![]], 65_535));
+}
+
 /// A table of the kinds of rows that are named on the command line, or of all where none is.
 fn table(head: &str, kinds: &[(&str, fn())]) {
     let words: Vec<String> = env::args().skip(1).filter(|word| !word.starts_with('-')).collect();
@@ -281,4 +321,5 @@ fn main() {
     table("| witness, 16 distinct feeds | merge | witness | to a merge that agrees |", &[("witness", witness_rows)]);
     let head = "| on | library | exact method | ratio | the same by halves | ratio | plain search | ratio |";
     table(head, &[("pair", pair_rows), ("sweep", sweep_rows)]);
+    table("| alley | program | independent | ratio | one pass | ratio |", &[("alley", alley_rows)]);
 }

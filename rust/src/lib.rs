@@ -1,4 +1,5 @@
 //! The proved library as Rust calls it, and an independent implementation of the papers to compare it with.
+pub mod direct;
 pub mod exact;
 pub mod generate;
 pub mod reference;

@@ -589,3 +589,28 @@ mod tests {
         assert_eq!(merge(&against, 3, 4, 1, 1).unwrap().gates[1], Gate { feeds: vec![(0, -1), (1, -1)], threshold: -1 });
     }
 }
+
+// ---- an alley
+
+/// What `alley` prints for an alley file.
+pub fn alley(mut file: &[u8]) -> String {
+    let mut out = String::new();
+    let (mut gates, mut sum) = (0, 0);
+    for position in 1..=65_535 {
+        if file.is_empty() {
+            break;
+        }
+        let length = if file.len() < 2 { usize::MAX } else { u16::from_le_bytes([file[0], file[1]]) as usize };
+        let lane = if file.len() < 2 || file.len() - 2 < length { Err(4) } else { read(&file[2..2 + length]) };
+        match lane {
+            Ok(net) => {
+                out += &format!("{position} {} {}\n", net.gates.len(), cost(&net));
+                gates += net.gates.len();
+                sum += cost(&net);
+            }
+            Err(code) => out += &format!("{position} refused {code}\n"),
+        }
+        file = file.get(2usize.saturating_add(length)..).unwrap_or(&[]);
+    }
+    out + &format!("total {gates} {sum}\n")
+}

@@ -1,25 +1,15 @@
 -- What a text of the question says, read strictly: a line feed ends it, single spaces part its words, and each word has the exact form
 -- of its place. A text of any other form says nothing. Nothing is proved here.
-use mathlib.Core.Bool.{Bool, true, false, cond, _&&_}
+use mathlib.Core.Bool.{cond, _&&_}
 use mathlib.Core.List.{List, [], _∷_}
 use mathlib.Core.Option.{Option, some, none}
-use Prim.Native.Nat.{ℕ, zero, suc, _+_, _-_, _*_}
+use Prim.Native.Nat.{ℕ, zero, suc}
 use lib.Dec.{eqb}
 use lib.IntN.{ℤ, pos, negℤ}
-use Rattle.integers.specs.Lists.{all, between}
+use Rattle.texts.specs.Texts.{parts, sameText, number}
 use Rattle.constraints.specs.Question.{Line, term}
 
 -- ---- words
-
--- c in front of the first part
-unfoldable pub prepend : ℕ → List (List ℕ) → List (List ℕ)
-prepend c [] = (c ∷ []) ∷ []
-prepend c (w ∷ ws) = (c ∷ w) ∷ ws
-
--- the parts of a text, parted by a single separator: the lines of a text, the words of a line
-unfoldable pub parts : ℕ → List ℕ → List (List ℕ)
-parts separator [] = [] ∷ []
-parts separator (c ∷ cs) = cond (eqb c separator) ([] ∷ parts separator cs) (prepend c (parts separator cs))
 
 -- the words of a text's only line; none where there is no line feed at the end, or one before it
 unfoldable pub wordsOfLines : List (List ℕ) → List (List ℕ)
@@ -32,28 +22,7 @@ wordsOfLines (l ∷ (c ∷ cs) ∷ ms) = []
 unfoldable pub words : List ℕ → List (List ℕ)
 words text = wordsOfLines (parts 10 text)
 
--- two words are the same
-unfoldable pub sameText : List ℕ → List ℕ → Bool
-sameText [] [] = true
-sameText [] (d ∷ ds) = false
-sameText (c ∷ cs) [] = false
-sameText (c ∷ cs) (d ∷ ds) = eqb c d && sameText cs ds
-
 -- ---- numbers
-
--- a decimal digit
-unfoldable pub isDigit : ℕ → Bool
-isDigit c = between 48 57 c
-
--- the number that decimal digits are, after a number that stands before them
-unfoldable pub numberAfter : ℕ → List ℕ → ℕ
-numberAfter n [] = n
-numberAfter n (d ∷ ds) = numberAfter (n * 10 + (d - 48)) ds
-
--- the number that a word says: one digit at least, and nothing but digits
-unfoldable pub number : List ℕ → Option ℕ
-number [] = none
-number (d ∷ ds) = cond (all isDigit (d ∷ ds)) (some (numberAfter 0 (d ∷ ds))) none
 
 abbrev pub plus : Option ℕ → Option ℤ
 plus none = none

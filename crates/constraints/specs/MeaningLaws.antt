@@ -2,76 +2,30 @@
 -- every text of the question of two sound networks says what was asked, and what is written has the question's solutions. Assumes
 -- nothing.
 use mathlib.Core.Path.{_≡_, refl, ap, _∙_, subst}
-use mathlib.Core.Bool.{true, false, cond}
+use mathlib.Core.Bool.{false}
 use mathlib.Core.List.{List, [], _∷_, _++_, append-assoc}
 use mathlib.Core.Logic.{_≢_, _↔_}
 use mathlib.Core.Option.{Option, some}
-use Prim.Native.Nat.{ℕ, zero, suc, _+_, _-_, _*_, _/_, _%_, _^_, _≤_, _<_}
+use Prim.Native.Nat.{ℕ, suc, _+_, _-_, _^_, _<_}
 use native.Mathlib.Numerals.{add-one}
 use native.Mathlib.Omega.{arith}
-use borrow.Author.Tests.{eq-eqb}
-use lib.Dec.{T, ltb, ltb→lt}
+use lib.Dec.{T}
 use lib.IntN.{ℤ, pos, negsuc, natAbs}
-use lib.ListN.{length, getD, length-append}
-use Rattle.integers.specs.Lists.{all, Each}
-use Rattle.integers.specs.ListLaws.{of-each, each-imp, each-getD, each-append}
-use Rattle.integers.specs.TestLaws.{is-true, eqb-no, of-between}
+use lib.ListN.{length, getD}
+use Rattle.integers.specs.Lists.{Each}
+use Rattle.integers.specs.ListLaws.{each-imp, each-getD, each-append}
+use Rattle.integers.specs.TestLaws.{eqb-no}
+use Rattle.texts.specs.Texts.{decimal, prepend, parts, sameText, number}
+use Rattle.texts.specs.DecimalLaws.{Digit, decimal-digits, decimal-number, first-part, only-part}
 use Rattle.network.specs.Threshold.{Feed, Net, Assignment}
 use Rattle.network.specs.Sound.{Sound}
 use Rattle.constraints.specs.Question.{Line, holds, Solves, question, variables}
-use Rattle.constraints.specs.Text.{digits, decimal, coefficient, rightSide, variableName, termText, termsText, lineText, variableWord, constraintWord, headerText, noLine, questionText}
-use Rattle.constraints.specs.Meaning.{prepend, parts, wordsOfLines, words, sameText, isDigit, numberAfter, number, coefficientOf, rightOf, variableOf, endOfWords, lineOfWords, lineOf, variableMark, constraintMark, headerOfWords, headerOf}
+use Rattle.constraints.specs.Text.{coefficient, rightSide, variableName, termText, termsText, lineText, variableWord, constraintWord, headerText, noLine, questionText}
+use Rattle.constraints.specs.Meaning.{wordsOfLines, words, coefficientOf, rightOf, variableOf, endOfWords, lineOfWords, lineOf, variableMark, constraintMark, headerOfWords, headerOf}
 use Rattle.constraints.specs.Demand.{SolvesWritten, Decides, DecidesWritten}
 use Rattle.constraints.specs.MemberLaws.{getD-each}
 use Rattle.constraints.specs.TextLaws.{Within}
 use Rattle.constraints.specs.SizeLaws.{Narrow, few-variables, few-lines, question-narrow}
-
--- ---- digits say their number
-number-append : (n : ℕ) (xs ys : List ℕ) → numberAfter n (xs ++ ys) ≡ numberAfter (numberAfter n xs) ys
-unfolding numberAfter
-number-append n [] ys = refl
-number-append n (x ∷ xs) ys = number-append (n * 10 + (x - 48)) xs ys
-
-digits-say : (k n : ℕ) → n < 10 ^ k → numberAfter 0 (digits k n) ≡ n
-unfolding digits numberAfter
-digits-say zero n h = omega arith
-digits-say (suc k) n h = elim (ltb n 10) as (λ b. numberAfter 0 (cond b ((48 + n) ∷ []) (digits k (n / 10) ++ ((48 + n % 10) ∷ []))) ≡ n) [
-  | true ↦ omega arith
-  | false ↦ number-append 0 (digits k (n / 10)) ((48 + n % 10) ∷ []) ∙ rw (digits-say k (n / 10) (omega arith)) (omega arith)
-]
-
--- c is a digit
-abbrev Digit : ℕ → Type 0
-Digit c = (48 ≤ c) × (c < 58)
-
-all-digits : (k n : ℕ) → Each Digit (digits k n)
-unfolding digits
-all-digits zero n = tt
-all-digits (suc k) n = elim (ltb n 10) as (λ b. (T b → n < 10) → Each Digit (cond b ((48 + n) ∷ []) (digits k (n / 10) ++ ((48 + n % 10) ∷ [])))) [
-  | true ↦ λ h. ((omega arith, omega (arith, h tt)), tt)
-  | false ↦ λ h. each-append Digit (digits k (n / 10)) ((48 + n % 10) ∷ []) (all-digits k (n / 10)) (omega arith, tt)
-] (ltb→lt n 10)
-
-decimal-digits : (n : ℕ) → Each Digit (decimal n)
-unfolding decimal
-decimal-digits n = all-digits 20 n
-
--- one digit at least
-decimal-some : (n : ℕ) → 1 ≤ length (decimal n)
-unfolding decimal digits
-decimal-some n = elim (ltb n 10) as (λ b. 1 ≤ length (cond b ((48 + n) ∷ []) (digits 19 (n / 10) ++ ((48 + n % 10) ∷ []))))
-    [ true ↦ omega arith | false ↦ simp length-append (omega arith) ]
-
-digits-number : (ds : List ℕ) → Each Digit ds → 1 ≤ length ds → number ds ≡ some (numberAfter 0 ds)
-unfolding number
-digits-number [] h k = absurd (omega arith)
-digits-number (d ∷ ds) h k = rw (is-true (all isDigit (d ∷ ds)) (of-each isDigit Digit digit-test (d ∷ ds) h))
-  where
-    digit-test : (c : ℕ) → Digit c → T (isDigit c)
-    digit-test c h = unfold isDigit in of-between 48 57 c (h .0, omega (arith, h .1))
-
-decimal-number : (n : ℕ) → n < 10 ^ 20 → number (decimal n) ≡ some n
-decimal-number n h = digits-number (decimal n) (decimal-digits n) (decimal-some n) ∙ ap some (unfold decimal in digits-say 20 n h)
 
 -- ---- a coefficient, a right side and a variable say their number
 coefficient-says : (z : ℤ) → natAbs z < 10 ^ 20 → coefficientOf (coefficient z) ≡ some z
@@ -93,19 +47,6 @@ right-says (negsuc n) h = unfold rightOf in rw (decimal-number (suc n) h)
 variable-says : (v : ℕ) → v + 1 < 10 ^ 20 → variableOf (variableName v) ≡ some v
 unfolding variableOf variableName
 variable-says v h = rw (decimal-number (v + 1) h, add-one)
-
--- ---- parts
-module _ (separator : ℕ) where
-  -- the part before a separator, and the last part
-  first-part : (w rest : List ℕ) → Each (λ c. c ≢ separator) w → parts separator (w ++ (separator ∷ rest)) ≡ w ∷ parts separator rest
-  unfolding parts prepend
-  first-part [] rest h = rw (eq-eqb separator separator refl)
-  first-part (c ∷ w) rest h = rw (eqb-no c separator (h .0), first-part w rest (h .1))
-
-  only-part : (w : List ℕ) → Each (λ c. c ≢ separator) w → parts separator w ≡ w ∷ []
-  unfolding parts prepend
-  only-part [] h = refl
-  only-part (c ∷ w) h = rw (eqb-no c separator (h .0), only-part w (h .1))
 
 -- ---- words
 

@@ -12,6 +12,7 @@ use lib.ListN.{length, length-append, length-map}
 use Rattle.integers.specs.Lists.{range, Each}
 use Rattle.integers.specs.ListLaws.{each-imp, each-getD, length-range}
 use Rattle.integers.specs.SizeLaws.{size-neg, size-add, size-sub}
+use Rattle.texts.specs.DecimalLaws.{decimal-short}
 use Rattle.network.specs.Threshold.{Feed, negated, Gate, Net}
 use Rattle.network.specs.Limits.{signalsOf}
 use Rattle.network.specs.Sound.{GateOk, Gates, Has, Sound}
@@ -22,7 +23,7 @@ use Rattle.constraints.specs.Demand.{Named}
 use Rattle.constraints.specs.Stretches.{secondOf, firstLines, secondLines, pairLines, lastOf}
 use Rattle.constraints.specs.MemberLaws.{each-append, each-both, each-map, map-each, each-range}
 use Rattle.constraints.specs.LineLaws.{question-is, question-length}
-use Rattle.constraints.specs.TextLaws.{decimal-short, Within, terms-short, terms-append, right-short, line-length}
+use Rattle.constraints.specs.TextLaws.{Within, terms-short, terms-append, right-short, line-length}
 
 -- ---- the numbers of a gate
 part-size : (w : ℤ) → (natAbs (cond (nonNeg w) w (pos 0)) ≤ natAbs w) × (natAbs (cond (nonNeg w) (pos 0) w) ≤ natAbs w)

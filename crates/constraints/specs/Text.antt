@@ -2,21 +2,13 @@
 -- always carry a sign, and 0 is written `+0`; right sides carry a sign only below 0". Nothing is proved here.
 use mathlib.Core.Bool.{cond}
 use mathlib.Core.List.{List, [], _∷_, _++_}
-use Prim.Native.Nat.{ℕ, zero, suc, _+_, _/_, _%_}
-use lib.Dec.{ltb}
+use Prim.Native.Nat.{ℕ, zero, suc, _+_}
 use lib.IntN.{ℤ, natAbs, pos}
 use lib.Signed.{nonNeg}
 use lib.ListN.{length, getD}
+use Rattle.texts.specs.Texts.{decimal}
 use Rattle.network.specs.Threshold.{Feed, Net}
 use Rattle.constraints.specs.Question.{Line, question, variables}
-
--- the decimal digits of a number, the highest first; k is more than enough digits
-unfoldable pub digits : ℕ → ℕ → List ℕ
-digits zero n = []
-digits (suc k) n = cond (ltb n 10) ((48 + n) ∷ []) (digits k (n / 10) ++ ((48 + n % 10) ∷ []))
-
-unfoldable pub decimal : ℕ → List ℕ
-decimal n = digits 20 n
 
 -- `+` or `-`, and the size
 unfoldable pub coefficient : ℤ → List ℕ

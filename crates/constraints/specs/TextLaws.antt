@@ -1,29 +1,15 @@
--- The length of a line's text: a number below 10 ^ d has at most d digits, and a line is as long as its parts. Assumes nothing.
+-- The length of a line's text: a line is as long as its parts. Assumes nothing.
 use mathlib.Core.Path.{_≡_}
-use mathlib.Core.Bool.{true, false, cond}
 use mathlib.Core.List.{List, [], _∷_, _++_}
-use Prim.Native.Nat.{ℕ, zero, suc, _+_, _*_, _/_, _%_, _^_, _≤_, _<_}
+use Prim.Native.Nat.{ℕ, suc, _+_, _*_, _^_, _≤_, _<_}
 use native.Mathlib.Omega.{arith}
-use lib.Dec.{ltb, lt→ltb}
 use lib.IntN.{ℤ, pos, negsuc, natAbs}
 use lib.ListN.{length, length-append}
 use Rattle.integers.specs.Lists.{Each}
-use Rattle.integers.specs.TestLaws.{is-true}
+use Rattle.texts.specs.DecimalLaws.{decimal-short}
 use Rattle.network.specs.Threshold.{Feed}
 use Rattle.constraints.specs.Question.{Line}
-use Rattle.constraints.specs.Text.{digits, decimal, coefficient, rightSide, variableName, termText, termsText, lineText}
-
--- ---- digits
-digits-short : (k n d : ℕ) → n < 10 ^ suc d → length (digits k n) ≤ suc d
-unfolding digits
-digits-short zero n d h = omega arith
-digits-short (suc k) n zero h = rw (is-true (ltb n 10) (lt→ltb n 10 h)) (omega arith)
-digits-short (suc k) n (suc d) h = elim (ltb n 10) as (λ b. length (cond b ((48 + n) ∷ []) (digits k (n / 10) ++ ((48 + n % 10) ∷ []))) ≤ suc (suc d))
-    [ true ↦ omega arith | false ↦ simp length-append (omega (arith, digits-short k (n / 10) d (omega arith))) ]
-
-pub decimal-short : (n d : ℕ) → n < 10 ^ suc d → length (decimal n) ≤ suc d
-unfolding decimal
-decimal-short n d h = digits-short 20 n d h
+use Rattle.constraints.specs.Text.{coefficient, rightSide, variableName, termText, termsText, lineText}
 
 -- ---- terms
 

@@ -1,10 +1,10 @@
--- A refusal's number is not 0, so a number of 0 is an accepted file. Assumes nothing.
+-- A refusal's number is not 0 and has at most two digits, so a number of 0 is an accepted file. Assumes nothing.
 use mathlib.Core.Path.{_≡_}
 use mathlib.Core.Bool.{Bool, true, false, _&&_}
 use mathlib.Core.List.{List, [], _∷_, _++_}
 use Prim.Native.Nat.{ℕ, zero, suc, _+_, _<_}
 use native.Mathlib.Omega.{arith}
-use lib.Dec.{ltb, leb, eqb}
+use lib.Dec.{T, ltb, leb, eqb, ltb→lt}
 use lib.IntN.{ℤ}
 use mir.Syntax.{w32}
 use mir.Val.{toZ}
@@ -14,9 +14,9 @@ use Rattle.network.specs.Threshold.{Feed, Gate, Net}
 use Rattle.network.specs.Limits.{inScale, weightOk}
 use Rattle.format.specs.Format.{Read, refused, done, byteOr, intThen, check, andThen, parseFeed, parseFeeds, parseGate, parseGates, parseOutputs, netRead, atEnd, parseBody, parseHead, parseFile}
 
--- a refusal's number is not 0
+-- a refusal's number is not 0, and has at most two digits
 abbrev Holds : {A : Type 0} → Read A → Type 0
-Holds (refused k) = 0 < k
+Holds (refused k) = (0 < k) × (k < 100)
 Holds (done a l) = Unit {0}
 
 pub record Numbered {A : Type 0} (r : Read A) : Type 0 where
@@ -26,24 +26,27 @@ pub record Numbered {A : Type 0} (r : Read A) : Type 0 where
 n-done : {A : Type 0} (a : A) (l : List ℕ) → Numbered (done a l)
 n-done a l = record { holds = tt }
 
-n-check : {A : Type 0} (b : Bool) (k : ℕ) (r : Read A) → Numbered r → Numbered (check b (suc k) r)
-n-check true k r h = h
-n-check false k r h = record { holds = omega arith }
+n-check : {A : Type 0} (b : Bool) (k : ℕ) (few : T (ltb k 99)) (r : Read A) → Numbered r → Numbered (check b (suc k) r)
+n-check true k few r h = h
+n-check false k few r h = let b = ltb→lt k 99 few in record { holds = (omega arith, omega arith) }
 
-n-byte : {A : Type 0} (k : ℕ) (l : List ℕ) (f : ℕ → List ℕ → Read A) → ((b : ℕ) (m : List ℕ) → Numbered (f b m)) → Numbered (byteOr (suc k) l f)
-n-byte k [] f h = record { holds = omega arith }
-n-byte k (b ∷ l) f h = h b l
+n-byte : {A : Type 0} (k : ℕ) (few : T (ltb k 99)) (l : List ℕ) (f : ℕ → List ℕ → Read A) → ((b : ℕ) (m : List ℕ) → Numbered (f b m))
+    → Numbered (byteOr (suc k) l f)
+n-byte k few [] f h = let b = ltb→lt k 99 few in record { holds = (omega arith, omega arith) }
+n-byte k few (b ∷ l) f h = h b l
 
 n-then : {A B : Type 0} (r : Read A) (f : A → List ℕ → Read B) → Numbered r → ((a : A) (m : List ℕ) → Numbered (f a m)) → Numbered (andThen r f)
 n-then (refused k) f h g = record { holds = h .holds }
 n-then (done a l) f h g = g a l
 
 n-int : {A : Type 0} (l : List ℕ) (f : ℤ → List ℕ → Read A) → ((z : ℤ) (m : List ℕ) → Numbered (f z m)) → Numbered (intThen l f)
-n-int l f h = n-byte 3 l _ (λ a l₁. n-byte 3 l₁ _ (λ b l₂. n-byte 3 l₂ _ (λ c l₃. n-byte 3 l₃ _ (λ d l₄. h (toZ w32 (wordOf a b c d)) l₄))))
+n-int l f h = n-byte 3 tt l _ (λ a l₁. n-byte 3 tt l₁ _ (λ b l₂. n-byte 3 tt l₂ _ (λ c l₃. n-byte 3 tt l₃ _ (λ d l₄. h (toZ w32 (wordOf a b c d)) l₄))))
 
 -- ---- the parts of a file
 n-feed : (own low : ℕ) (l : List ℕ) → Numbered (parseFeed own low l)
-n-feed own low l = n-byte 3 l _ (λ s l₁. n-check (leb low s && ltb s own) 4 _ (n-int l₁ _ (λ w l₂. n-check (weightOk (record { signal = s; weight = w })) 5 _ (n-done (record { signal = s; weight = w }) l₂))))
+n-feed own low l =
+    n-byte 3 tt l _ (λ s l₁. n-check (leb low s && ltb s own) 4 tt _ (n-int l₁ _ (λ w l₂.
+    n-check (weightOk (record { signal = s; weight = w })) 5 tt _ (n-done (record { signal = s; weight = w }) l₂))))
 
 n-feeds : (own n low : ℕ) (acc : List Feed) (l : List ℕ) → Numbered (parseFeeds own n low acc l)
 n-feeds own zero low acc l = n-done acc l
@@ -51,7 +54,7 @@ n-feeds own (suc n) low acc l = n-then (parseFeed own low l) _ (n-feed own low l
 
 n-gate : (own : ℕ) (l : List ℕ) → Numbered (parseGate own l)
 n-gate own l =
-    n-byte 3 l _ (λ n l₁. n-check (leb n 16) 6 _ (n-int l₁ _ (λ t l₂. n-check (inScale t) 5 _
+    n-byte 3 tt l _ (λ n l₁. n-check (leb n 16) 6 tt _ (n-int l₁ _ (λ t l₂. n-check (inScale t) 5 tt _
     (n-then (parseFeeds own n 0 [] l₂) _ (n-feeds own n 0 [] l₂) (λ fs l₃. n-done (record { feeds = fs; threshold = t }) l₃)))))
 
 n-gates : (own n : ℕ) (acc : List Gate) (l : List ℕ) → Numbered (parseGates own n acc l)
@@ -60,11 +63,11 @@ n-gates own (suc n) acc l = n-then (parseGate own l) _ (n-gate own l) (λ g l₁
 
 n-outputs : (low top n : ℕ) (acc l : List ℕ) → Numbered (parseOutputs low top n acc l)
 n-outputs low top zero acc l = n-done acc l
-n-outputs low top (suc n) acc l = n-byte 3 l _ (λ s l₁. n-check (leb low s && ltb s top) 7 _ (n-outputs low top n (acc ++ (s ∷ [])) l₁))
+n-outputs low top (suc n) acc l = n-byte 3 tt l _ (λ s l₁. n-check (leb low s && ltb s top) 7 tt _ (n-outputs low top n (acc ++ (s ∷ [])) l₁))
 
 n-end : (N : Net) (l : List ℕ) → Numbered (atEnd N l)
 n-end N [] = n-done N []
-n-end N (b ∷ l) = record { holds = omega arith }
+n-end N (b ∷ l) = record { holds = (omega arith, omega arith) }
 
 n-body : (i g o : ℕ) (l : List ℕ) → Numbered (parseBody i g o l)
 n-body i g o l =
@@ -73,14 +76,17 @@ n-body i g o l =
 
 n-head : (p m n v w i g o : ℕ) (l : List ℕ) → Numbered (parseHead p m n v w i g o l)
 n-head p m n v w i g o l =
-    n-check (eqb p 80 && (eqb m 77 && eqb n 78)) 0 _ (n-check (eqb v 1 && eqb w 0) 1 _
-    (n-check (between 1 40 i) 2 _ (n-check (between 1 128 g) 2 _ (n-check (between 1 16 o) 2 _ (n-body i g o l)))))
+    n-check (eqb p 80 && (eqb m 77 && eqb n 78)) 0 tt _ (n-check (eqb v 1 && eqb w 0) 1 tt _
+    (n-check (between 1 40 i) 2 tt _ (n-check (between 1 128 g) 2 tt _ (n-check (between 1 16 o) 2 tt _ (n-body i g o l)))))
 
--- a file's refusal has a number that is not 0
+-- the whole file
 pub file-numbered : (s : List ℕ) → Numbered (parseFile s)
 file-numbered s =
-    n-byte 0 s _ (λ p l₁. n-byte 0 l₁ _ (λ m l₂. n-byte 0 l₂ _ (λ n l₃. n-byte 0 l₃ _ (λ v l₄.
-    n-byte 0 l₄ _ (λ w l₅. n-byte 0 l₅ _ (λ i l₆. n-byte 0 l₆ _ (λ g l₇. n-byte 0 l₇ _ (λ o l₈. n-head p m n v w i g o l₈))))))))
+    n-byte 0 tt s _ (λ p l₁. n-byte 0 tt l₁ _ (λ m l₂. n-byte 0 tt l₂ _ (λ n l₃. n-byte 0 tt l₃ _ (λ v l₄.
+    n-byte 0 tt l₄ _ (λ w l₅. n-byte 0 tt l₅ _ (λ i l₆. n-byte 0 tt l₆ _ (λ g l₇. n-byte 0 tt l₇ _ (λ o l₈. n-head p m n v w i g o l₈))))))))
 
 pub refused-positive : (s : List ℕ) (k : ℕ) → parseFile s ≡ refused k → 0 < k
-refused-positive s k e = (rw e at (file-numbered s)) .holds
+refused-positive s k e = (rw e at (file-numbered s)) .holds .0
+
+pub refused-small : (s : List ℕ) (k : ℕ) → parseFile s ≡ refused k → k < 100
+refused-small s k e = (rw e at (file-numbered s)) .holds .1

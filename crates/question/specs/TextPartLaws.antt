@@ -1,45 +1,20 @@
 -- The texts of the question, part by part, as they are written. Assumes nothing.
 use mathlib.Core.Path.{_≡_, refl, sym, ap, _∙_}
-use mathlib.Core.Bool.{true, false, cond}
+use mathlib.Core.Bool.{true, false}
 use mathlib.Core.List.{List, [], _∷_, _++_, append-assoc, append-nil}
-use Prim.Native.Nat.{ℕ, zero, suc, _+_, _-_, _/_, _%_, _^_, _≤_, _<_}
+use Prim.Native.Nat.{ℕ, _+_, _-_, _≤_, _<_}
 use native.Mathlib.Omega.{arith}
-use borrow.Author.Tests.{lt-ltb, le-ltb}
-use lib.Dec.{ltb}
 use lib.IntN.{ℤ, natAbs}
 use lib.ListN.{length, length-append}
 use lib.Signed.{nonNeg}
+use Rattle.texts.specs.Texts.{decimal}
 use Rattle.network.specs.Threshold.{Feed}
 use Rattle.network.specs.Record.{feedAt, feedsFrom}
 use Rattle.constraints.specs.Question.{Line, term}
-use Rattle.constraints.specs.Text.{digits, decimal, coefficient, rightSide, variableName, termText, termsText, lineText, variableWord, constraintWord, headerText}
+use Rattle.constraints.specs.Text.{coefficient, rightSide, variableName, termText, termsText, lineText, variableWord, constraintWord, headerText}
 use Rattle.constraints.specs.TextLaws.{terms-append}
 use Rattle.question.specs.Writes.{relationText}
 use Rattle.lines.specs.FeedLaws.{feeds-more, feeds-split}
-
--- ---- decimal digits
-digits-one : (k n : ℕ) → n < 10 → digits (suc k) n ≡ (48 + n) ∷ []
-unfolding digits
-digits-one k n h = rw (lt-ltb n 10 h)
-
-digits-more : (k n : ℕ) → 10 ≤ n → digits (suc k) n ≡ digits k (n / 10) ++ ((48 + n % 10) ∷ [])
-unfolding digits
-digits-more k n h = rw (le-ltb n 10 h)
-
--- more than enough digits are not more digits
-digits-same : (k n : ℕ) → n < 10 ^ suc k → digits (suc (suc k)) n ≡ digits (suc k) n
-unfolding digits
-digits-same zero n h = digits-one 1 n (omega arith) ∙ sym (digits-one 0 n (omega arith))
-digits-same (suc k) n h = elim (ltb n 10) as (λ b. cond b ((48 + n) ∷ []) (digits (suc (suc k)) (n / 10) ++ ((48 + n % 10) ∷ [])) ≡ cond b ((48 + n) ∷ []) (digits (suc k) (n / 10) ++ ((48 + n % 10) ∷ [])))
-    [ true ↦ refl | false ↦ ap (λ (l : List ℕ). l ++ ((48 + n % 10) ∷ [])) (digits-same k (n / 10) (omega arith)) ]
-
-pub decimal-one : (n : ℕ) → n < 10 → decimal n ≡ (48 + n) ∷ []
-unfolding decimal
-decimal-one n h = digits-one 19 n h
-
-pub decimal-more : (n : ℕ) → 10 ≤ n → n < 2 ^ 64 → decimal n ≡ decimal (n / 10) ++ ((48 + n % 10) ∷ [])
-unfolding decimal
-decimal-more n h k = digits-more 19 n h ∙ ap (λ (l : List ℕ). l ++ ((48 + n % 10) ∷ [])) (sym (digits-same 18 (n / 10) (omega arith)))
 
 -- ---- signed numbers
 pub coefficient-below : (z : ℤ) → nonNeg z ≡ false → coefficient z ≡ 45 ∷ decimal (natAbs z)

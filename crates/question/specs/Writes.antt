@@ -1,9 +1,8 @@
--- What the writers of text promise and ask for. Nothing is proved here.
-use mathlib.Core.Path.{_≡_}
+-- What the writers of the question ask for. Nothing is proved here.
 use mathlib.Core.List.{List, [], _∷_, _++_}
 use Prim.Native.Nat.{ℕ, _≤_}
 use lib.IntN.{ℤ}
-use lib.ListN.{length, drop}
+use lib.ListN.{length}
 use Rattle.integers.specs.Lists.{Each}
 use Rattle.network.specs.Threshold.{Feed}
 use Rattle.constraints.specs.Text.{rightSide, termsText}
@@ -11,11 +10,6 @@ use Rattle.constraints.specs.TextLaws.{Within}
 use Rattle.constraints.specs.SizeLaws.{Narrow}
 use Rattle.lines.specs.declared.LineRecord.{LineRecord}
 use Rattle.lines.specs.Lines.{lineIn}
-
--- a text of r bytes stands at the front, and after it what stood there before
-pub record Put (text : List ℕ) (r : ℕ) (old new : List ℕ) : Type 0 where
-  pub long : length text ≡ r
-  pub bytes : new ≡ text ++ drop r old
 
 -- `>= `, the right side, ` ;` and a line feed
 unfoldable pub relationText : ℤ → List ℕ

@@ -5,11 +5,11 @@ ghost use Prim.Native.Nat.{_≤_};
 ghost use lib.ListN.{length};
 ghost use Rattle.integers.specs.Refusals.{refused, stored};
 ghost use Rattle.network.specs.Record.{netOf};
+ghost use Rattle.texts.specs.Writes.{Put};
 ghost use Rattle.constraints.specs.Text.{questionText};
 ghost use Rattle.constraints.specs.Question.{alike};
 ghost use Rattle.question.specs.Answers.{lineAnswer, asLineWritten};
 ghost use Rattle.lines.specs.Lines.{Comparable, Asked, linesOf};
-ghost use Rattle.question.specs.Writes.{Put};
 
 // What `line` answers: 0 or the refusal, and the line's length with its line feed.
 pub struct LineWritten {
@@ -65,7 +65,7 @@ fn write_line(first: Network, second: Network, n: usize, out: &mut [u8]) -> Line
     if out.len() < length {
         return refusal(18);
     }
-    unchecked::put_bytes(out, &text[..length]);
+    texts::unchecked::put_bytes(out, &text[..length]);
     LineWritten { code: 0, length }
 }
 

@@ -2,46 +2,17 @@
 // the answer is the part's length.
 use integers::magnitude;
 use lines::LineRecord;
-ghost use mathlib.Core.List.{_++_};
+use texts::unchecked::put_bytes;
+use texts::unchecked::put_decimal;
+use texts::unchecked::put_number;
 ghost use Prim.Native.Nat.{_+_, _≤_, _<_};
 ghost use lib.ListN.{length};
+ghost use Rattle.texts.specs.Writes.{Put};
 ghost use Rattle.network.specs.Record.{feedsFrom};
 ghost use Rattle.constraints.specs.Question.{term};
-ghost use Rattle.constraints.specs.Text.{decimal, coefficient, rightSide, termText, termsText, lineText, headerText};
+ghost use Rattle.constraints.specs.Text.{coefficient, rightSide, termText, termsText, lineText, headerText};
 ghost use Rattle.lines.specs.Lines.{lineIn};
-ghost use Rattle.question.specs.Writes.{Put, relationText, Printable, PrintableLine};
-
-// Bytes as they are.
-pub fn put_bytes(out: &mut [u8], bytes: &[u8]) -> usize
-    requires { ⌜ length (now bytes) ≤ length (now out) ⌝ }
-    ensures { λ r. ⌜ Put (now (bytes .entry)) r (now (out .entry)) (now (out .exit)) ⌝ }
-{
-    integers::unchecked::copy(bytes, out);
-    bytes.len()
-}
-
-// The decimal digits of a number.
-fn put_decimal(out: &mut [u8], n: usize) -> usize
-    requires { ⌜ length (decimal n) ≤ length (now out) ⌝ }
-    ensures { λ r. ⌜ Put (decimal n) r (now (out .entry)) (now (out .exit)) ⌝ }
-{
-    if n < 10 {
-        out[0] = 48 + n as u8;
-        return 1;
-    }
-    let at = put_decimal(out, n / 10);
-    out[at] = 48 + (n % 10) as u8;
-    at + 1
-}
-
-// A word, and the decimal digits of a number after it.
-fn put_number(out: &mut [u8], word: &[u8], n: usize) -> usize
-    requires { ⌜ length (now word) + length (decimal n) ≤ length (now out) ⌝ }
-    ensures { λ r. ⌜ Put (now (word .entry) ++ decimal n) r (now (out .entry)) (now (out .exit)) ⌝ }
-{
-    let at = put_bytes(out, word);
-    at + put_decimal(&mut out[at..], n)
-}
+ghost use Rattle.question.specs.Writes.{relationText, Printable, PrintableLine};
 
 // A coefficient, with its sign.
 fn put_coefficient(out: &mut [u8], z: i32) -> usize

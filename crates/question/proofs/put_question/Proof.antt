@@ -12,7 +12,7 @@ use Rattle.constraints.specs.SizeLaws.{Narrow}
 use Rattle.lines.specs.Lines.{linesOf}
 use Rattle.lines.specs.TermLaws.{stands-line, stands-count}
 use Rattle.lines.specs.ComparableLaws.{small-counts, line-narrow, text-short, header-is, line-is}
-use Rattle.question.proofs.PutLaws.{put-text}
+use Rattle.texts.specs.PutLaws.{put-text}
 use Rattle.question.proofs.put_question.Statement.{statement}
 use Rattle.question.proofs.put_question.Tie as tie
 

@@ -10,7 +10,7 @@ use Rattle.network.specs.Record.{netOf}
 use Rattle.constraints.specs.Text.{questionText}
 use Rattle.question.specs.AnswerLaws.{refused-gives, accepted-gives, too-long, given}
 use Rattle.lines.specs.ComparableLaws.{text-short}
-use Rattle.question.proofs.PutLaws.{put-text, put-length}
+use Rattle.texts.specs.PutLaws.{put-text, put-length}
 use Rattle.question.proofs.write_line.Statement.{statement}
 use Rattle.question.proofs.write_line.Tie as tie
 

@@ -7,9 +7,10 @@ use lib.IntN.{natAbs}
 use lib.ListN.{length}
 use mir.Facts.{toZ-ofZ}
 use borrow.Author.Needs.{needs}
-use Rattle.constraints.specs.Text.{decimal, coefficient}
+use Rattle.texts.specs.Texts.{decimal}
+use Rattle.constraints.specs.Text.{coefficient}
 use Rattle.question.specs.TextPartLaws.{coefficient-below, coefficient-above}
-use Rattle.question.proofs.PutLaws.{put-text}
+use Rattle.texts.specs.PutLaws.{put-text}
 use Rattle.integers.specs.SignLaws.{below-sign, above-sign}
 use Rattle.question.proofs.unchecked.put_coefficient.Statement.{statement}
 use Rattle.question.proofs.unchecked.put_coefficient.Tie as tie

@@ -7,10 +7,11 @@ use lib.ListN.{length}
 use borrow.Author.Needs.{needs}
 use borrow.Rule.Slice.PartMut.{putMid}
 use Rattle.integers.specs.WriteLaws.{tail-length}
-use Rattle.constraints.specs.Text.{decimal, variableWord, constraintWord}
-use Rattle.question.specs.Writes.{Put}
+use Rattle.texts.specs.Texts.{decimal}
+use Rattle.constraints.specs.Text.{variableWord, constraintWord}
+use Rattle.texts.specs.Writes.{Put}
 use Rattle.question.specs.TextPartLaws.{header-parts, header-length}
-use Rattle.question.proofs.PutLaws.{put-text, put-byte, put-part, put-length}
+use Rattle.texts.specs.PutLaws.{put-text, put-byte, put-part, put-length}
 use Rattle.question.proofs.unchecked.put_header.Statement.{statement}
 use Rattle.question.proofs.unchecked.put_header.Tie as tie
 

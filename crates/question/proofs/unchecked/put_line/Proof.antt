@@ -14,7 +14,7 @@ use Rattle.constraints.specs.Text.{termsText}
 use Rattle.lines.specs.Lines.{lineIn}
 use Rattle.question.specs.Writes.{relationText}
 use Rattle.question.specs.TextPartLaws.{line-parts}
-use Rattle.question.proofs.PutLaws.{put-text, put-part, put-length}
+use Rattle.texts.specs.PutLaws.{put-text, put-part, put-length}
 use Rattle.question.proofs.unchecked.put_line.Statement.{statement}
 use Rattle.question.proofs.unchecked.put_line.Tie as tie
 

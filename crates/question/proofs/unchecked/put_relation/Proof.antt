@@ -11,9 +11,9 @@ use borrow.Author.Needs.{needs}
 use borrow.Rule.Slice.PartMut.{putMid}
 use Rattle.integers.specs.WriteLaws.{tail-length}
 use Rattle.constraints.specs.Text.{rightSide}
-use Rattle.question.specs.Writes.{Put}
+use Rattle.texts.specs.Writes.{Put}
 use Rattle.question.specs.TextPartLaws.{relation-parts, relation-length}
-use Rattle.question.proofs.PutLaws.{put-text, put-part, put-length}
+use Rattle.texts.specs.PutLaws.{put-text, put-part, put-length}
 use Rattle.question.proofs.unchecked.put_relation.Statement.{statement}
 use Rattle.question.proofs.unchecked.put_relation.Tie as tie
 

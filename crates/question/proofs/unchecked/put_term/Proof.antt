@@ -8,10 +8,11 @@ use mir.Facts.{toZ-ofZ}
 use borrow.Author.Needs.{needs}
 use borrow.Rule.Slice.PartMut.{putMid}
 use Rattle.integers.specs.WriteLaws.{tail-length}
-use Rattle.constraints.specs.Text.{decimal, coefficient}
-use Rattle.question.specs.Writes.{Put}
+use Rattle.texts.specs.Texts.{decimal}
+use Rattle.constraints.specs.Text.{coefficient}
+use Rattle.texts.specs.Writes.{Put}
 use Rattle.question.specs.TextPartLaws.{term-parts, term-length}
-use Rattle.question.proofs.PutLaws.{put-text, put-byte, put-part, put-length}
+use Rattle.texts.specs.PutLaws.{put-text, put-byte, put-part, put-length}
 use Rattle.question.proofs.unchecked.put_term.Statement.{statement}
 use Rattle.question.proofs.unchecked.put_term.Tie as tie
 

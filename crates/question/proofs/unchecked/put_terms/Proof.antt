@@ -17,10 +17,10 @@ use Rattle.network.specs.PlaceLaws.{length-feeds, feeds-at}
 use Rattle.constraints.specs.Question.{term}
 use Rattle.constraints.specs.Text.{termText, termsText}
 use Rattle.constraints.specs.TextLaws.{Within}
-use Rattle.question.specs.Writes.{Put}
+use Rattle.texts.specs.Writes.{Put}
 use Rattle.lines.specs.FeedLaws.{feeds-none}
 use Rattle.question.specs.TextPartLaws.{terms-more, terms-room}
-use Rattle.question.proofs.PutLaws.{put-none, put-text, put-part, put-length}
+use Rattle.texts.specs.PutLaws.{put-none, put-text, put-part, put-length}
 use Rattle.question.proofs.unchecked.put_terms.Statement.{statement}
 use Rattle.question.proofs.unchecked.put_terms.Tie as tie
 

@@ -4,16 +4,16 @@ use mathlib.Core.List.{[], _∷_}
 use Prim.Native.Nat.{ℕ, _+_, _/_, _%_, _<_}
 use native.Mathlib.Omega.{arith}
 use lib.ListN.{length, length-append, length-set}
-use Rattle.constraints.specs.Text.{decimal}
-use Rattle.question.specs.TextPartLaws.{decimal-one, decimal-more}
-use Rattle.question.proofs.PutLaws.{put-none, put-text, put-length, put-byte}
+use Rattle.texts.specs.Texts.{decimal}
+use Rattle.texts.specs.DecimalLaws.{decimal-one, decimal-more}
+use Rattle.texts.specs.PutLaws.{put-none, put-text, put-length, put-byte}
 use borrow.Fn.Kinds.{In}
 use borrow.Fn.PlainCycle.{Measures, is, falls, and}
-use Rattle.question.proofs.unchecked.put_decimal.Reads as put-decimal
-use Rattle.question.proofs.unchecked.put_decimal.Kinds as put-decimal-kinds
-use Rattle.question.proofs.unchecked.+put_decimal.Lts-put_decimal as put-decimal-lts
-use Rattle.question.proofs.unchecked.+put_decimal.{statement}
-use Rattle.question.proofs.unchecked.+put_decimal.Tie.{close}
+use Rattle.texts.proofs.unchecked.put_decimal.Reads as put-decimal
+use Rattle.texts.proofs.unchecked.put_decimal.Kinds as put-decimal-kinds
+use Rattle.texts.proofs.unchecked.+put_decimal.Lts-put_decimal as put-decimal-lts
+use Rattle.texts.proofs.unchecked.+put_decimal.{statement}
+use Rattle.texts.proofs.unchecked.+put_decimal.Tie.{close}
 
 abbrev μ-put-decimal : Measures 1 put-decimal-kinds.ps ℕ
 μ-put-decimal κs a = a .1 .0
@@ -130,7 +130,8 @@ put-decimal-returns-2 : (t : ℕ) → put-decimal-lts.Need-returns-2 (
 put-decimal-returns-2 t c =
     let done = c .before .before in
     let start = done .before .before .before .before in
-    put-text (put-byte (done .put-decimal .ensures) (48 + start .args .n % 10) (room done)) (sym (decimal-more (start .args .n) (done .before .before .if1 .left) (start .fits .n .fits)))
+    put-text (put-byte (done .put-decimal .ensures) (48 + start .args .n % 10) (room done))
+        (sym (decimal-more (start .args .n) (done .before .before .if1 .left) (start .fits .n .fits)))
 
 pub +put-decimal-spec : {M : Type 1} → statement M
 +put-decimal-spec = close μ-put-decimal λ t. put-decimal-lts.spec (

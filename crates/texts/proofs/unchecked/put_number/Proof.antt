@@ -4,16 +4,18 @@ use native.Mathlib.Omega.{arith}
 use lib.ListN.{length}
 use borrow.Author.Needs.{needs}
 use Rattle.integers.specs.WriteLaws.{tail-length}
-use Rattle.question.proofs.PutLaws.{put-part, put-length}
-use Rattle.question.proofs.unchecked.put_number.Statement.{statement}
-use Rattle.question.proofs.unchecked.put_number.Tie as tie
+use Rattle.texts.specs.PutLaws.{put-part, put-length}
+use Rattle.texts.proofs.unchecked.put_number.Statement.{statement}
+use Rattle.texts.proofs.unchecked.put_number.Tie as tie
 
 -- the word leaves room for the digits
 room : (c : tie.After-put-bytes) → c .put-bytes .result ≤ length (c .before .before .before .before .args .out .now)
 room c = omega (arith, c .put-bytes .ensures .long, c .before .before .before .before .pre)
 
 -- and the digits have room
-end : (c : tie.After-put-decimal) → c .before .before .before .before .put-bytes .result + c .put-decimal .result ≤ length (c .before .before .before .before .before .before .before .before .args .out .now)
+end : (c : tie.After-put-decimal)
+    → c .before .before .before .before .put-bytes .result + c .put-decimal .result ≤ length
+    (c .before .before .before .before .before .before .before .before .args .out .now)
 end c =
     let first = c .before .before .before .before in
     omega (arith, first .put-bytes .ensures .long, c .put-decimal .ensures .long, first .before .before .before .before .pre)
@@ -42,7 +44,8 @@ put-decimal-requires c κs =
     )
 
 add-result : tie.Need-add-result
-add-result c = record { fits = omega (arith, end (c .before .before), c .before .before .before .before .before .before .before .before .before .before .good .0 .0) }
+add-result c =
+    record { fits = omega (arith, end (c .before .before), c .before .before .before .before .before .before .before .before .before .before .good .0 .0) }
 
 returns : tie.Need-returns
 returns c = let done = c .before .before in put-part (done .before .before .before .before .put-bytes .ensures) (end done) (done .put-decimal .ensures)

@@ -6,7 +6,7 @@ use native.Mathlib.Omega.{arith}
 use lib.ListN.{length, take, drop, set, length-append, length-drop}
 use borrow.Rule.Slice.PartMut.{putMid}
 use Rattle.integers.specs.WriteLaws.{store-on, write-on}
-use Rattle.question.specs.Writes.{Put}
+use Rattle.texts.specs.Writes.{Put}
 
 -- no text
 pub put-none : (xs : List ℕ) → Put [] 0 xs xs
@@ -26,5 +26,9 @@ module _ {p x₀ xs : List ℕ} {a : ℕ} (w : Put p a x₀ xs) where
   put-byte b h = record { long = length-append p (b ∷ []) ∙ omega (arith, w .long); bytes = store-on x₀ xs p b a (w .bytes) (w .long) h }
 
   -- a text put into the part after the text
-  pub put-part : {b ys : List ℕ} {n : ℕ} → a + n ≤ length x₀ → Put b n (take (length xs - a) (drop a xs)) ys → Put (p ++ b) (a + n) x₀ (putMid a (length xs - a) xs ys)
-  put-part {b} {ys} {n} h v = record { long = length-append p b ∙ omega (arith, w .long, v .long); bytes = write-on x₀ xs ys p b a n (w .bytes) (w .long) (v .long) h (v .bytes) }
+  pub put-part : {b ys : List ℕ} {n : ℕ} → a + n ≤ length x₀ → Put b n (take (length xs - a) (drop a xs)) ys
+      → Put (p ++ b) (a + n) x₀ (putMid a (length xs - a) xs ys)
+  put-part {b} {ys} {n} h v = record {
+    long = length-append p b ∙ omega (arith, w .long, v .long);
+    bytes = write-on x₀ xs ys p b a n (w .bytes) (w .long) (v .long) h (v .bytes);
+  }

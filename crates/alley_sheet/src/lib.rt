@@ -1,0 +1,107 @@
+// The sheet of an alley, lane by lane: a lane's line and the totals after it, and the last line with both sums.
+ghost use mathlib.Core.Path.{_≡_};
+ghost use mathlib.Core.List.{List};
+ghost use Prim.Native.Nat.{ℕ};
+ghost use lib.ListN.{length};
+ghost use Rattle.integers.specs.Refusals.{stored};
+ghost use Rattle.format.specs.Format.{Bytes};
+ghost use Rattle.alley_sheet.specs.Claims.{TotalOfRecords, TotalOfLines, LaneByLane};
+ghost use Rattle.alley_sheet.specs.Answers.{noLanes, listing, asListed, textOf, totalAnswer, asLineWritten};
+
+// What is listed of a lane: 0 and its gates and cost, or the number of its refusal and 0.
+pub struct Entry {
+    pub code: u8,
+    pub gates: u64,
+    pub cost: u64,
+}
+
+// The sheet so far: the number of lanes listed, refused ones too, and both sums.
+pub struct Totals {
+    pub lanes: usize,
+    pub gates: u64,
+    pub cost: u64,
+}
+
+// What `list_lane` answers: 0 or the refusal, how many bytes the lane takes (0 for no lane), the length of its line with the line feed, what
+// is listed of it, and the totals after it.
+pub struct Listed {
+    pub code: u8,
+    pub taken: usize,
+    pub length: usize,
+    pub entry: Entry,
+    pub totals: Totals,
+}
+
+// What `total_line` answers: 0 or the refusal, and the line's length with its line feed.
+pub struct LineWritten {
+    pub code: u8,
+    pub length: usize,
+}
+
+// The totals before the first lane.
+pub fn no_lanes() -> Totals
+    ensures { λ r. ⌜ r ≡ noLanes ⌝ }
+{
+    Totals {
+        lanes: 0,
+        gates: 0,
+        cost: 0,
+    }
+}
+
+// Lists the first lane of the bytes, which are an alley file's from a lane's start on; `last` says that nothing follows them. Its line goes
+// to the front of the lent bytes. The answer has the bytes that the lane takes, what is listed of it and the totals after it; no bytes
+// are taken where the bytes end before the lane does and are not the last, where none are left, and after 65,535 lanes. Refusals: 20 for
+// totals that no alley has, 18 where the line is longer than the lent bytes.
+pub fn list_lane(bytes: &[u8], last: bool, totals: Totals, out: &mut [u8]) -> Listed
+    ensures { λ r. ⌜ r ≡ asListed totals (listing totals last (now (bytes .entry)) (length (now (out .entry)))) ⌝ }
+    ensures { λ _. ⌜ now (out .exit) ≡ stored (textOf (listing totals last (now (bytes .entry)) (length (now (out .entry))))) (now (out .entry)) ⌝ }
+{
+    if !unchecked::is_sound(totals) {
+        return unchecked::none_listed(20, totals);
+    }
+    if 65535 <= totals.lanes {
+        return unchecked::none_listed(0, totals);
+    }
+    let found = unchecked::find_lane(bytes, last);
+    let taken = found.taken;
+    if taken == 0 {
+        return unchecked::none_listed(0, totals);
+    }
+    let entry = unchecked::lane_entry(bytes, found);
+    unchecked::write_lane(taken, entry, totals, out)
+}
+
+// Writes the last line, `total` and both sums, at the front of the lent bytes. Refusal: 18 where it is longer than the lent bytes.
+pub fn total_line(totals: Totals, out: &mut [u8]) -> LineWritten
+    ensures { λ r. ⌜ r ≡ asLineWritten (totalAnswer totals (length (now (out .entry)))) ⌝ }
+    ensures { λ _. ⌜ now (out .exit) ≡ stored (totalAnswer totals (length (now (out .entry)))) (now (out .entry)) ⌝ }
+{
+    let mut text = [0u8; 48];
+    let length = unchecked::put_total(&mut text, totals.gates, totals.cost);
+    if out.len() < length {
+        return LineWritten {
+            code: 18,
+            length: 0,
+        };
+    }
+    texts::unchecked::put_bytes(out, &text[..length]);
+    LineWritten { code: 0, length }
+}
+
+// Every alley file's total is the sum over the records read, as the size report counts them.
+pub fn total_of_records()
+    ensures { λ _. ⌜ ((alley : List ℕ) → Bytes alley → TotalOfRecords alley) ⌝ }
+{}
+
+// Every alley file's sheet, read back strictly, says each lane's entry at its position, and a total that is the sum of what these lines say.
+pub fn total_of_lines()
+    ensures { λ _. ⌜ ((alley : List ℕ) → Bytes alley → TotalOfLines alley) ⌝ }
+{}
+
+// Calls of `list_lane` in a row, however the file comes in, and one of `total_line` print the sheet.
+pub fn lane_by_lane()
+    ensures { λ _. ⌜ LaneByLane ⌝ }
+{}
+
+mod unchecked;

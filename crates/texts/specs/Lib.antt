@@ -1,0 +1,4 @@
+pub mod Texts
+pub mod Writes
+pub mod DecimalLaws
+pub mod PutLaws

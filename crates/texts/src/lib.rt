@@ -1,0 +1,2 @@
+// Text in ASCII in lent bytes: words and decimal numbers.
+pub mod unchecked;
