@@ -31,7 +31,7 @@ lanes-bytes (suc n) [] b = tt
 lanes-bytes (suc n) (low ∷ []) b = (tt, tt)
 lanes-bytes (suc n) (low ∷ high ∷ s) b =
     elim (leb (laneLength low high) (length s)) as
-        (λ x. Each LaneBytes (cond x (whole (take (laneLength low high) s) ∷ lanesUpTo n (drop (laneLength low high) s)) (cut ∷ []))) [
+    (λ x. Each LaneBytes (cond x (whole (take (laneLength low high) s) ∷ lanesUpTo n (drop (laneLength low high) s)) (cut ∷ []))) [
       | true ↦ (bytes-take (laneLength low high) s (b .1 .1), lanes-bytes n (drop (laneLength low high) s) (bytes-drop (laneLength low high) s (b .1 .1)))
       | false ↦ (tt, tt)
     ]
@@ -43,7 +43,7 @@ lanes-few (suc n) [] = omega arith
 lanes-few (suc n) (low ∷ []) = omega arith
 lanes-few (suc n) (low ∷ high ∷ s) =
     elim (leb (laneLength low high) (length s)) as
-        (λ x. length (cond x (whole (take (laneLength low high) s) ∷ lanesUpTo n (drop (laneLength low high) s)) (cut ∷ [])) ≤ suc n)
+    (λ x. length (cond x (whole (take (laneLength low high) s) ∷ lanesUpTo n (drop (laneLength low high) s)) (cut ∷ [])) ≤ suc n)
     [ true ↦ omega (arith, lanes-few n (drop (laneLength low high) s)) | false ↦ omega arith ]
 
 fair-lanes : (ls : List Lane) → Each LaneBytes ls → Each Fair (map entryOf ls)
@@ -90,8 +90,8 @@ module _ (ls : List Lane) (s : Same ls) where
       go (Read.refused k) e = passed (whole file)
           (unfold readNet asAnswer bind in ap (λ (r : Read Net). counted (bind (asAnswer r) (λ N. accepted (sizeOf N)))) e)
           (unfold loaded asLoaded in
-              rw (ne-eqb (asLoaded (parseFile file) .code) 0
-              (λ z. absurd (omega (arith, refused-positive file k e, ap (λ (r : Read Net). asLoaded r .code) e, z)))))
+          rw (ne-eqb (asLoaded (parseFile file) .code) 0
+          (λ z. absurd (omega (arith, refused-positive file k e, ap (λ (r : Read Net). asLoaded r .code) e, z)))))
       go (done N rest) e =
           let z : loaded file .code ≡ 0 = unfold loaded asLoaded in ap (λ (r : Read Net). asLoaded r .code) e in
           added (whole file) (loaded file .network) (read-size file b z) (rw (eq-eqb (loaded file .code) 0 z))

@@ -106,7 +106,7 @@ content-said : (p : ℕ) (a : Answer Size) → p < 10 ^ 20 → Fair a → lineOf
 unfolding content lineFor
 content-said p (accepted f) h s =
     words-three (decimal p) (decimal (f .gates)) (decimal (f .cost)) (decimal-plain 32 p (omega arith)) (decimal-plain 32 (f .gates) (omega arith))
-        (decimal-plain 32 (f .cost) (omega arith))
+    (decimal-plain 32 (f .cost) (omega arith))
     ∙ size-said p (f .gates) (f .cost) h (omega (arith, s .small .0)) (omega (arith, s .small .1))
 content-said p (refused k) h s =
     words-three (decimal p) refusedName (decimal k) (decimal-plain 32 p (omega arith)) (refused-plain .0) (decimal-plain 32 k (omega arith))
@@ -129,8 +129,8 @@ total-back f h k =
     ap (λ (l : List ℕ). saidBy (map lineOf (parts 10 l))) text-is
     ∙ ap (λ (ls : List (List ℕ)). saidBy (map lineOf ls)) (first-part 10 body [] body-plain)
     ∙ ap (λ (l : Line). saidBy (l ∷ map lineOf (parts 10 [])))
-        (words-three totalName (decimal (f .gates)) (decimal (f .cost)) (total-plain .0) (decimal-plain 32 (f .gates) (omega arith))
-        (decimal-plain 32 (f .cost) (omega arith)) ∙ total-said (f .gates) (f .cost) h k)
+    (words-three totalName (decimal (f .gates)) (decimal (f .cost)) (total-plain .0) (decimal-plain 32 (f .gates) (omega arith))
+    (decimal-plain 32 (f .cost) (omega arith)) ∙ total-said (f .gates) (f .cost) h k)
     ∙ last
   where
     body : List ℕ

@@ -145,7 +145,7 @@ module _ (last : Bool) (later : List ℕ) (closes : last ≡ true → later ≡ 
   first m (low ∷ high ∷ s) b =
       elim (leb (laneLength low high) (length s)) as (λ x. leb (laneLength low high) (length s) ≡ x
       → First m (low ∷ high ∷ s)
-          (cond x (lane (2 + laneLength low high) (whole (take (laneLength low high) s))) (cond last (lane (2 + length s) cut) nothing))) [
+      (cond x (lane (2 + laneLength low high) (whole (take (laneLength low high) s))) (cond last (lane (2 + length s) cut) nothing))) [
         | true ↦ λ e. in-full m low high s (b .1 .1) (leb-true (laneLength low high) (length s) e)
         | false ↦ λ e. cut-off m low high s (b .0) (b .1 .0) (leb-false (laneLength low high) (length s) e) last refl
       ] refl

@@ -22,8 +22,8 @@ returns c =
     let asked = c .before .before in
     let a = asked .before .before .before .args in
     let gives =
-        refused-gives (a .totals) (a .out .now)
-        (unsound (a .totals) (a .last) (a .bytes .now) (length (a .out .now)) (sym (asked .is-sound .ensures) ∙ not-true _ (c .before .if1 .taken))) in
+    refused-gives (a .totals) (a .out .now)
+    (unsound (a .totals) (a .last) (a .bytes .now) (length (a .out .now)) (sym (asked .is-sound .ensures) ∙ not-true _ (c .before .if1 .taken))) in
     (c .none-listed .ensures ∙ gives .0, gives .1)
 
 -- past the first test the totals are sound
@@ -38,7 +38,7 @@ returns-2 c =
     let at-else = c .before .before .before in
     let a = at-else .before .before .before .before .args in
     let gives =
-        idle-gives (a .totals) (a .out .now) (shut (a .totals) (a .last) (a .bytes .now) (length (a .out .now)) (sound at-else) (c .before .if2 .taken)) in
+    idle-gives (a .totals) (a .out .now) (shut (a .totals) (a .last) (a .bytes .now) (length (a .out .now)) (sound at-else) (c .before .if2 .taken)) in
     (c .none-listed2 .ensures ∙ gives .0, gives .1)
 
 find-lane-requires : tie.Need-find-lane-requires
@@ -54,7 +54,7 @@ returns-3 c =
     let a = at-else .before .before .before .before .args in
     let gives = idle-gives (a .totals) (a .out .now)
     (none-found (a .totals) (a .last) (a .bytes .now) (length (a .out .now)) (sound at-else) (found .before .if2 .left) (found .find-lane .result)
-        (found .find-lane .ensures) (c .before .if3 .taken)) in
+    (found .find-lane .ensures) (c .before .if3 .taken)) in
     (c .none-listed3 .ensures ∙ gives .0, gives .1)
 
 lane-entry-requires : tie.Need-lane-entry-requires
@@ -81,7 +81,7 @@ returns-4 c =
     let f = found .find-lane .result in
     let e = ap (λ (x : Answer Size). written room (listed (a .totals) (f .taken) x)) (read .lane-entry .ensures .is)
     ∙ sym (lane-found (a .totals) (a .last) (a .bytes .now) room (sound at-else) (found .before .if2 .left) f (found .find-lane .ensures)
-        (at-lane .if3 .left)) in (
+    (at-lane .if3 .left)) in (
       done .write-lane .ensures .0 ∙ ap (asListed (a .totals)) e,
       done .write-lane .ensures .1 ∙ ap (λ (x : Answer Step). stored (textOf x) (a .out .now)) e,
     )

@@ -19,7 +19,7 @@ abbrev μ-loop : tie.MeasureT-loop
 -- a read leaves as many bytes as there were
 kept : (c : tie.After-read-some Inv-loop μ-loop) → let l = c .before .before .before .loop in
     length (putMid (l .end) (length (l .input) - l .end) (l .input) (c .read-some .last .0))
-        ≡ length (c .before .before .before .before .before .before .args .input .now)
+    ≡ length (c .before .before .before .before .before .before .args .input .now)
 kept c =
     let l = c .before .before .before .loop in
     same-len-mid (l .end) (length (l .input) - l .end) (l .input) (c .read-some .last .0) (c .read-some .kept .0) ∙ l .inv .1

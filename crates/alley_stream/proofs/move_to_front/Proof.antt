@@ -43,10 +43,11 @@ loop-less c = search needs
 
 loop-again : tie.Need-loop-again Inv-loop μ-loop
 loop-again c =
-    let made = c .before .before .before in
-    (omega arith,
-        one-moved (c .before .before .loop .inv .1)
-        (omega (arith, c .before .loop-test .taken, made .least2 .ensures .second, made .before .least .ensures .second)))
+    let made = c .before .before .before in (
+      omega arith,
+      one-moved (c .before .before .loop .inv .1)
+          (omega (arith, c .before .loop-test .taken, made .least2 .ensures .second, made .before .least .ensures .second)),
+    )
 
 same-length : tie.Need-same-length Inv-loop μ-loop
 same-length c = c .before .loop .inv .1 .long

@@ -38,8 +38,13 @@ refused-room c =
     let done = c .before .before .before in
     let start = done .before .before .before in
     let a = start .args in
-    omega (arith, done .put-decimal .ensures .long, refused-length (a .position) (a .entry .code),
-        ap (λ (x : Answer Size). length (laneText (a .position) x)) (refused-is c), long start)
+    omega (
+      arith,
+      done .put-decimal .ensures .long,
+      refused-length (a .position) (a .entry .code),
+      ap (λ (x : Answer Size). length (laneText (a .position) x)) (refused-is c),
+      long start,
+    )
 
 -- the line of size
 size-is : (c : tie.Else1) → let a = c .before .before .before .before .before .before .args in
@@ -98,8 +103,13 @@ size-room c =
     let done = c .before .before .before in
     let start = done .before .before .before in
     let a = start .args in
-    omega (arith, done .put-decimal .ensures .long, lane-length (a .position) (sizeWith (a .entry .gates) (a .entry .cost)),
-        ap (λ (x : Answer Size). length (laneText (a .position) x)) (size-is c), long start)
+    omega (
+      arith,
+      done .put-decimal .ensures .long,
+      lane-length (a .position) (sizeWith (a .entry .gates) (a .entry .cost)),
+      ap (λ (x : Answer Size). length (laneText (a .position) x)) (size-is c),
+      long start,
+    )
 
 sub-put-size : tie.Need-sub-put-size
 sub-put-size c = omega (arith, first-long (c .before .before .before), size-room c)

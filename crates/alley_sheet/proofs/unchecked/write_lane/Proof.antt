@@ -39,8 +39,11 @@ within c =
     let start = c .before .before .before .before in
     let a = start .args in
     let h : c .put-lane .result ≤ 21 =
-        omega (arith, p .long,
-        lane-short (a .totals .lanes + 1) (omega (arith, start .pre .0 .room)) (entryIn (a .entry)) (listable-fair (a .entry) (start .pre .1))) in
+    omega (
+      arith,
+      p .long,
+      lane-short (a .totals .lanes + 1) (omega (arith, start .pre .0 .room)) (entryIn (a .entry)) (listable-fair (a .entry) (start .pre .1)),
+    ) in
     omega (arith, put-length p h)
 
 slice-aggregate-put-lane : tie.Need-slice-aggregate-put-lane
@@ -62,8 +65,8 @@ returns c =
     let a = start .args in
     let out = a .out .now in
     let gives =
-        refused-gives (a .totals) out
-        (too-long (length out) (stepOf start) (omega (arith, done .put-lane .ensures .long, ap length (step-text start), c .before .if1 .taken))) in
+    refused-gives (a .totals) out
+    (too-long (length out) (stepOf start) (omega (arith, done .put-lane .ensures .long, ap length (step-text start), c .before .if1 .taken))) in
     (c .none-listed .ensures ∙ gives .0, gives .1)
 
 array-share-prefix-text : tie.Need-array-share-prefix-text
@@ -94,7 +97,7 @@ answer t n e k after same long d =
     ap (λ (x : Totals). record { code = 0; taken = n; length = k; entry = e; totals = x }) d
     ∙ ap (λ (j : ℕ). record { code = 0; taken = n; length = j; entry = e; totals = withEntry t (entryIn e) }) (sym long)
     ∙ ap (λ (x : Entry).
-        record { code = 0; taken = n; length = length (laneText (t .lanes + 1) (entryIn e)); entry = x; totals = withEntry t (entryIn e) }) (sym same)
+    record { code = 0; taken = n; length = length (laneText (t .lanes + 1) (entryIn e)); entry = x; totals = withEntry t (entryIn e) }) (sym same)
 
 returns-2 : tie.Need-returns-2
 returns-2 c =
@@ -107,8 +110,8 @@ returns-2 c =
     let long = done .put-lane .ensures .long in
     let put = put-text (copied .put-bytes .ensures) (text-is done) in
     let gives =
-        accepted-gives (a .totals) out
-        (has-room (length out) (stepOf start) (omega (arith, long, ap length (step-text start), copied .before .before .before .if1 .left))) in (
+    accepted-gives (a .totals) out
+    (has-room (length out) (stepOf start) (omega (arith, long, ap length (step-text start), copied .before .before .before .if1 .left))) in (
       answer (a .totals) (a .taken) (a .entry) (done .put-lane .result) (c .with-entry .result) (start .pre .1 .same) long (c .with-entry .ensures) ∙ gives .0,
       put .bytes ∙ ap (λ (n : ℕ). text ++ drop n out) (sym (put .long)) ∙ ap (λ (l : List ℕ). l ++ drop (length l) out) (sym (step-text start)) ∙ gives .1,
     )

@@ -131,7 +131,7 @@ put-decimal-returns-2 t c =
     let done = c .before .before in
     let start = done .before .before .before .before in
     put-text (put-byte (done .put-decimal .ensures) (48 + start .args .n % 10) (room done))
-        (sym (decimal-more (start .args .n) (done .before .before .if1 .left) (start .fits .n .fits)))
+    (sym (decimal-more (start .args .n) (done .before .before .if1 .left) (start .fits .n .fits)))
 
 pub +put-decimal-spec : {M : Type 1} → statement M
 +put-decimal-spec = close μ-put-decimal λ t. put-decimal-lts.spec (
