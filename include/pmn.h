@@ -1,13 +1,13 @@
 /* The folder's functions for C: threshold networks in PMN files (libcapi.a).
  *
- * Every function takes whole files and numbers, and answers 0 or the number of a refusal (the table of codes in document 01; 26 is from
- * document 02). The number 13 is never given.
+ * Every function takes whole files, of version 1 or 2, and numbers, and answers 0 or the number of a refusal (the table of codes in
+ * document 01; 24, 25 and 26 are from document 02). The number 13 is never given.
  * A slice is a pointer and then a length, in bytes for uint8_t and in numbers for uint64_t and int64_t. A slice that is written overlaps
  * no other slice of the same call. A pointer is not null, even where the length is 0.
  *
- * Every function but pmn_three_feeds, which is given no file, reads its file first: the refusal is the read's ("as read", 1 to 9), before
- * any other. On a refusal everything that was lent is left as it was; where the answer is 0, places and bytes after those named are left
- * as they were. pmn_witness alone writes where its answer is not 0: with 15, and only then. */
+ * Every function but pmn_three_feeds, which is given no file, reads its file first: the refusal is the read's ("as read", 1 to 9 or 24),
+ * before any other. On a refusal everything that was lent is left as it was; where the answer is 0, places and bytes after those named
+ * are left as they were. pmn_witness alone writes where its answer is not 0: with 15, and only then. */
 #ifndef PMN_H
 #define PMN_H
 
@@ -18,7 +18,7 @@
 extern "C" {
 #endif
 
-/* Reads a file. Codes in order: as read (1 to 9). */
+/* Reads a file. Codes in order: as read, field by field: 1 to 9, and 24 after the feeds of a gate that breaks a margin of version 2. */
 uint8_t pmn_check(const uint8_t *file, size_t file_length);
 
 /* Reads a frame, bit i for input i. answer[0]: the output bits, output j in bit j; answer[1]: how many of them are 1.
@@ -41,7 +41,8 @@ uint8_t pmn_pair(const uint8_t *file, size_t file_length, uint64_t u, uint64_t v
  * and v with u put in differ, with as few of them lit as any such setting has. Nothing is merged. The answer is the merge's own number,
  * 0 where it would be accepted. Only where it is 15 answer[0] is written: the setting, bit i for the distinct feed i, counted from 0 in
  * rising order; pmn_distinct says which signals these are. With every other number answer is left as it was.
- * Codes in order: as read, 18 where answer has no place, 11, 12, 14, 7, 6, 15. */
+ * Codes in order: as read, 18 where answer has no place, 11, 12, 14, 7, 6, 24, 15: a merge that breaks a margin has no setting, even where
+ * it disagrees too. */
 uint8_t pmn_witness(const uint8_t *file, size_t file_length, uint64_t u, uint64_t v, uint64_t k, uint64_t l,
                     uint64_t *answer, size_t answer_length);
 
@@ -67,6 +68,14 @@ uint8_t pmn_preview(const uint8_t *file, size_t file_length, uint64_t signal,
 uint8_t pmn_write(const uint8_t *file, size_t file_length,
                   uint8_t *out, size_t out_length,
                   uint64_t *answer, size_t answer_length);
+
+/* Writes the file of the same network in the other version at the front of out: version 1 into version 2 with the margins 0 and 1, version
+ * 2 into version 1 where it has these margins. answer[0]: its length, 2 more or 2 less than the length of the file.
+ * Codes in order: as read, 18 where answer has no place, 25 where version 1 cannot hold the margins, 18 where the other file is longer than
+ * out. */
+uint8_t pmn_convert(const uint8_t *file, size_t file_length,
+                    uint8_t *out, size_t out_length,
+                    uint64_t *answer, size_t answer_length);
 
 /* Copies the bytes of the gate with a signal to the front of out. answer[0]: how many they are.
  * Codes in order: as read, 18 where answer has no place, 11, 18 where the gate's bytes are longer than out. */
@@ -94,7 +103,7 @@ uint8_t pmn_line(const uint8_t *first, size_t first_length,
  * sweep the number of collapses, 0 and 0; of a preview gates, cost and levels after the collapse; of every other call, and where the code
  * is not 0, 0, 0 and 0.
  * Codes in order: as read, 14 where calls_length is no multiple of 5 or a kind is above 4, 18 where answers has fewer places than
- * 1 and 4 for each call, or out is shorter than the file. With 10,904 bytes or more in out, which hold any file, the list is run
+ * 1 and 4 for each call, or out is shorter than the file. With 10,906 bytes or more in out, which hold any file, the list is run
  * once; with fewer it is run twice. */
 uint8_t pmn_run(const uint8_t *file, size_t file_length,
                 const uint64_t *calls, size_t calls_length,

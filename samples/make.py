@@ -2,8 +2,8 @@
 """Writes the sample files of this folder: python3 samples/make.py
 Or puts PMN files together to an alley file: python3 samples/make.py ALLEY FILE ..
 
-Each sample is a PMN file, version 1, of a mask that a mechanic would recognise. A gate is a list of feeds (signal, weight) and a
-threshold; inputs have the signals 0 to inputs - 1, and gates follow in order.
+Each sample is a PMN file, version 1 or with margins version 2, of a mask that a mechanic would recognise. A gate is a list of feeds
+(signal, weight) and a threshold; inputs have the signals 0 to inputs - 1, and gates follow in order.
 """
 import os
 import struct
@@ -26,8 +26,10 @@ class Mask:
         """A vote: 1 if at least count of the signals are 1."""
         return self.gate([(s, 1) for s in signals], count)
 
-    def write(self, name, outputs):
-        data = b"PMN" + struct.pack("<HBBB", 1, self.inputs, len(self.gates), len(outputs))
+    def write(self, name, outputs, on=None, off=None):
+        """Writes the file, of version 2 where margins are given."""
+        version = struct.pack("<H", 1) if off is None else struct.pack("<HBB", 2, on, off)
+        data = b"PMN" + version + bytes([self.inputs, len(self.gates), len(outputs)])
         for feeds, threshold in self.gates:
             data += struct.pack("<Bi", len(feeds), threshold)
             for signal, weight in feeds:
@@ -110,6 +112,27 @@ def no_fold():
     mask.write("no_fold.pmn", outputs)
 
 
+def tolerant_rack():
+    """The full rack on boards that drift: every vote weighs ten, and thresholds leave 2 to the sums that reach them and 8 to the others.
+    The margins are 2 and 4, which the folded gates keep too: it folds as the full rack does."""
+    mask = Mask(40)
+    pins = []
+    for pin in range(10):
+        upper, lower = [4 * pin, 4 * pin + 1], [4 * pin + 2, 4 * pin + 3]
+        foot = mask.gate([(patch, 10) for patch in lower], 18)
+        pins.append(mask.gate([(upper[0], 10), (upper[1], 10), (foot, 10)], 18))
+    mask.write("tolerant_rack.pmn", pins, on=2, off=4)
+
+
+def strict_pin():
+    """A pin with the votes of file F, 25 times as heavy, on a board with margins of 8 and 17. Without margins its two gates fold as F's do,
+    into one that has a sum 1 below its threshold; no multipliers up to 32 take that sum 17 below it, so with them nothing folds."""
+    mask = Mask(3)
+    u = mask.gate([(0, 100), (1, 75)], 125)
+    v = mask.gate([(2, 25), (u, 50)], 67)
+    mask.write("strict_pin.pmn", [v], on=8, off=17)
+
+
 def read(name):
     with open(name, "rb") as file:
         return file.read()
@@ -133,5 +156,5 @@ if __name__ == "__main__":
     if len(sys.argv) > 2:
         alley(sys.argv[1], [read(name) for name in sys.argv[2:]])
     else:
-        for sample in (f, full_rack, corner_pin, shadow_rack, strapped_pin, far_fold, no_fold, six_lanes):
+        for sample in (f, full_rack, corner_pin, shadow_rack, strapped_pin, far_fold, no_fold, tolerant_rack, strict_pin, six_lanes):
             sample()

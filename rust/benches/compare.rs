@@ -1,6 +1,6 @@
 //! Times of the proved library on the same inputs as the independent implementation, which tries everything, and as the exact method, which
 //! finds a pair by one pass over its settings: in one process, and their ratios. All rows, or those of the kinds named on the command line:
-//! file, preview, frames, witness, pair, sweep, alley.
+//! file, preview, frames, witness, pair, sweep, margins, alley.
 use std::env;
 use std::fs::{self, File};
 use std::hint::black_box;
@@ -10,10 +10,10 @@ use yovrenik_tests as library;
 use yovrenik_tests::direct;
 use yovrenik_tests::exact;
 use yovrenik_tests::generate::{
-    folding_chain, full_folding, full_standing, largest, last_setting_only, lit_from, mirrored, mixed_chain, most_passes, network,
-    ratio_31_32, standing_chain, Random,
+    folding_chain, full_folding, full_standing, heavier, largest, largest_tolerant, last_setting_only, lit_from, mirrored, mixed_chain,
+    most_passes, narrow, network, ratio_31_32, standing_chain, Random,
 };
-use yovrenik_tests::reference::{self, Net};
+use yovrenik_tests::reference::{self, Board, Net};
 
 /// The least mean time of one call over many short runs, so that other work of the machine counts little; a call that takes long is made
 /// once.
@@ -264,6 +264,88 @@ fn sweep_rows() {
     }
 }
 
+/// A network with margins, and the same gates in version 1.
+fn both_versions(net: &Net) -> [Net; 2] {
+    [Net { board: Board::VERSION_1, ..net.clone() }, net.clone()]
+}
+
+/// One row: the library's times on a file of version 1 and on one of version 2 with the same gates and margins that they keep, and how many
+/// times the former the latter is; then with its ratio each the independent implementation's times on the two.
+fn margins_row(name: &str, ours: [Duration; 2], theirs: [Duration; 2]) {
+    let cells = [0, 1].map(|i| format!("{} | {}", text(theirs[i]), ratio(ours[i], theirs[i])));
+    println!("| {name} | {} | {} | {} | {} | {} |", text(ours[0]), text(ours[1]), ratio(ours[0], ours[1]), cells[0], cells[1]);
+}
+
+/// Full files: the read, a frame and a report with their reads, each of which tests that its record is sound.
+fn full_margins_rows() {
+    let nets = both_versions(&largest_tolerant(&mut Random::new(7)));
+    let taken = nets.each_ref().map(|net| {
+        let file = reference::write(net);
+        let x = 0x5A_5A5A_5A5A;
+        let (mut answer, mut size) = ([0u64; 2], [0u64; 3]);
+        times([
+            &mut || assert_eq!(library::check(black_box(&file)), 0),
+            &mut || assert_eq!(library::frame(black_box(&file), x, &mut answer), 0),
+            &mut || assert_eq!(library::report(black_box(&file), &mut size), 0),
+            &mut || assert!(black_box(reference::read(black_box(&file))).is_ok()),
+            &mut || assert!(black_box(reference::frame(black_box(net), x)).is_ok()),
+            &mut || assert_eq!(black_box(reference::report(black_box(net)))[0], 128),
+        ])
+    });
+    let with_read = |i: usize| taken.map(|times| times[3] + times[i]);
+    margins_row("read of the largest file", taken.map(|times| times[0]), taken.map(|times| times[3]));
+    margins_row("soundness and frame on it (read and frame)", taken.map(|times| times[1]), with_read(4));
+    margins_row("soundness and report of it (read and report)", taken.map(|times| times[2]), with_read(5));
+}
+
+/// Pairs of the two gates of a network, less the read, against the exact method: its form for any margins in version 2.
+fn pair_margins_row(name: &str, net: &Net, want: [reference::Answer<(u64, u64)>; 2]) {
+    let (u, v) = (net.inputs as u64, net.inputs as u64 + 1);
+    let nets = both_versions(net);
+    let finds: [reference::Find; 2] = [exact::pair, exact::pair_with_margins];
+    let taken = [0, 1].map(|i| {
+        let (file, want) = (reference::write(&nets[i]), want[i]);
+        let mut answer = [0u64; 2];
+        let [read, pair, theirs] = times([
+            &mut || assert_eq!(library::check(black_box(&file)), 0),
+            &mut || assert_eq!(library::pair(black_box(&file), u, v, &mut answer), want.err().unwrap_or(0)),
+            &mut || assert_eq!(finds[i](black_box(&nets[i]), u, v), want),
+        ]);
+        assert_eq!((answer[0], answer[1]), want.unwrap_or((0, 0)));
+        (pair.saturating_sub(read), theirs)
+    });
+    margins_row(name, taken.map(|t| t.0), taken.map(|t| t.1));
+}
+
+/// Sweeps with the read and the write, and by the independent implementation with the pairs found by the exact method.
+fn sweep_margins_row(name: &str, net: &Net, folds: u64) {
+    let nets = both_versions(net);
+    let finds: [reference::Find; 2] = [exact::pair, exact::pair_with_margins];
+    let taken = [0, 1].map(|i| {
+        let (count, ours) = swept(&nets[i]);
+        assert_eq!(count, folds);
+        let theirs = time(|| assert_eq!(reference::sweep_by(black_box(&nets[i]), 128, finds[i]).unwrap().1.len() as u64, folds));
+        (ours, theirs)
+    });
+    margins_row(name, taken.map(|t| t.0), taken.map(|t| t.1));
+}
+
+fn margins_rows() {
+    full_margins_rows();
+    let name = |what: &str| format!("pair, 16 distinct feeds, {what} (the call less the read)");
+    pair_margins_row(&name("1 and 1 in both"), &narrow(1), [Ok((1, 1)); 2]);
+    pair_margins_row(&name("1 and 1, with margins 32 and 32"), &narrow(32), [Ok((1, 1)), Ok((32, 32))]);
+    pair_margins_row(&name("1 and 1, with margins none"), &narrow(33), [Ok((1, 1)), Err(16)]);
+    let only = Net { board: Board::version_2(255, 39), ..ratio_31_32() };
+    pair_margins_row(&name("31 and 32 in both"), &only, [Ok((31, 32)); 2]);
+    let none = Net { board: Board::version_2(32, 1), ..last_setting_only(16) };
+    pair_margins_row(&name("none in both, each disagrees on the last setting only"), &none, [Err(16); 2]);
+    for gates in [32, 64, 128] {
+        sweep_margins_row(&format!("sweep, {gates} gates that fold into one"), &heavier(&folding_chain(gates)), gates as u64 - 1);
+    }
+    sweep_margins_row("sweep of a full network that folds into one gate", &heavier(&full_folding()), 127);
+}
+
 /// A run of lanes with these files, again and again.
 fn alley(files: &[Vec<u8>], lanes: usize) -> Vec<u8> {
     let lane = |file: &Vec<u8>| [&(file.len() as u16).to_le_bytes(), &file[..]].concat();
@@ -321,5 +403,7 @@ fn main() {
     table("| witness, 16 distinct feeds | merge | witness | to a merge that agrees |", &[("witness", witness_rows)]);
     let head = "| on | library | exact method | ratio | the same by halves | ratio | plain search | ratio |";
     table(head, &[("pair", pair_rows), ("sweep", sweep_rows)]);
+    let head = "| margins | version 1 | version 2 | to version 1 | independent, version 1 | ratio | independent, version 2 | ratio |";
+    table(head, &[("margins", margins_rows)]);
     table("| alley | program | independent | ratio | one pass | ratio |", &[("alley", alley_rows)]);
 }

@@ -1,6 +1,8 @@
 //! The pair of two gates by one pass over their settings: each setting bounds k / l from one side, or says nothing of it, so that the
 //! tightest bounds decide every candidate. It is what the benchmarks hold the library's pair search to, in two forms: written plainly, as
-//! one loop over the settings, and by halves of the feeds, the fastest form known.
+//! one loop over the settings, and by halves of the feeds, the fastest form known. Both are for the margins 0 and 1 alone: with others a
+//! merged sum must be so far from the threshold, and a setting is no longer a bound on k / l. A third form, for any margins, tries every
+//! candidate on every setting, with the two gates' sums worked out once.
 use crate::reference::{Answer, Net};
 
 /// Two gates by their distinct feeds: the weights of the gate that votes (u, or its complement) and of v, the former's threshold, and what
@@ -126,11 +128,11 @@ fn on_scale(p: &Aligned, k: i64, l: i64) -> bool {
     fits(k * p.own + l * p.on) && p.us.iter().zip(&p.vs).all(|(x, y)| fits(k * x + l * y))
 }
 
-fn pair_within(p: &Aligned, bounds: Bounds) -> Answer<(u64, u64)> {
+fn first_pair(qualifies: impl Fn(i64, i64) -> bool) -> Answer<(u64, u64)> {
     for sum in 2..=64 {
         for k in 1..=32 {
             let l = sum - k;
-            if (1..=32).contains(&l) && bounds.serves(k, l) && on_scale(p, k, l) {
+            if (1..=32).contains(&l) && qualifies(k, l) {
                 return Ok((k as u64, l as u64));
             }
         }
@@ -138,12 +140,43 @@ fn pair_within(p: &Aligned, bounds: Bounds) -> Answer<(u64, u64)> {
     Err(16)
 }
 
+fn pair_within(p: &Aligned, bounds: Bounds) -> Answer<(u64, u64)> {
+    first_pair(|k, l| bounds.serves(k, l) && on_scale(p, k, l))
+}
+
+/// The bounds are for the margins 0 and 1 only.
+fn assert_no_margins(net: &Net) {
+    assert_eq!((net.board.on, net.board.off), (0, 1), "k / l has no bounds with such margins");
+}
+
 pub fn pair(net: &Net, u: u64, v: u64) -> Answer<(u64, u64)> {
+    assert_no_margins(net);
     let p = aligned(net, u, v)?;
     pair_within(&p, plainly(&p))
 }
 
 pub fn pair_by_halves(net: &Net, u: u64, v: u64) -> Answer<(u64, u64)> {
+    assert_no_margins(net);
     let p = aligned(net, u, v)?;
     pair_within(&p, by_halves(&p))
+}
+
+/// The pair with any margins. On a setting the merged gate's sum less its threshold is k × a + l × c, with a and c as for the bounds: it
+/// must be at least the on margin where the composed pair is 1, and the off margin or more below 0 where it is 0.
+pub fn pair_with_margins(net: &Net, u: u64, v: u64) -> Answer<(u64, u64)> {
+    let p = aligned(net, u, v)?;
+    let (us, vs) = (sums(&p.us), sums(&p.vs));
+    let composed = |u: i64, v: i64| v >= if u >= p.own { p.on } else { p.off };
+    let settings: Vec<(i64, i64, bool)> = us.iter().zip(&vs).map(|(&u, &v)| (u - p.own, v - p.on, composed(u, v))).collect();
+    let serves = |k: i64, l: i64| {
+        settings.iter().all(|&(a, c, one)| {
+            let sum = k * a + l * c;
+            if one {
+                sum >= net.board.on
+            } else {
+                sum <= -net.board.off
+            }
+        })
+    };
+    first_pair(|k, l| on_scale(&p, k, l) && serves(k, l))
 }

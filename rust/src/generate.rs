@@ -1,5 +1,6 @@
 //! Networks and files for tests and benchmarks, from a fixed seed.
-use crate::reference::{Gate, Net};
+use crate::reference::{Board, Gate, Net};
+use std::ops::Range;
 
 /// A small generator of numbers: the same sequence in every run.
 pub struct Random(u64);
@@ -72,7 +73,7 @@ pub fn network(r: &mut Random, most_gates: u64, most_feeds: u64) -> Net {
     let most_inputs = if r.below(4) == 0 { 40 } else { 6 };
     let inputs = 1 + r.below(most_inputs) as usize;
     let gates = 1 + r.below(most_gates) as usize;
-    let mut net = Net { inputs, gates: vec![], outputs: vec![] };
+    let mut net = Net { board: Board::VERSION_1, inputs, gates: vec![], outputs: vec![] };
     let style = r.below(4);
     let against = quarters_against(r);
     for g in 0..gates {
@@ -110,7 +111,7 @@ pub fn chain(r: &mut Random) -> Net {
     let gates = 2 + r.below(7) as usize;
     let largest = [1, 1, 3, 9][r.below(4) as usize];
     let against = quarters_against(r);
-    let mut net = Net { inputs, gates: vec![], outputs: vec![inputs + gates - 1] };
+    let mut net = Net { board: Board::VERSION_1, inputs, gates: vec![], outputs: vec![inputs + gates - 1] };
     for g in 0..gates {
         let own = inputs + g;
         let mut signals: Vec<usize> = (0..r.below(4)).map(|_| r.below(inputs as u64) as usize).collect();
@@ -137,7 +138,7 @@ pub fn chain(r: &mut Random) -> Net {
 pub fn inverters(r: &mut Random) -> Net {
     let gates = 2 + r.below(9) as usize;
     let largest = [1, 4, 40, 1_000_000][r.below(4) as usize];
-    let mut net = Net { inputs: 1, gates: vec![], outputs: vec![gates] };
+    let mut net = Net { board: Board::VERSION_1, inputs: 1, gates: vec![], outputs: vec![gates] };
     for g in 0..gates {
         let below = if r.below(6) == 0 { r.below(g as u64 + 1) as usize } else { g };
         let size = r.between(1, largest);
@@ -158,7 +159,8 @@ pub fn against(r: &mut Random) -> Net {
     let signals = some_inputs(r);
     let feeds = with_weights(r, signals, any_weight);
     let (low, high) = ends(&feeds);
-    let mut net = Net { inputs, gates: vec![Gate { feeds: feeds.clone(), threshold: r.between(low, high + 1) }], outputs: vec![] };
+    let first = Gate { feeds: feeds.clone(), threshold: r.between(low, high + 1) };
+    let mut net = Net { board: Board::VERSION_1, inputs, gates: vec![first], outputs: vec![] };
     for reader in 0..readers {
         let mut own = if r.below(3) == 0 {
             // the first gate's own feeds: their weights may cancel
@@ -198,7 +200,7 @@ pub fn heavy(r: &mut Random) -> Net {
     let mut feeds = with_weights(r, signals, weight);
     feeds.push((3, -weight(r).abs()));
     let v = Gate { threshold: threshold(r, &feeds), feeds };
-    Net { inputs: 3, gates: vec![u, v], outputs: vec![4] }
+    Net { board: Board::VERSION_1, inputs: 3, gates: vec![u, v], outputs: vec![4] }
 }
 
 /// Two gates with 15, 16 or 17 distinct feeds, each of which asks for all or for one of its feeds; the first votes for or against.
@@ -211,7 +213,7 @@ pub fn wide(r: &mut Random) -> Net {
         Gate { threshold: if r.below(2) == 0 { high } else { low + 1 }, feeds }
     };
     let gates = vec![gate((0..split).collect()), gate((split..=inputs).collect())];
-    Net { inputs, gates, outputs: vec![inputs + 1] }
+    Net { board: Board::VERSION_1, inputs, gates, outputs: vec![inputs + 1] }
 }
 
 /// The network said the other way round: gate u, which is no output, replaced by its complement, and each vote of it by the opposite one,
@@ -234,6 +236,92 @@ pub fn mirrored(net: &Net, u: usize) -> Option<Net> {
 pub fn alternating(net: &Net) -> Net {
     let gates = (net.inputs..net.inputs + net.gates.len()).step_by(2);
     gates.filter(|u| !net.outputs.contains(u)).fold(net.clone(), |net, u| mirrored(&net, u).unwrap())
+}
+
+// ---- networks with margins
+
+/// The widest margins that every gate keeps, each up to 255: the sums that reach T are so far above it, all others so far below.
+pub fn widest(net: &Net) -> (i64, i64) {
+    let (mut on, mut off) = (255, 255);
+    for gate in &net.gates {
+        for sum in gate.sums() {
+            if sum >= gate.threshold {
+                on = on.min(sum - gate.threshold);
+            } else {
+                off = off.min(gate.threshold - sum);
+            }
+        }
+    }
+    (on, off)
+}
+
+/// A network like this one as a file of version 2 has it, with margins that its gates keep: weights and thresholds are multiplied by a
+/// factor, which parts the sums, and at times the weights are then moved a little; each threshold is placed anew between the two sums
+/// beside it; and each margin is the widest one, one less, or any below. A merge puts together how its two thresholds lie between their
+/// sums, so that many a pair needs greater multipliers than without margins, or there is none.
+pub fn tolerant(r: &mut Random, net: &Net) -> Net {
+    let mut out = net.clone();
+    let numbers = net.gates.iter().flat_map(|gate| gate.feeds.iter().map(|f| f.1).chain([gate.threshold]));
+    let most = 1_000_000 / numbers.map(|z| z.abs().max(1)).max().unwrap();
+    let factor = most.min([1, 2, 3, 5, 8, 20, 101, 601][r.below(8) as usize]);
+    let moved = if r.below(3) == 0 { factor / 8 } else { 0 };
+    // how far below the next sum that reaches it a threshold is: near it, near the other end, half, a third or a quarter of the way, or
+    // anywhere; at times for each gate anew
+    let place = |r: &mut Random| match r.below(5) {
+        0 => r.below(factor.min(3) as u64) as i64,
+        1 => factor - 1 - r.below(factor.min(3) as u64) as i64,
+        2 => (factor - 1) / 2,
+        3 => factor / r.between(3, 4),
+        _ => r.below(factor as u64) as i64,
+    };
+    let (below, anew) = (place(r), r.below(6) == 0);
+    for gate in &mut out.gates {
+        for feed in &mut gate.feeds {
+            feed.1 = on_scale(factor * feed.1 + r.between(-moved, moved));
+        }
+        let below = if anew { place(r) } else { below };
+        let middle = factor * gate.threshold - factor / 2;
+        let sums = gate.sums();
+        let next = sums.iter().filter(|&&sum| sum >= middle).min();
+        let last = sums.iter().filter(|&&sum| sum < middle).max();
+        gate.threshold = on_scale(match (last, next) {
+            (Some(last), Some(next)) => (last + 1).max(next - below),
+            (None, next) => next.unwrap() - below,
+            (Some(last), None) => last + factor - below,
+        });
+    }
+    let (on, off) = widest(&out);
+    let inside = |r: &mut Random, least: i64, widest: i64| match r.below(4) {
+        0 | 1 => widest,
+        2 => least.max(widest - 1),
+        _ => r.between(least, widest),
+    };
+    out.board = Board::version_2(inside(r, 0, on), inside(r, 1, off));
+    out
+}
+
+/// The network, or now and then the same gates with margins.
+pub fn on_some_board(r: &mut Random, net: Net) -> Net {
+    if r.below(4) == 0 {
+        tolerant(r, &net)
+    } else {
+        net
+    }
+}
+
+/// The network with one of its margins one too wide for some gate, and the other one kept. None where no sum is so near that a margin could
+/// reach it.
+pub fn near_miss(r: &mut Random, net: &Net) -> Option<Net> {
+    let (on, off) = widest(net);
+    let too_far_on = |r: &mut Random| Board::version_2(on + 1, r.between(1, off));
+    let too_far_off = |r: &mut Random| Board::version_2(r.between(0, on), off + 1);
+    let board = match (on < 255, off < 255) {
+        (true, true) if r.below(2) == 0 => too_far_on(r),
+        (_, true) => too_far_off(r),
+        (true, false) => too_far_on(r),
+        (false, false) => return None,
+    };
+    Some(Net { board, ..net.clone() })
 }
 
 /// A file with some bytes changed, taken away or added.
@@ -265,7 +353,7 @@ pub fn damaged(r: &mut Random, file: &[u8]) -> Vec<u8> {
 /// The largest network: 40 inputs, 128 gates of 16 feeds, 16 outputs.
 pub fn largest(r: &mut Random) -> Net {
     let inputs = 40;
-    let mut net = Net { inputs, gates: vec![], outputs: vec![] };
+    let mut net = Net { board: Board::VERSION_1, inputs, gates: vec![], outputs: vec![] };
     for g in 0..128 {
         let mut signals: Vec<usize> = vec![];
         while signals.len() < 16 {
@@ -285,11 +373,31 @@ pub fn largest(r: &mut Random) -> Net {
     net
 }
 
+/// The largest network with margins, both 10: its weights are multiples of 20, and its thresholds lie in the middle between two.
+pub fn largest_tolerant(r: &mut Random) -> Net {
+    let mut net = largest(r);
+    for gate in &mut net.gates {
+        gate.feeds.iter_mut().for_each(|f| f.1 = 20 * (f.1 / 20 + f.1.signum()).clamp(-50_000, 50_000));
+        gate.threshold += 10;
+    }
+    net.board = Board::version_2(10, 10);
+    net
+}
+
+/// Two gates with 16 distinct feeds, each 1 if all of its feeds are, whose merge agrees with k and l only where these are equal: its
+/// nearest sum below is then k below its threshold. Without margins the pair is 1 and 1; with the off margin n it is n and n, or there is
+/// none where n is above 32.
+pub fn narrow(off: i64) -> Net {
+    let all_of = |signals: Range<usize>| Gate { threshold: 401 * signals.len() as i64 - 200, feeds: signals.map(|s| (s, 401)).collect() };
+    let gates = vec![all_of(0..15), all_of(15..17)];
+    Net { board: Board::version_2(200, off), inputs: 16, gates, outputs: vec![17] }
+}
+
 /// Two gates with n distinct feeds and no pair: every pair disagrees on the last setting, on which all feeds are 1, and on no other.
 pub fn last_setting_only(n: usize) -> Net {
     let u = Gate { feeds: (0..n).map(|s| (s, 33)).collect(), threshold: 33 * n as i64 - 32 };
     let v = Gate { feeds: vec![(n, 1)], threshold: 2 };
-    Net { inputs: n, gates: vec![u, v], outputs: vec![n + 1] }
+    Net { board: Board::VERSION_1, inputs: n, gates: vec![u, v], outputs: vec![n + 1] }
 }
 
 /// Two gates with 16 distinct feeds whose merge with 1 and 1 differs where `least` of them or more are lit: u is 1 where one fewer is, and
@@ -297,7 +405,7 @@ pub fn last_setting_only(n: usize) -> Net {
 pub fn lit_from(least: u32) -> Net {
     let u = Gate { feeds: (0..16).map(|s| (s, 1)).collect(), threshold: least as i64 - 1 };
     let v = Gate { feeds: vec![(16, 1)], threshold: 2 };
-    Net { inputs: 16, gates: vec![u, v], outputs: vec![17] }
+    Net { board: Board::VERSION_1, inputs: 16, gates: vec![u, v], outputs: vec![17] }
 }
 
 /// Two gates by the weights of each on 16 inputs, 0 for none: the second has the threshold `off` and counts the first with `off - on`.
@@ -306,6 +414,7 @@ fn two_gates(us: [i64; 16], vs: [i64; 16], own: i64, on: i64, off: i64) -> Net {
     let mut other = feeds(vs);
     other.push((16, off - on));
     Net {
+        board: Board::VERSION_1,
         inputs: 16,
         gates: vec![Gate { feeds: feeds(us), threshold: own }, Gate { feeds: other, threshold: off }],
         outputs: vec![17],
@@ -393,14 +502,14 @@ pub fn standing_chain(gates: usize, n: usize) -> Net {
         let threshold = 33 * feeds.len() as i64 - 32;
         Gate { feeds, threshold }
     };
-    Net { inputs, gates: (0..gates).map(gate).collect(), outputs: vec![inputs + gates - 1] }
+    Net { board: Board::VERSION_1, inputs, gates: (0..gates).map(gate).collect(), outputs: vec![inputs + gates - 1] }
 }
 
 /// A full network in which no gate folds: 128 gates, each with 15 inputs and the gate before it (the first with 16 inputs), and weights at
 /// random.
 pub fn full_standing(r: &mut Random) -> Net {
     let inputs = 16;
-    let mut net = Net { inputs, gates: vec![], outputs: vec![inputs + 127] };
+    let mut net = Net { board: Board::VERSION_1, inputs, gates: vec![], outputs: vec![inputs + 127] };
     for g in 0..128 {
         let mut signals: Vec<usize> = (0..inputs).collect();
         if g > 0 {
@@ -424,7 +533,7 @@ pub fn full_folding() -> Net {
         }
         Gate { feeds, threshold: 16 }
     };
-    Net { inputs, gates: (0..128).map(gate).collect(), outputs: vec![inputs + 127] }
+    Net { board: Board::VERSION_1, inputs, gates: (0..128).map(gate).collect(), outputs: vec![inputs + 127] }
 }
 
 /// A chain that folds into one gate: each is 1 if an input or the gate before it is, with 16 inputs in turn.
@@ -437,7 +546,7 @@ pub fn folding_chain(gates: usize) -> Net {
         }
         Gate { feeds, threshold: 1 }
     };
-    Net { inputs, gates: (0..gates).map(gate).collect(), outputs: vec![inputs + gates - 1] }
+    Net { board: Board::VERSION_1, inputs, gates: (0..gates).map(gate).collect(), outputs: vec![inputs + gates - 1] }
 }
 
 /// Gates of which the lower half stands, with 16 distinct feeds, and the upper half folds gate by gate, so that a sweep begins again at the
@@ -454,4 +563,16 @@ pub fn mixed_chain(gates: usize) -> Net {
     }
     net.outputs.push(net.inputs + gates - 1);
     net
+}
+
+/// Gates that fold with 1 and 1 into one that asks for all or for one of its feeds, with margins of 1 and 255, which every fold keeps:
+/// weights 500 times as great, and thresholds 1 lower still. Each merge takes a threshold down by 1 more.
+pub fn heavier(net: &Net) -> Net {
+    let mut out = net.clone();
+    for gate in &mut out.gates {
+        gate.feeds.iter_mut().for_each(|f| f.1 *= 500);
+        gate.threshold = 500 * gate.threshold - 1;
+    }
+    out.board = Board::version_2(1, 255);
+    out
 }

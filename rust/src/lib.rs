@@ -4,8 +4,8 @@ pub mod exact;
 pub mod generate;
 pub mod reference;
 
-/// The length of the longest file, which has 128 gates with 16 feeds each and 16 outputs.
-pub const LONGEST_FILE: usize = 10_904;
+/// The length of the longest file, which is of version 2 and has 128 gates with 16 feeds each and 16 outputs.
+pub const LONGEST_FILE: usize = 10_906;
 
 mod raw {
     extern "C" {
@@ -55,6 +55,14 @@ mod raw {
             answer_length: usize,
         ) -> u8;
         pub fn pmn_write(file: *const u8, file_length: usize, out: *mut u8, out_length: usize, answer: *mut u64, answer_length: usize) -> u8;
+        pub fn pmn_convert(
+            file: *const u8,
+            file_length: usize,
+            out: *mut u8,
+            out_length: usize,
+            answer: *mut u64,
+            answer_length: usize,
+        ) -> u8;
         pub fn pmn_part(
             file: *const u8,
             file_length: usize,
@@ -133,6 +141,10 @@ pub fn line(first: &[u8], second: &[u8], n: u64, out: &mut [u8], answer: &mut [u
 
 pub fn write(file: &[u8], out: &mut [u8], answer: &mut [u64]) -> u8 {
     unsafe { raw::pmn_write(file.as_ptr(), file.len(), out.as_mut_ptr(), out.len(), answer.as_mut_ptr(), answer.len()) }
+}
+
+pub fn convert(file: &[u8], out: &mut [u8], answer: &mut [u64]) -> u8 {
+    unsafe { raw::pmn_convert(file.as_ptr(), file.len(), out.as_mut_ptr(), out.len(), answer.as_mut_ptr(), answer.len()) }
 }
 
 pub fn part(file: &[u8], signal: u64, out: &mut [u8], answer: &mut [u64]) -> u8 {

@@ -1,5 +1,6 @@
 //! Document 01, as the requests of document 02 that have landed change it, written out as it stands, with no regard for speed: what the
 //! library is compared with. It was written from the papers and shares nothing with the library.
+use std::ops::RangeInclusive;
 
 /// A gate: its feeds, each a signal with a weight, and its threshold.
 #[derive(Clone, PartialEq, Eq, Debug)]
@@ -8,9 +9,28 @@ pub struct Gate {
     pub threshold: i64,
 }
 
+/// What a file says of its board: the version that it is written in, and the on and the off margin.
+#[derive(Clone, Copy, PartialEq, Eq, Debug)]
+pub struct Board {
+    pub version: u16,
+    pub on: i64,
+    pub off: i64,
+}
+
+impl Board {
+    /// "Version 1 means 0 and 1".
+    pub const VERSION_1: Board = Board { version: 1, on: 0, off: 1 };
+
+    /// Version 2 with these margins.
+    pub fn version_2(on: i64, off: i64) -> Board {
+        Board { version: 2, on, off }
+    }
+}
+
 /// A network: inputs have signals below `inputs`, gate g has signal `inputs + g`, and each output is the signal of a gate.
 #[derive(Clone, PartialEq, Eq, Debug)]
 pub struct Net {
+    pub board: Board,
     pub inputs: usize,
     pub gates: Vec<Gate>,
     pub outputs: Vec<usize>,
@@ -34,6 +54,16 @@ impl Cursor<'_> {
         Ok(b as usize)
     }
 
+    /// A count within its limits.
+    fn count(&mut self, limits: RangeInclusive<usize>) -> Answer<usize> {
+        let count = self.byte()?;
+        if limits.contains(&count) {
+            Ok(count)
+        } else {
+            Err(3)
+        }
+    }
+
     fn signed(&mut self) -> Answer<i64> {
         let field = self.bytes.get(self.at..self.at + 4).ok_or(4)?;
         self.at += 4;
@@ -49,15 +79,14 @@ pub fn read(file: &[u8]) -> Answer<Net> {
     if file.len() < 8 || &file[..3] != b"PMN" {
         return Err(1);
     }
-    if u16::from_le_bytes([file[3], file[4]]) != 1 {
-        return Err(2);
-    }
-    let (inputs, gates, outputs) = (file[5] as usize, file[6] as usize, file[7] as usize);
-    if !(1..=40).contains(&inputs) || !(1..=128).contains(&gates) || !(1..=16).contains(&outputs) {
-        return Err(3);
-    }
-    let mut c = Cursor { bytes: file, at: 8 };
-    let mut net = Net { inputs, gates: vec![], outputs: vec![] };
+    let mut c = Cursor { bytes: file, at: 5 };
+    let board = match u16::from_le_bytes([file[3], file[4]]) {
+        1 => Board::VERSION_1,
+        2 => Board::version_2(c.byte()? as i64, c.count(1..=255)? as i64),
+        _ => return Err(2),
+    };
+    let (inputs, gates, outputs) = (c.count(1..=40)?, c.count(1..=128)?, c.count(1..=16)?);
+    let mut net = Net { board, inputs, gates: vec![], outputs: vec![] };
     for g in 0..gates {
         let count = c.byte()?;
         if count > 16 {
@@ -79,7 +108,11 @@ pub fn read(file: &[u8]) -> Answer<Net> {
             }
             feeds.push((signal, weight));
         }
-        net.gates.push(Gate { feeds, threshold });
+        let gate = Gate { feeds, threshold };
+        if !gate.keeps(board) {
+            return Err(24);
+        }
+        net.gates.push(gate);
     }
     for _ in 0..outputs {
         let signal = c.byte()?;
@@ -105,7 +138,11 @@ fn gate_bytes(gate: &Gate) -> Vec<u8> {
 }
 
 pub fn write(net: &Net) -> Vec<u8> {
-    let mut out = b"PMN\x01\x00".to_vec();
+    let mut out = b"PMN".to_vec();
+    out.extend(net.board.version.to_le_bytes());
+    if net.board.version == 2 {
+        out.extend([net.board.on as u8, net.board.off as u8]);
+    }
     out.extend([net.inputs as u8, net.gates.len() as u8, net.outputs.len() as u8]);
     for gate in &net.gates {
         out.extend(gate_bytes(gate));
@@ -121,6 +158,21 @@ pub fn part(file: &[u8], signal: u64) -> Answer<Vec<u8>> {
         return Err(11);
     }
     Ok(gate_bytes(net.gate(signal as usize)))
+}
+
+/// The file of the same network in the other version, in so much room.
+pub fn convert(file: &[u8], room: usize) -> Answer<Vec<u8>> {
+    let mut net = read(file)?;
+    net.board = match net.board {
+        Board { version: 1, .. } => Board::version_2(0, 1),
+        Board { on: 0, off: 1, .. } => Board::VERSION_1,
+        _ => return Err(25),
+    };
+    let other = write(&net);
+    if other.len() > room {
+        return Err(18);
+    }
+    Ok(other)
 }
 
 // ---- networks
@@ -147,6 +199,22 @@ impl Net {
 impl Gate {
     pub fn weight(&self, signal: usize) -> Option<i64> {
         self.feeds.iter().find(|f| f.0 == signal).map(|f| f.1)
+    }
+
+    /// The sums of the feeds, one for each setting: bit i of a setting is feed i, from 0.
+    pub fn sums(&self) -> Vec<i64> {
+        let mut sums = vec![0];
+        for &(_, weight) in &self.feeds {
+            let with: Vec<i64> = sums.iter().map(|sum| sum + weight).collect();
+            sums.extend(with);
+        }
+        sums
+    }
+
+    /// Whether on no setting of the feeds the sum lies above T − off and below T + on. Nothing lies between for the margins 0 and 1.
+    pub fn keeps(&self, board: Board) -> bool {
+        let between = self.threshold - board.off + 1..self.threshold + board.on;
+        between.is_empty() || !self.sums().iter().any(|sum| between.contains(sum))
     }
 
     fn bit(&self, value: impl Fn(usize) -> bool) -> bool {
@@ -243,6 +311,9 @@ pub fn merge(net: &Net, u: u64, v: u64, k: u64, l: u64) -> Answer<Net> {
         return Err(7);
     }
     let gate = merged(&e, k as i64, l as i64)?;
+    if !gate.keeps(net.board) {
+        return Err(24);
+    }
     if !agrees(&e, &gate) {
         return Err(15);
     }
@@ -259,7 +330,7 @@ pub fn distinct(net: &Net, u: u64, v: u64) -> Answer<Vec<usize>> {
 }
 
 /// Every setting that a witness of a merge may have: where it is refused with 15, those on which the two differ with as few distinct feeds
-/// lit as any such setting has. None where it is accepted; any other number is the refusal.
+/// lit as any such setting has. None where it is accepted; any other number is the refusal, 24 also where the two differ.
 pub fn witnesses(net: &Net, u: u64, v: u64, k: u64, l: u64) -> Answer<Vec<u64>> {
     match merge(net, u, v, k, l) {
         Ok(_) => return Ok(vec![]),
@@ -282,7 +353,7 @@ pub fn pair(net: &Net, u: u64, v: u64) -> Answer<(u64, u64)> {
     for sum in 2..=64i64 {
         for k in 1..=32i64 {
             let l = sum - k;
-            if (1..=32).contains(&l) && merged(&e, k, l).is_ok_and(|gate| agrees(&e, &gate)) {
+            if (1..=32).contains(&l) && merged(&e, k, l).is_ok_and(|gate| agrees(&e, &gate) && gate.keeps(net.board)) {
                 return Ok((k as u64, l as u64));
             }
         }
@@ -504,7 +575,7 @@ mod tests {
     fn a_constant_never_waits() {
         let levels_of = |gates: &[&[usize]]| {
             let gate = |signals: &&[usize]| Gate { feeds: signals.iter().map(|&s| (s, 1)).collect(), threshold: 1 };
-            levels(&Net { inputs: 1, gates: gates.iter().map(gate).collect(), outputs: vec![1] })
+            levels(&Net { board: Board::VERSION_1, inputs: 1, gates: gates.iter().map(gate).collect(), outputs: vec![1] })
         };
         assert_eq!(levels_of(&[&[]]), 0);
         assert_eq!(levels_of(&[&[], &[]]), 0);
@@ -524,6 +595,7 @@ mod tests {
         let gate = |feeds: &[(usize, i64)], threshold| Gate { feeds: feeds.to_vec(), threshold };
         // signal 1 is merged into [ ;0] and [x −1; 0], which the output reads; signal 3 has no reader
         let net = Net {
+            board: Board::VERSION_1,
             inputs: 1,
             gates: vec![gate(&[(0, 1)], 1), gate(&[(0, -1), (1, 1)], 0), gate(&[(0, 7)], 5), gate(&[(1, -1)], 0), gate(&[(2, 1), (4, 1)], 2)],
             outputs: vec![5],
@@ -537,6 +609,7 @@ mod tests {
     #[test]
     fn three_ways() {
         let twice = |feeds: &[(usize, i64)], threshold| Net {
+            board: Board::VERSION_1,
             inputs: 1,
             gates: vec![Gate { feeds: feeds.to_vec(), threshold }],
             outputs: vec![1, 1],
@@ -559,14 +632,59 @@ mod tests {
         // [ ;0] is 1 where one of x and y is lit, P9's v is not; signals 1 and 2 are the distinct ones
         let u = Gate { feeds: vec![(1, -1), (2, -1)], threshold: 0 };
         let v = Gate { feeds: vec![(1, 1), (2, 1), (3, 2)], threshold: 2 };
-        let p9 = Net { inputs: 3, gates: vec![u, v], outputs: vec![4] };
+        let p9 = Net { board: Board::VERSION_1, inputs: 3, gates: vec![u, v], outputs: vec![4] };
         assert_eq!(distinct(&p9, 3, 4), Ok(vec![1, 2]));
         assert_eq!(witnesses(&p9, 3, 4, 1, 1), Ok(vec![0b01, 0b10]));
+    }
+
+    /// Margins by hand: a gate, the fields of a file's head, merges in which the one side or the other is too near, and the converter.
+    #[test]
+    fn board_tolerance() {
+        let gate = |feeds: &[(usize, i64)], threshold| Gate { feeds: feeds.to_vec(), threshold };
+        let keeps = |gate: &Gate, on, off| gate.keeps(Board::version_2(on, off));
+        // the sums are 0, 3, 4 and 7
+        let u = gate(&[(0, 4), (1, 3)], 5);
+        assert_eq!(u.sums(), [0, 4, 3, 7]);
+        assert!(keeps(&u, 2, 1) && keeps(&u, 0, 1) && !keeps(&u, 3, 1) && !keeps(&u, 2, 2));
+        assert!(keeps(&gate(&[], 0), 0, 255) && !keeps(&gate(&[], 0), 1, 1) && keeps(&gate(&[], 1), 255, 1) && !keeps(&gate(&[], 1), 0, 2));
+        // a missing byte before its field's value, and each field before the next one
+        let head = |fields: &[u8]| read(&[b"PMN\x02\x00", fields].concat()).unwrap_err();
+        assert_eq!([head(&[]), head(&[0, 1]), head(&[0, 0]), head(&[0, 0, 1]), head(&[0, 1, 0]), head(&[0, 1, 1])], [1, 1, 1, 3, 3, 4]);
+        assert_eq!([head(&[9, 1, 1, 0]), head(&[9, 1, 1, 1]), head(&[9, 1, 1, 1, 0]), head(&[9, 1, 1, 1, 1])], [3, 4, 3, 4]);
+        // [4,4;7] and [y 4, u 4; 7] keep 1 and 3; merged they are [4,4,4;10], with the sums 8 and 12 beside 10: too near below
+        let mut net = Net {
+            board: Board::version_2(1, 3),
+            inputs: 3,
+            gates: vec![gate(&[(0, 4), (1, 4)], 7), gate(&[(2, 4), (3, 4)], 7)],
+            outputs: vec![4],
+        };
+        assert_eq!(read(&write(&net)), Ok(net.clone()));
+        assert_eq!((merge(&net, 3, 4, 1, 1), merge(&net, 3, 4, 1, 3), merge(&net, 3, 4, 3, 32)), (Err(24), Err(24), Err(15)));
+        assert_eq!((witnesses(&net, 3, 4, 1, 1), witnesses(&net, 3, 4, 1, 3)), (Err(24), Err(24)));
+        assert_eq!((witnesses(&net, 3, 4, 3, 32), merge(&net, 3, 4, 1, 33)), (Ok(vec![0b100]), Err(14)));
+        assert_eq!((pair(&net, 3, 4), preview(&net, 3)), (Ok((2, 2)), Ok([1, 44, 1])));
+        assert_eq!(merge(&net, 3, 4, 2, 2).unwrap().gates[1], gate(&[(0, 8), (1, 8), (2, 8)], 20));
+        // without the margins the first fits, and the second, [4,4,12;16], disagrees where y and one of the others are lit
+        let file = write(&net);
+        net.board = Board::version_2(0, 1);
+        assert_eq!((pair(&net, 3, 4), witnesses(&net, 3, 4, 1, 3)), (Ok((1, 1)), Ok(vec![0b101, 0b110])));
+        // a vote against, of u = [4,4;7] in [u −4; −1], which keeps 1 and 3 too: [−4,−4;−7] would keep them only if they were exchanged
+        net.gates[1] = gate(&[(3, -4)], -1);
+        assert_eq!(merge(&net, 3, 4, 1, 1).unwrap().gates[1], gate(&[(0, -4), (1, -4)], -7));
+        net.board = Board::version_2(1, 3);
+        assert!(read(&write(&net)).is_ok() && keeps(&gate(&[(0, -4), (1, -4)], -7), 3, 1));
+        assert_eq!((merge(&net, 3, 4, 1, 1), merge(&net, 3, 4, 1, 2), pair(&net, 3, 4)), (Err(24), Err(24), Ok((2, 1))));
+        // the converter
+        assert_eq!((convert(&file, 100), convert(&file, 0), convert(F, F.len() + 1)), (Err(25), Err(25), Err(18)));
+        assert_eq!((convert(&F[..9], 0), convert(&write(&Net { board: Board::version_2(1, 4), ..net.clone() }), 0)), (Err(4), Err(24)));
+        assert_eq!(read(&convert(F, F.len() + 2).unwrap()), Ok(Net { board: Board::version_2(0, 1), ..read(F).unwrap() }));
+        assert_eq!(convert(&convert(F, 100).unwrap(), F.len()), Ok(F.to_vec()));
     }
 
     #[test]
     fn the_bench_gates() {
         let net = |u: &[(usize, i64)], tu, v: &[(usize, i64)], tv| Net {
+            board: Board::VERSION_1,
             inputs: 3,
             gates: vec![Gate { feeds: u.to_vec(), threshold: tu }, Gate { feeds: v.to_vec(), threshold: tv }],
             outputs: vec![4],

@@ -3,7 +3,7 @@
 use std::io::Write;
 use std::process::{Command, Stdio};
 use yovrenik_tests::direct;
-use yovrenik_tests::generate::{damaged, largest, network, Random};
+use yovrenik_tests::generate::{damaged, largest, largest_tolerant, near_miss, network, on_some_board, tolerant, Random};
 use yovrenik_tests::reference as paper;
 
 /// What the program prints for an alley file on standard input, which comes in parts of a size.
@@ -30,8 +30,8 @@ fn agrees(alley: &[u8]) -> String {
 }
 
 /// How many lanes of a sheet are refused with a number; 0 counts those that are not refused.
-fn refusals(sheet: &str) -> [usize; 10] {
-    let mut counts = [0; 10];
+fn refusals(sheet: &str) -> [usize; 25] {
+    let mut counts = [0; 25];
     for line in sheet.lines().filter(|line| !line.starts_with("total")) {
         let words: Vec<&str> = line.split(' ').collect();
         assert_eq!(words.len(), 3);
@@ -46,10 +46,14 @@ fn lane(file: &[u8]) -> Vec<u8> {
     out
 }
 
-/// A lane's file: a network's, a damaged one, one with a long tail, any bytes, or none.
+/// A lane's file: a network's, in a quarter of the cases with margins, one whose margins are one too wide, a damaged one, one with a long
+/// tail, any bytes, or none.
 fn file(r: &mut Random) -> Vec<u8> {
-    let mut file = paper::write(&network(r, 20, 6));
-    match r.below(8) {
+    let net = network(r, 20, 6);
+    let net = on_some_board(r, net);
+    let mut file = paper::write(&net);
+    match r.below(9) {
+        8 => file = near_miss(r, &net).map_or(file, |net| paper::write(&net)),
         0 | 1 => file = damaged(r, &file),
         2 => file.resize(file.len() + r.below(50_000) as usize, 0),
         3 => file = (0..r.below(65_536)).map(|_| r.next() as u8).collect(),
@@ -66,8 +70,8 @@ fn alley(r: &mut Random, lanes: u64) -> Vec<u8> {
 #[test]
 fn random_alleys() {
     let mut r = Random::new(31);
-    let mut counts = [0; 10];
-    for _ in 0..60 {
+    let mut counts = [0; 25];
+    for _ in 0..80 {
         let lanes = r.below(60);
         let file = alley(&mut r, lanes);
         for (sum, count) in counts.iter_mut().zip(refusals(&agrees(&file))) {
@@ -75,14 +79,16 @@ fn random_alleys() {
         }
         agrees(&file[..r.below(file.len() as u64 + 1) as usize]);
     }
-    println!("lanes that are read, and refused with 1 to 9: {counts:?}");
-    assert!(counts[0] >= 500 && counts[1..].iter().all(|&count| count >= 10));
+    println!("lanes that are read, and refused with 1 to 24: {counts:?}");
+    assert!(counts[0] >= 500 && counts[1..10].iter().all(|&count| count >= 10) && counts[24] >= 100);
 }
 
 #[test]
 fn every_cut() {
     let mut r = Random::new(32);
-    let file: Vec<u8> = (0..3).flat_map(|_| lane(&paper::write(&network(&mut r, 3, 3)))).collect();
+    let nets = [network(&mut r, 3, 3), network(&mut r, 3, 3), network(&mut r, 3, 3)];
+    let drifting = tolerant(&mut r, &nets[1]);
+    let file: Vec<u8> = nets.iter().chain([&drifting]).flat_map(|net| lane(&paper::write(net))).collect();
     for end in 0..=file.len() {
         let counts = refusals(&agrees(&file[..end]));
         assert_eq!(counts[1..].iter().sum::<usize>(), counts[4]);
@@ -110,6 +116,8 @@ fn most_lanes() {
     file.resize(65_535, 0);
     assert_eq!(refusals(&agrees(&lane(&file).repeat(40)))[9], 40);
     let sheet = agrees(&costly);
+    // the largest file of version 2, with margins
+    assert_eq!(refusals(&agrees(&lane(&paper::write(&largest_tolerant(&mut r))).repeat(3)))[0], 3);
     let cost: u64 = sheet.trim_end().rsplit(' ').next().unwrap().parse().unwrap();
     assert!(cost > u32::MAX as u64);
 }

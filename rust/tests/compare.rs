@@ -1,10 +1,12 @@
-//! The library and the independent implementation on many random, folding, near-miss and damaged inputs, with fixed seeds.
+//! The library and the independent implementation on many random, folding, near-miss and damaged inputs, with fixed seeds. Of most kinds a
+//! quarter are files of version 2 with margins; tests/margins.rs has those alone.
 use std::collections::BTreeMap;
 use yovrenik_tests::exact;
 use yovrenik_tests::generate::{
-    against, chain, damaged, heavy, inverters, lit_from, mirrored, most_passes, network, ratio_31_32, wide, wide_pair, Random,
+    against, chain, damaged, heavy, inverters, lit_from, mirrored, most_passes, network, on_some_board, ratio_31_32, wide, wide_pair,
+    widest, Random,
 };
-use yovrenik_tests::reference::{self as paper, Net};
+use yovrenik_tests::reference::{self as paper, Board, Net};
 use yovrenik_tests::*;
 
 const MARK: u64 = 0xA5A5_A5A5_A5A5_A5A5;
@@ -93,11 +95,19 @@ fn file_agrees(r: &mut Random, reached: &mut Reached, file: &[u8]) {
     }
 }
 
+/// The pair by the exact method, or with margins by the form of it that takes them.
+fn quick_pair(net: &Net, u: u64, v: u64) -> Result<(u64, u64), u8> {
+    match net.board {
+        Board { on: 0, off: 1, .. } => exact::pair(net, u, v),
+        _ => exact::pair_with_margins(net, u, v),
+    }
+}
+
 /// What the library says of a preview of one signal, with 0 to 4 places, against the paper. The pairs are found by the exact method: some
 /// files have gates for which trying every candidate takes too long.
 fn preview_agrees(reached: &mut Reached, file: &[u8], net: &Result<Net, u8>, signal: u64) {
     let want = net.as_ref().map_err(|&k| k).and_then(|net| {
-        let want = paper::preview_by(net, signal, exact::pair);
+        let want = paper::preview_by(net, signal, quick_pair);
         reached.preview(net, signal, &want);
         want
     });
@@ -128,6 +138,7 @@ fn files() {
     let mut waiting = 0;
     for _ in 0..6_000 {
         let net = network(&mut r, 12, 16);
+        let net = on_some_board(&mut r, net);
         let file = paper::write(&net);
         waiting += (paper::levels(&net) != levels_with_constants(&net)) as u32;
         file_agrees(&mut r, &mut reached, &file);
@@ -165,21 +176,28 @@ fn files() {
 #[test]
 fn the_largest_file() {
     let mut r = Random::new(2);
-    let gates = (0..128).map(|g| paper::Gate { feeds: (0..16).map(|i| (g + 2 * i, 1 + r.between(0, 5))).collect(), threshold: 7 }).collect();
-    let net = Net { inputs: 40, gates, outputs: vec![167; 16] };
-    let file = paper::write(&net);
-    assert_eq!(file.len(), LONGEST_FILE);
-    let mut reached = Reached::default();
-    file_agrees(&mut r, &mut reached, &file);
-    // all gates but the highest nine below the output have readers, with 31 distinct feeds each
-    (0..168).for_each(|signal| preview_agrees(&mut reached, &file, &Ok(net.clone()), signal));
-    reached.at_least(&[("preview accepted, a gate without readers", 9), ("preview 7", 118), ("preview 11", 40), ("preview 17", 1)]);
-    for cut in [0, 7, 8, 9, 10_000, LONGEST_FILE - 1] {
-        file_agrees(&mut r, &mut reached, &file[..cut]);
+    // sums are multiples of 9, and the thresholds lie 3 below one
+    let mut feeds = |g: usize| (0..16).map(|i| (g + 2 * i, 9 * (1 + r.between(0, 5)))).collect();
+    let gates: Vec<paper::Gate> = (0..128).map(|g| paper::Gate { feeds: feeds(g), threshold: 60 }).collect();
+    for board in [Board::VERSION_1, Board::version_2(0, 1), Board::version_2(3, 6)] {
+        let length = if board.version == 1 { LONGEST_FILE - 2 } else { LONGEST_FILE };
+        let net = Net { board, inputs: 40, gates: gates.clone(), outputs: vec![167; 16] };
+        let file = paper::write(&net);
+        assert_eq!((file.len(), check(&file)), (length, 0));
+        let mut reached = Reached::default();
+        file_agrees(&mut r, &mut reached, &file);
+        if board.version == 1 {
+            // all gates but the highest nine below the output have readers, with 31 distinct feeds each
+            (0..168).for_each(|signal| preview_agrees(&mut reached, &file, &Ok(net.clone()), signal));
+            reached.at_least(&[("preview accepted, a gate without readers", 9), ("preview 7", 118), ("preview 11", 40), ("preview 17", 1)]);
+        }
+        for cut in [0, 7, 8, 9, 10, 11, 10_000, length - 1] {
+            file_agrees(&mut r, &mut reached, &file[..cut]);
+        }
+        let mut longer = file.clone();
+        longer.push(0);
+        file_agrees(&mut r, &mut reached, &longer);
     }
-    let mut longer = file.clone();
-    longer.push(0);
-    file_agrees(&mut r, &mut reached, &longer);
 }
 
 /// How often a run came to what: merges, pairs, collapses and sweeps of gates that vote against a reader, and previews of any signal.
@@ -220,6 +238,7 @@ impl Reached {
             Err(7) => self.count("merge 7", true),
             Err(14) => self.count("merge 14", true),
             Err(15) => self.count("merge 15", true),
+            Err(24) => self.count("merge 24", true),
             Err(code) => panic!("a merge is refused with {code}"),
         }
     }
@@ -290,7 +309,7 @@ impl Reached {
                 assert!([7, 11, 16, 17].contains(&code), "a preview is refused with {code}");
                 // a reader below the one that is refused has a pair, and yet nothing is merged
                 let first = || net.readers(s as usize)[0] as u64;
-                self.count("preview 7 or 16, not by the first reader", matches!(code, 7 | 16) && exact::pair(net, s, first()).is_ok());
+                self.count("preview 7 or 16, not by the first reader", matches!(code, 7 | 16) && quick_pair(net, s, first()).is_ok());
             }
         }
     }
@@ -401,15 +420,18 @@ fn random_call(r: &mut Random, net: &Net) -> [u64; 5] {
     }
 }
 
+/// A network of some kind, in a quarter of the cases with margins.
 fn some_network(r: &mut Random, most_feeds: u64) -> Net {
-    match r.below(8) {
-        0 if r.below(8) == 0 => wide(r),
+    let net = match r.below(8) {
+        // without margins: trying every candidate takes too long
+        0 if r.below(8) == 0 => return wide(r),
         0 => chain(r),
         1 => inverters(r),
         2 => against(r),
         3 => heavy(r),
         _ => network(r, 9, most_feeds),
-    }
+    };
+    on_some_board(r, net)
 }
 
 #[test]
@@ -465,6 +487,7 @@ fn lists_of_calls() {
         ("merge 7", 4),
         ("merge 14", 200),
         ("merge 15", 350),
+        ("merge 24", 80),
         ("pair found", 3_000),
         ("pair found, k above 1", 500),
         ("pair found, l above 1", 500),
@@ -613,17 +636,24 @@ fn library_preview(file: &[u8], s: u64) -> Result<[u64; 3], u8> {
     }
 }
 
-/// The exact method finds the pairs that trying every candidate finds.
+/// The exact method finds the pairs that trying every candidate finds, and so does its form for any margins.
 #[test]
 fn the_exact_method() {
     let mut r = Random::new(9);
+    let mut with_margins = 0;
     for _ in 0..4_000 {
-        let net = some_network(&mut r, 5);
+        let mut net = some_network(&mut r, 5);
         let call = random_call(&mut r, &net);
+        let want = paper::pair(&net, call[1], call[2]);
+        assert_eq!(exact::pair_with_margins(&net, call[1], call[2]), want, "{net:?} {call:?}");
+        with_margins += (net.board.on + net.board.off > 1) as u32;
+        net.board = Board::VERSION_1;
         let want = paper::pair(&net, call[1], call[2]);
         assert_eq!(exact::pair(&net, call[1], call[2]), want, "{net:?} {call:?}");
         assert_eq!(exact::pair_by_halves(&net, call[1], call[2]), want, "{net:?} {call:?}");
     }
+    println!("{with_margins} networks with margins other than 0 and 1");
+    assert!(with_margins >= 500);
 }
 
 /// Pairs with 16 distinct feeds, for which trying every candidate takes too long, and previews by them, against the exact method; and
@@ -670,12 +700,19 @@ fn after_calls(file: &[u8], calls: &[[u64; 5]]) -> (u64, Vec<u8>) {
 }
 
 /// A gate and its complement with the opposite votes: the library answers the same for both, and a merge or a collapse leaves the same.
+/// With margins too where both keep them, which are as wide above as below a half less than T: the complement's sums that reach its
+/// threshold are as far above that as the gate's others are below its own, less 1.
 #[test]
 fn mirrored_networks() {
     let mut r = Random::new(5);
-    let (mut merges, mut collapses) = (0, 0);
+    let (mut merges, mut collapses, mut with_margins) = (0, 0, 0);
     for round in 0..20_000 {
-        let net = some_network(&mut r, if round % 4 == 0 { 16 } else { 5 });
+        let mut net = some_network(&mut r, if round % 4 == 0 { 16 } else { 5 });
+        if net.board.version == 2 {
+            let (on, off) = widest(&net);
+            let half = on.min(off - 1);
+            net.board = Board::version_2(half, half + 1);
+        }
         let u = net.inputs + r.below(net.gates.len() as u64) as usize;
         let other = match mirrored(&net, u) {
             Some(other) if !net.outputs.contains(&u) => other,
@@ -702,11 +739,12 @@ fn mirrored_networks() {
                 let merged = |file: &[u8]| paper::part(file, v as u64).unwrap();
                 assert_eq!(merged(&one.1), merged(&same.1), "{net:?} {merge:?}");
                 merges += 1;
+                with_margins += (net.board.on > 0) as u64;
             }
         }
     }
-    println!("mirrored: {merges} merges and {collapses} collapses");
-    assert!(merges >= 6_000 && collapses >= 6_000);
+    println!("mirrored: {merges} merges, {with_margins} of them with margins, and {collapses} collapses");
+    assert!(merges >= 6_000 && with_margins >= 300 && collapses >= 6_000);
 }
 
 /// The library's witness of one merge, and the distinct feeds of its gates, against the paper: the code, and of a witness how many are lit.
@@ -791,7 +829,7 @@ fn witnesses() {
             assert_eq!((distinct(&broken, call[1], call[2], &mut places), places), (code, [MARK; 17]));
         }
     }
-    let codes = [(0, 8_000), (6, 1_500), (7, 60), (11, 3_000), (12, 1_000), (14, 300), (15, 4_500)];
+    let codes = [(0, 8_000), (6, 1_500), (7, 60), (11, 3_000), (12, 1_000), (14, 300), (15, 4_500), (24, 500)];
     shown.at_least("random merges", &codes, [1_800, 1_500, 1_000]);
     let mut wide = Shown::default();
     for _ in 0..250 {

@@ -1,7 +1,9 @@
 //! Lists of frames that the library reads in one pass, against single readings by the independent implementation and by the library, on
 //! random, full and damaged files with fixed seeds.
 use std::collections::BTreeMap;
-use yovrenik_tests::generate::{against, chain, damaged, heavy, inverters, largest, network, wide, Random};
+use yovrenik_tests::generate::{
+    against, chain, damaged, heavy, inverters, largest, largest_tolerant, near_miss, network, on_some_board, tolerant, wide, Random,
+};
 use yovrenik_tests::reference::{self as paper, Net};
 use yovrenik_tests::*;
 
@@ -57,15 +59,20 @@ fn random_and_damaged_files() {
     let mut r = Random::new(10);
     let mut codes = Codes::new();
     for _ in 0..4_000 {
-        let file = paper::write(&network(&mut r, 12, 16));
+        let net = network(&mut r, 12, 16);
+        let net = on_some_board(&mut r, net);
+        let file = paper::write(&net);
         for _ in 0..3 {
             some_frames(&mut r, &mut codes, &file);
             let broken = damaged(&mut r, &file);
             some_frames(&mut r, &mut codes, &broken);
         }
+        if let Some(net) = near_miss(&mut r, &net) {
+            some_frames(&mut r, &mut codes, &paper::write(&net));
+        }
     }
     println!("lists of frames by their code: {codes:?}");
-    assert!([0, 10, 26].iter().all(|k| codes[k] >= 1_000));
+    assert!([0, 10, 24, 26].iter().all(|k| codes[k] >= 1_000));
     assert!((1..10).all(|k| codes.contains_key(&k)));
 }
 
@@ -76,6 +83,8 @@ fn every_number_of_frames() {
     let mut r = Random::new(11);
     let mut nets = vec![largest(&mut r), largest(&mut r), wide(&mut r), heavy(&mut r), chain(&mut r), inverters(&mut r), against(&mut r)];
     nets.extend((0..10).map(|_| network(&mut r, 12, 16)));
+    let net = network(&mut r, 12, 16);
+    nets.push(tolerant(&mut r, &net));
     let mut codes = Codes::new();
     for net in nets {
         let inputs = net.inputs;
@@ -103,7 +112,11 @@ fn every_number_of_frames() {
 fn frames_as_single_ones() {
     let mut r = Random::new(12);
     for n in 0..300 {
-        let net = if n < 10 { largest(&mut r) } else { network(&mut r, 60, 16) };
+        let net = match n {
+            0..10 => largest(&mut r),
+            10 => largest_tolerant(&mut r),
+            _ => network(&mut r, 60, 16),
+        };
         let file = paper::write(&net);
         let list = fitting(&mut r, net.inputs, 64);
         let mut answers = [MARK; 64];

@@ -1,8 +1,8 @@
 //! The program `ways` against the sum of the independent implementation: networks before and after a change, unlike and damaged files.
 use std::path::PathBuf;
 use std::process::Command;
-use yovrenik_tests::generate::{chain, damaged, inverters, network, Random};
-use yovrenik_tests::reference::{self as paper, Gate, Net};
+use yovrenik_tests::generate::{chain, damaged, inverters, near_miss, network, on_some_board, Random};
+use yovrenik_tests::reference::{self as paper, Board, Gate, Net};
 
 /// What the program prints for two files, and whether it succeeds.
 fn printed(first: &[u8], second: &[u8]) -> (String, bool) {
@@ -26,7 +26,7 @@ fn wanted(first: &[u8], second: &[u8]) -> (String, bool) {
 
 /// A network of one gate with so many inputs, the last of which feeds it, and so many outputs.
 fn one_gate(inputs: usize, threshold: i64, outputs: usize) -> Net {
-    Net { inputs, gates: vec![Gate { feeds: vec![(inputs - 1, 1)], threshold }], outputs: vec![inputs; outputs] }
+    Net { board: Board::VERSION_1, inputs, gates: vec![Gate { feeds: vec![(inputs - 1, 1)], threshold }], outputs: vec![inputs; outputs] }
 }
 
 // one test, since its parts share two files
@@ -44,7 +44,9 @@ fn as_the_sum() {
         if net.inputs > 8 {
             continue;
         }
-        let mut moved = net.clone();
+        let net = on_some_board(&mut r, net);
+        // a threshold elsewhere may break the margins
+        let mut moved = Net { board: Board::VERSION_1, ..net.clone() };
         let g = r.below(net.gates.len() as u64) as usize;
         moved.gates[g].threshold += if moved.gates[g].threshold > 0 { -1 } else { 1 };
         let mut turned = net.clone();
@@ -72,4 +74,13 @@ fn as_the_sum() {
     assert_eq!(printed(&file(25, 1, 1), &file(24, 1, 1)), ("refused 19\n".into(), false));
     assert_eq!(printed(&file(2, 1, 2), &file(2, 1, 1)), ("refused 19\n".into(), false));
     assert_eq!(printed(b"", &file(2, 1, 1)), ("refused 1\n".into(), false));
+
+    // files of version 2, which have their inputs elsewhere, with each other and with one of version 1; margins that are one too wide
+    let second = |inputs, threshold, outputs| Net { board: Board::version_2(0, 1), ..one_gate(inputs, threshold, outputs) };
+    let (one, other) = (paper::write(&second(7, 1, 3)), paper::write(&second(7, 2, 3)));
+    assert_eq!(printed(&one, &other), (format!("{}\n", 64 * 7), true));
+    assert_eq!((printed(&one, &file(7, 2, 3)), printed(&file(7, 1, 3), &other)), (printed(&one, &other), printed(&one, &other)));
+    assert_eq!(printed(&paper::write(&second(25, 1, 1)), &file(25, 1, 1)), ("too many inputs: 25, at most 24\n".into(), false));
+    let broken = paper::write(&near_miss(&mut r, &second(7, 1, 3)).unwrap());
+    assert_eq!((printed(&broken, &one), printed(&one, &broken)), (("refused 24\n".into(), false), ("refused 24\n".into(), false)));
 }

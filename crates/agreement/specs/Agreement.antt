@@ -1,8 +1,11 @@
--- What the agreement test asks of the tables of sums, and the thresholds of one half. Nothing is proved here.
+-- What the test of the settings asks of the tables of sums, the thresholds of one half, and two gates without margins. Nothing is proved
+-- here.
 use mathlib.Core.List.{List}
 use lib.IntN.{ℤ, _-ℤ_}
 use Rattle.integers.specs.Lists.{Small}
+use Rattle.folding.specs.Aligned.{plain}
 use Rattle.folding.specs.declared.Thresholds.{Thresholds}
+use Rattle.alignment.specs.declared.Alignment.{Alignment}
 
 -- no sum of 8 weights in the two tables is above eight million in size
 pub record SumTables (sumsU sumsV : List ℤ) : Type 0 where
@@ -11,4 +14,8 @@ pub record SumTables (sumsU sumsV : List ℤ) : Type 0 where
 
 -- what the sums of the low half must reach where those of the high half are su and sv
 unfoldable pub reduced : Thresholds → ℤ → ℤ → Thresholds
-reduced t su sv = record { own = t .own -ℤ su; on = t .on -ℤ sv; off = t .off -ℤ sv }
+reduced t su sv = record { own = t .own -ℤ su; on = t .on -ℤ sv; off = t .off -ℤ sv; board = t .board }
+
+-- the same two gates with the margins of version 1
+unfoldable pub plainly : Alignment → Alignment
+plainly a = record { count = a .count; signals = a .signals; us = a .us; vs = a .vs; thresholds = plain (a .thresholds) }

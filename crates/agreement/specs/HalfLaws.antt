@@ -1,6 +1,6 @@
 -- The settings of at most 16 feeds by halves, and the thresholds that are left for the low half. Assumes nothing.
-use mathlib.Core.Path.{_≡_, sym, ap, ap₂, _∙_}
-use mathlib.Core.Bool.{true, false, cond, Bool·beq}
+use mathlib.Core.Path.{_≡_, sym, ap, _∙_}
+use mathlib.Core.Bool.{Bool, true, false, cond}
 use mathlib.Core.List.{List}
 use Prim.Native.Nat.{ℕ, _+_, _-_, _*_, _/_, _%_, _^_, _≤_, _<_}
 use native.Mathlib.Decide.{decLt}
@@ -12,7 +12,7 @@ use lib.Signed.{leZ}
 use Rattle.integers.specs.IntegerLaws.{#, _⊕_, _⊖_, _⊙_, law, le-same}
 use Rattle.integers.specs.SizeLaws.{size-sub}
 use Rattle.sums.specs.Tables.{sumFrom}
-use Rattle.folding.specs.Aligned.{mix, composedBit, mixedThreshold, mergedBit, sameBits}
+use Rattle.folding.specs.Aligned.{mix, composedBit, mixedThreshold, clears}
 use Rattle.folding.specs.declared.Thresholds.{Thresholds}
 use Rattle.alignment.specs.Alignments.{Near}
 use Rattle.agreement.specs.Agreement.{reduced}
@@ -84,25 +84,47 @@ reach t x s =
     let b = law (# s ⊕ # x) in
     le-same (t -ℤ x) s t (s +ℤ x) (λ h. omega arith, λ h. omega arith)
 
+-- a choice of equals
+cond-both : (b : Bool) {p q r s : Bool} → p ≡ r → q ≡ s → cond b p q ≡ cond b r s
+cond-both true e f = e
+cond-both false e f = f
+
 composed-reduced : (t : Thresholds) (x y su sv : ℤ) → composedBit (reduced t x y) su sv ≡ composedBit t (su +ℤ x) (sv +ℤ y)
 unfolding composedBit reduced
 composed-reduced t x y su sv = rw (reach (t .own) x su) (elim (leZ (t .own) (su +ℤ x)) as
     (λ b. leZ (cond b (t .on -ℤ y) (t .off -ℤ y)) sv ≡ leZ (cond b (t .on) (t .off)) (sv +ℤ y))
     [ true ↦ reach (t .on) y sv | false ↦ reach (t .off) y sv ])
 
-merged-reduced : (t : Thresholds) (k l : ℕ) (x y su sv : ℤ) → mergedBit (reduced t x y) k l su sv ≡ mergedBit t k l (su +ℤ x) (sv +ℤ y)
-unfolding mergedBit mixedThreshold reduced
-merged-reduced t k l x y su sv =
-    let a = law (k ⊙ (# (t .own) ⊖ # x) ⊕ l ⊙ (# (t .on) ⊖ # y)) in
-    let b = law (k ⊙ # su ⊕ l ⊙ # sv) in
-    let c = law (k ⊙ # (t .own) ⊕ l ⊙ # (t .on)) in
-    let d = law (k ⊙ (# su ⊕ # x) ⊕ l ⊙ (# sv ⊕ # y)) in
-    le-same (mix k l (t .own -ℤ x) (t .on -ℤ y)) (mix k l su sv) (mix k l (t .own) (t .on)) (mix k l (su +ℤ x) (sv +ℤ y)) (λ h. omega arith, λ h. omega arith)
+module _ (t : Thresholds) (k l : ℕ) (x y su sv : ℤ) where
+  -- the merged gate's sum less its threshold is the same
+  mix-reduced : (a : ℤ) → leZ (mixedThreshold (reduced t x y) k l +ℤ a) (mix k l su sv) ≡ leZ (mixedThreshold t k l +ℤ a) (mix k l (su +ℤ x) (sv +ℤ y))
+  unfolding mixedThreshold reduced
+  mix-reduced a =
+      let p = law (k ⊙ (# (t .own) ⊖ # x) ⊕ l ⊙ (# (t .on) ⊖ # y) ⊕ # a) in
+      let q = law (k ⊙ # su ⊕ l ⊙ # sv) in
+      let r = law (k ⊙ # (t .own) ⊕ l ⊙ # (t .on) ⊕ # a) in
+      let s = law (k ⊙ (# su ⊕ # x) ⊕ l ⊙ (# sv ⊕ # y)) in
+      le-same (mix k l (t .own -ℤ x) (t .on -ℤ y) +ℤ a) (mix k l su sv) (mix k l (t .own) (t .on) +ℤ a) (mix k l (su +ℤ x) (sv +ℤ y))
+      (λ h. omega arith, λ h. omega arith)
 
--- the two bits are the same on a setting where they are so in its block
-pub same-reduced : (t : Thresholds) (k l : ℕ) (x y su sv : ℤ) → sameBits (reduced t x y) k l su sv ≡ sameBits t k l (su +ℤ x) (sv +ℤ y)
-unfolding sameBits
-same-reduced t k l x y su sv = ap₂ Bool·beq (merged-reduced t k l x y su sv) (composed-reduced t x y su sv)
+  mix-reduced-below : (a : ℤ) → leZ (mix k l su sv) (mixedThreshold (reduced t x y) k l -ℤ a) ≡ leZ (mix k l (su +ℤ x) (sv +ℤ y)) (mixedThreshold t k l -ℤ a)
+  unfolding mixedThreshold reduced
+  mix-reduced-below a =
+      let p = law (k ⊙ (# (t .own) ⊖ # x) ⊕ l ⊙ (# (t .on) ⊖ # y) ⊖ # a) in
+      let q = law (k ⊙ # su ⊕ l ⊙ # sv) in
+      let r = law (k ⊙ # (t .own) ⊕ l ⊙ # (t .on) ⊖ # a) in
+      let s = law (k ⊙ (# su ⊕ # x) ⊕ l ⊙ (# sv ⊕ # y)) in
+      le-same (mix k l su sv) (mix k l (t .own -ℤ x) (t .on -ℤ y) -ℤ a) (mix k l (su +ℤ x) (sv +ℤ y)) (mix k l (t .own) (t .on) -ℤ a)
+      (λ h. omega arith, λ h. omega arith)
+
+  -- a setting clears where it does so in its block
+  pub clears-reduced : clears (reduced t x y) k l su sv ≡ clears t k l (su +ℤ x) (sv +ℤ y)
+  unfolding clears reduced
+  clears-reduced =
+      let high = leZ (mixedThreshold (reduced t x y) k l +ℤ pos (t .board .on)) (mix k l su sv) in
+      let low = leZ (mix k l su sv) (mixedThreshold (reduced t x y) k l -ℤ pos (t .board .off)) in
+      ap (λ (b : Bool). cond b high low) (composed-reduced t x y su sv)
+      ∙ cond-both (composedBit t (su +ℤ x) (sv +ℤ y)) (mix-reduced (pos (t .board .on))) (mix-reduced-below (pos (t .board .off)))
 
 -- thresholds of two gates, for the sums of whole settings
 pub near-wider : (t : Thresholds) → Near 2000000 t → Near 10000000 t

@@ -3,19 +3,20 @@
 use alignment::Alignment;
 use alignment::unchecked::mixed;
 use folding::Thresholds;
+use network::Board;
 use sums::unchecked::settings;
 use sums::unchecked::sum_at;
 use sums::unchecked::table;
 ghost use mathlib.Core.Path.{_≡_};
 ghost use Prim.Native.Nat.{_+_, _≤_, _<_};
-ghost use lib.IntN.{pos, natAbs};
+ghost use lib.IntN.{pos, natAbs, _+ℤ_, _-ℤ_};
 ghost use lib.ListN.{getD};
 ghost use Rattle.integers.specs.Lists.{Small};
 ghost use Rattle.sums.specs.Tables.{sumFrom};
 ghost use Rattle.network.specs.Limits.{inScale};
-ghost use Rattle.folding.specs.Aligned.{mix, composedBit, mixedThreshold, mergedBit, sameBits, agreesAll, scaleFits};
+ghost use Rattle.folding.specs.Aligned.{mix, composedBit, mixedThreshold, clears, agreesAll, clearsAll, scaleFits};
 ghost use Rattle.alignment.specs.Alignments.{alignedIn, Near, Searchable, Dial, Mixable};
-ghost use Rattle.agreement.specs.Agreement.{SumTables, reduced};
+ghost use Rattle.agreement.specs.Agreement.{SumTables, reduced, plainly};
 
 // The merged gate's threshold.
 pub fn merged_threshold(thresholds: Thresholds, k: usize, l: usize) -> i32
@@ -24,15 +25,6 @@ pub fn merged_threshold(thresholds: Thresholds, k: usize, l: usize) -> i32
     ensures { λ r. ⌜ r ≡ mixedThreshold thresholds k l ⌝ }
 {
     mixed(k, l, thresholds.own, thresholds.on)
-}
-
-// The merged gate's bit, from the two sums.
-fn merged_bit(thresholds: Thresholds, k: usize, l: usize, su: i32, sv: i32) -> bool
-    requires { ⌜ Near 10000000 thresholds ⌝ }
-    requires { ⌜ Mixable k l su sv ⌝ }
-    ensures { λ r. ⌜ r ≡ mergedBit thresholds k l su sv ⌝ }
-{
-    mixed(k, l, su, sv) >= merged_threshold(thresholds, k, l)
 }
 
 // The composed pair's bit, from the two sums.
@@ -46,17 +38,49 @@ pub fn composed_bit(thresholds: Thresholds, su: i32, sv: i32) -> bool
     }
 }
 
-// Whether the merged gate and the composed pair have the same bit, from the two sums.
-fn same_bits(thresholds: Thresholds, k: usize, l: usize, su: i32, sv: i32) -> bool
+// A margin as a number of 32 bits.
+fn margin(x: u8) -> i32
+    ensures { λ r. ⌜ (r ≡ pos x) × (x < 256) ⌝ }
+{
+    x as i32
+}
+
+// What the merged gate's sum must reach where its bit is to be 1.
+pub fn upper_threshold(thresholds: Thresholds, k: usize, l: usize) -> i32
+    requires { ⌜ Near 10000000 thresholds ⌝ }
+    requires { ⌜ Dial k l ⌝ }
+    ensures { λ r. ⌜ r ≡ mixedThreshold thresholds k l +ℤ pos (thresholds .board .on) ⌝ }
+{
+    let board = thresholds.board;
+    merged_threshold(thresholds, k, l) + margin(board.on)
+}
+
+// What the merged gate's sum must not exceed where its bit is to be 0.
+pub fn lower_threshold(thresholds: Thresholds, k: usize, l: usize) -> i32
+    requires { ⌜ Near 10000000 thresholds ⌝ }
+    requires { ⌜ Dial k l ⌝ }
+    ensures { λ r. ⌜ r ≡ mixedThreshold thresholds k l -ℤ pos (thresholds .board .off) ⌝ }
+{
+    let board = thresholds.board;
+    merged_threshold(thresholds, k, l) - margin(board.off)
+}
+
+// Whether the merged gate's sum has the composed pair's bit and keeps the margins, from the two sums: it reaches the threshold and the on
+// margin where that bit is 1, and stays below the threshold by the off margin where it is 0.
+fn clears(thresholds: Thresholds, k: usize, l: usize, su: i32, sv: i32) -> bool
     requires { ⌜ Near 10000000 thresholds ⌝ }
     requires { ⌜ Mixable k l su sv ⌝ }
-    ensures { λ r. ⌜ r ≡ sameBits thresholds k l su sv ⌝ }
+    ensures { λ r. ⌜ r ≡ clears thresholds k l su sv ⌝ }
 {
-    merged_bit(thresholds, k, l, su, sv) == composed_bit(thresholds, su, sv)
+    let sum = mixed(k, l, su, sv);
+    let upper = upper_threshold(thresholds, k, l);
+    let lower = lower_threshold(thresholds, k, l);
+    let one = composed_bit(thresholds, su, sv);
+    (one & (upper <= sum)) | (!one & (sum <= lower))
 }
 
 // The same on a setting.
-pub fn agrees_at(
+pub fn clears_at(
     sums_u: &[i32; 512],
     sums_v: &[i32; 512],
     thresholds: Thresholds,
@@ -68,11 +92,11 @@ pub fn agrees_at(
     requires { ⌜ Near 10000000 thresholds ⌝ }
     requires { ⌜ Dial k l ⌝ }
     requires { ⌜ setting < 65536 ⌝ }
-    ensures { λ r. ⌜ r ≡ sameBits thresholds k l (sumFrom (now («sums_u» .entry)) setting) (sumFrom (now («sums_v» .entry)) setting) ⌝ }
+    ensures { λ r. ⌜ r ≡ clears thresholds k l (sumFrom (now («sums_u» .entry)) setting) (sumFrom (now («sums_v» .entry)) setting) ⌝ }
 {
     let su = sum_at(sums_u, setting);
     let sv = sum_at(sums_v, setting);
-    same_bits(thresholds, k, l, su, sv)
+    clears(thresholds, k, l, su, sv)
 }
 
 // What the sums of the low half must reach where those of the high half are `su` and `sv`.
@@ -85,7 +109,13 @@ fn less_high_half(thresholds: Thresholds, su: i32, sv: i32) -> Thresholds
     let own = thresholds.own - su;
     let on = thresholds.on - sv;
     let off = thresholds.off - sv;
-    Thresholds { own, on, off }
+    let board = thresholds.board;
+    Thresholds {
+        own,
+        on,
+        off,
+        board,
+    }
 }
 
 // The same for one setting of the high half, from the tables.
@@ -103,8 +133,8 @@ pub fn low_thresholds(
     less_high_half(thresholds, sums_u[256 + high], sums_v[256 + high])
 }
 
-// Whether the two bits are the same, from the sums of the low half and what they must reach.
-pub fn agrees_low(
+// The same from the sums of the low half and what they must reach.
+pub fn clears_low(
     sums_u: &[i32; 512],
     sums_v: &[i32; 512],
     thresholds: Thresholds,
@@ -116,9 +146,9 @@ pub fn agrees_low(
     requires { ⌜ Near 10000000 thresholds ⌝ }
     requires { ⌜ Dial k l ⌝ }
     requires { ⌜ low < 256 ⌝ }
-    ensures { λ r. ⌜ r ≡ sameBits thresholds k l (getD (now («sums_u» .entry)) low (pos 0)) (getD (now («sums_v» .entry)) low (pos 0)) ⌝ }
+    ensures { λ r. ⌜ r ≡ clears thresholds k l (getD (now («sums_u» .entry)) low (pos 0)) (getD (now («sums_v» .entry)) low (pos 0)) ⌝ }
 {
-    same_bits(thresholds, k, l, sums_u[low], sums_v[low])
+    clears(thresholds, k, l, sums_u[low], sums_v[low])
 }
 
 // Whether a number is on the scale of weights and thresholds.
@@ -155,20 +185,58 @@ pub fn scale_fits(a: Alignment, k: usize, l: usize) -> bool
     in_scale(merged_threshold(thresholds, k, l))
 }
 
-// Whether the merged gate and the composed pair have the same bit on every setting.
-pub fn agrees_everywhere(a: Alignment, k: usize, l: usize) -> bool
+// Whether the merged gate has the composed pair's bit and keeps the margins on every setting.
+fn clears_everywhere(a: Alignment, k: usize, l: usize) -> bool
     requires { ⌜ Searchable a ⌝ }
     requires { ⌜ Dial k l ⌝ }
-    ensures { λ r. ⌜ r ≡ agreesAll (alignedIn a) k l ⌝ }
+    ensures { λ r. ⌜ r ≡ clearsAll (alignedIn a) k l ⌝ }
 {
     let sums_u = table(&a.us);
     let sums_v = table(&a.vs);
     let thresholds = a.thresholds;
     let n = settings(a.count);
     for setting in 0..n {
-        if !agrees_at(&sums_u, &sums_v, thresholds, k, l, setting) {
+        if !clears_at(&sums_u, &sums_v, thresholds, k, l, setting) {
             return false;
         }
     }
     true
+}
+
+// The same two gates with the margins of version 1, which ask for equal bits and no more.
+pub fn without_margins(a: Alignment) -> Alignment
+    ensures { λ r. ⌜ r ≡ plainly a ⌝ }
+{
+    let t = a.thresholds;
+    let board = Board {
+        version: 1,
+        on: 0,
+        off: 1,
+    };
+    let thresholds = Thresholds {
+        own: t.own,
+        on: t.on,
+        off: t.off,
+        board,
+    };
+    let count = a.count;
+    let signals = a.signals;
+    let us = a.us;
+    let vs = a.vs;
+    Alignment {
+        count,
+        signals,
+        us,
+        vs,
+        thresholds,
+    }
+}
+
+// Whether the merged gate and the composed pair have the same bit on every setting.
+pub fn agrees_everywhere(a: Alignment, k: usize, l: usize) -> bool
+    requires { ⌜ Searchable a ⌝ }
+    requires { ⌜ Dial k l ⌝ }
+    ensures { λ r. ⌜ r ≡ agreesAll (alignedIn a) k l ⌝ }
+{
+    clears_everywhere(without_margins(a), k, l)
 }

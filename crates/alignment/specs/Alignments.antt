@@ -7,6 +7,7 @@ use Rattle.integers.specs.Lists.{keep, range, tab, places, Small}
 use Rattle.network.specs.Threshold.{Feed, Gate}
 use Rattle.network.specs.Limits.{stays}
 use Rattle.network.specs.Record.{gateIn}
+use Rattle.network.specs.declared.Board.{Board}
 use Rattle.network.specs.declared.GateRecord.{GateRecord}
 use Rattle.folding.specs.Merge.{Edge, edgeOf, weightOf, distinct}
 use Rattle.folding.specs.Aligned.{Aligned, aligned, fedBy, mixedThreshold, mixedWeight}
@@ -19,8 +20,8 @@ unfoldable pub weightTable : List Feed → List ℤ
 weightTable fs = tab 256 (λ s. weightOf s fs)
 
 -- two gate records as an edge
-abbrev pub edgeBetween : GateRecord → GateRecord → ℕ → ℕ → Edge
-edgeBetween gateU gateV u v = edgeOf u v (gateIn gateU) (gateIn gateV)
+abbrev pub edgeBetween : Board → GateRecord → GateRecord → ℕ → ℕ → Edge
+edgeBetween b gateU gateV u v = edgeOf b u v (gateIn gateU) (gateIn gateV)
 
 -- an edge within the limits whose signals are bytes
 pub record Alignable (e : Edge) : Type 0 where
@@ -54,7 +55,7 @@ complementIn a = record {
   signals = a .signals;
   us = map negℤ (a .us);
   vs = a .vs;
-  thresholds = record { own = pos 1 -ℤ a .thresholds .own; on = a .thresholds .off; off = a .thresholds .on };
+  thresholds = record { own = pos 1 -ℤ a .thresholds .own; on = a .thresholds .off; off = a .thresholds .on; board = a .thresholds .board };
 }
 
 -- what a record stands for

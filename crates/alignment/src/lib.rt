@@ -2,7 +2,7 @@
 use folding::Thresholds;
 
 // The number of distinct feeds, the first 16 of them, the weights on each of the gate that votes (u, or its complement) and of v, and the
-// two gates' thresholds. Spare places hold 0.
+// two gates' thresholds with the board. Spare places hold 0.
 pub struct Alignment {
     pub count: usize,
     pub signals: [u8; 16],

@@ -3,6 +3,7 @@ use crate::Alignment;
 use folding::Thresholds;
 use integers::magnitude;
 use integers::wide;
+use network::Board;
 use network::GateRecord;
 ghost use mathlib.Core.Path.{_≡_};
 ghost use mathlib.Core.Bool.{not, _||_};
@@ -40,9 +41,15 @@ fn either(x: i32, y: i32) -> bool
 
 // Two gates by their distinct feeds, u itself being the gate that votes: all feeds are counted, and the first 16 listed. u is none of
 // them, so its weight in v is taken out before.
-fn align_with_u(gate_u: GateRecord, gate_v: GateRecord, u: usize, v: usize) -> Alignment
-    requires { ⌜ Alignable (edgeBetween «gate_u» «gate_v» u v) ⌝ }
-    ensures { λ r. ⌜ r ≡ withU (edgeBetween «gate_u» «gate_v» u v) ⌝ }
+fn align_with_u(
+    board: Board,
+    gate_u: GateRecord,
+    gate_v: GateRecord,
+    u: usize,
+    v: usize,
+) -> Alignment
+    requires { ⌜ Alignable (edgeBetween board «gate_u» «gate_v» u v) ⌝ }
+    ensures { λ r. ⌜ r ≡ withU (edgeBetween board «gate_u» «gate_v» u v) ⌝ }
 {
     let in_u = spread(gate_u);
     let mut in_v = spread(gate_v);
@@ -67,7 +74,12 @@ fn align_with_u(gate_u: GateRecord, gate_v: GateRecord, u: usize, v: usize) -> A
     let own = gate_u.threshold;
     let off = gate_v.threshold;
     let on = off - b;
-    let thresholds = Thresholds { own, on, off };
+    let thresholds = Thresholds {
+        own,
+        on,
+        off,
+        board,
+    };
     Alignment {
         count,
         signals,
@@ -105,7 +117,13 @@ fn complemented(a: Alignment) -> Alignment
     let own = 1 - t.own;
     let on = t.off;
     let off = t.on;
-    let thresholds = Thresholds { own, on, off };
+    let board = t.board;
+    let thresholds = Thresholds {
+        own,
+        on,
+        off,
+        board,
+    };
     Alignment {
         count,
         signals,
@@ -116,11 +134,11 @@ fn complemented(a: Alignment) -> Alignment
 }
 
 // Two gates by their distinct feeds. Where u's vote would raise what v's other feeds must reach, its complement votes.
-pub fn align(gate_u: GateRecord, gate_v: GateRecord, u: usize, v: usize) -> Alignment
-    requires { ⌜ Alignable (edgeBetween «gate_u» «gate_v» u v) ⌝ }
-    ensures { λ r. ⌜ r ≡ alignmentOf (edgeBetween «gate_u» «gate_v» u v) ⌝ }
+pub fn align(board: Board, gate_u: GateRecord, gate_v: GateRecord, u: usize, v: usize) -> Alignment
+    requires { ⌜ Alignable (edgeBetween board «gate_u» «gate_v» u v) ⌝ }
+    ensures { λ r. ⌜ r ≡ alignmentOf (edgeBetween board «gate_u» «gate_v» u v) ⌝ }
 {
-    let a = align_with_u(gate_u, gate_v, u, v);
+    let a = align_with_u(board, gate_u, gate_v, u, v);
     let t = a.thresholds;
     if t.on <= t.off {
         return a;

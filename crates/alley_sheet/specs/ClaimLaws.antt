@@ -13,6 +13,7 @@ use Rattle.network.specs.Threshold.{Net}
 use Rattle.network.specs.declared.Network.{Network}
 use Rattle.format.specs.Format.{Read, done, Bytes, parseFile}
 use Rattle.format.specs.CodeLaws.{refused-positive}
+use Rattle.format.specs.LengthLaws.{bytes-take, bytes-drop}
 use Rattle.report.specs.Size.{reported}
 use Rattle.pmn.specs.Answers.{asLoaded, loaded}
 use Rattle.opening.specs.Files.{asAnswer, readNet}
@@ -20,7 +21,6 @@ use Rattle.alley_sheet.specs.Alley.{Lane, whole, cut, laneLength, Size, 
 use Rattle.alley_sheet.specs.Claims.{sumOf, recordsOf, TotalOfRecords, TotalOfLines}
 use Rattle.alley_sheet.specs.ReadBack.{linesFor}
 use Rattle.alley_sheet.specs.EntryLaws.{Fair, LaneBytes, fair-lane, fair-counted, read-size}
-use Rattle.alley_sheet.specs.StepLaws.{bytes-take, bytes-drop}
 use Rattle.alley_sheet.specs.ReadBackLaws.{sheet-back, lines-gates, lines-cost}
 
 -- ---- the lanes of bytes are of bytes, and not too many

@@ -13,6 +13,7 @@ use lib.Seq.{take-append-le, drop-append-le, drop-drop}
 use Rattle.integers.specs.Refusals.{Answer}
 use Rattle.integers.specs.TestLaws.{T-is, T-and}
 use Rattle.format.specs.Format.{Bytes}
+use Rattle.format.specs.LengthLaws.{bytes-take}
 use Rattle.alley_sheet.specs.Alley.{Lane, whole, cut, laneLength, Size, lanesUpTo, lanes, entryOf, entries, counted, plus, total, laneText}
 use Rattle.alley_sheet.specs.Alley.{linesText, totalText, sheet}
 use Rattle.alley_sheet.specs.Answers.{noLanes, sums, withEntry, soundTotals, Front, lane, nothing, front, Step, idle, listed, stepFrom, step}
@@ -44,17 +45,6 @@ unfolding withEntry
 entry-sound t a b h f =
     let c = fair-counted a f in
     bounds-sound (withEntry t a) (record { lanes = omega arith; gates = omega (arith, b .gates, c .0); cost = omega (arith, b .cost, c .1) })
-
--- ---- bytes
-pub bytes-take : (n : ℕ) (s : List ℕ) → Bytes s → Bytes (take n s)
-bytes-take zero s b = tt
-bytes-take (suc n) [] b = tt
-bytes-take (suc n) (c ∷ s) b = (b .0, bytes-take n s (b .1))
-
-pub bytes-drop : (n : ℕ) (s : List ℕ) → Bytes s → Bytes (drop n s)
-bytes-drop zero s b = b
-bytes-drop (suc n) [] b = tt
-bytes-drop (suc n) (c ∷ s) b = bytes-drop n s (b .1)
 
 -- ---- what is left to print
 same-size : {a b c d : ℕ} → a ≡ b → c ≡ d → _≡_ {A = Size} (record { gates = a; cost = c }) (record { gates = b; cost = d })

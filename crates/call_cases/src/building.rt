@@ -2,7 +2,32 @@
 // round: a step for which there is no place writes to another one.
 use crate::script::Numbers;
 use integers::wide;
+use network::Board;
 use network::Network;
+
+// The empty network, of version 1.
+pub fn empty() -> Network {
+    let board = Board {
+        version: 1,
+        on: 0,
+        off: 1,
+    };
+    let mut result = network::blank();
+    result.board = board;
+    result
+}
+
+// A version, an on margin and an off margin.
+pub fn with_board(network: Network, n: Numbers) -> Network {
+    let board = Board {
+        version: (n.first % 256) as u8,
+        on: (n.second % 256) as u8,
+        off: (n.third % 256) as u8,
+    };
+    let mut result = network;
+    result.board = board;
+    result
+}
 
 pub fn with_inputs(network: Network, inputs: usize) -> Network {
     let mut result = network;

@@ -1,5 +1,6 @@
 // The network that a line describes, in the notation in which networks are shown, after the number of its inputs:
 // inputs 3 gates 3 [ 0 +4 1 +3 ; +5 ] 4 [ 2 +1 3 +2 ; +3 ] outputs 4
+use crate::building::empty;
 use crate::building::feed;
 use crate::building::gate;
 use crate::building::output;
@@ -45,7 +46,7 @@ fn with_byte(network: Network, script: &[u8], at: usize, mark: u8) -> Network {
 }
 
 pub fn described(script: &[u8], from: usize, end: usize) -> Network {
-    let mut network = network::blank();
+    let mut network = empty();
     let mut mark = b'i';
     let mut at = from;
     while at < end {

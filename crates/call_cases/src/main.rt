@@ -35,6 +35,7 @@ fn line(network: Network, script: &[u8], from: usize) -> Network {
         b'#' | b'\n' => network,
         b'i' => describing::described(script, from, end),
         b'u' => building::with_signal(network, numbers_from(script, from)),
+        b'B' => building::with_board(network, numbers_from(script, from)),
         _ => case(network, script, from, end),
     }
 }

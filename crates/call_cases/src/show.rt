@@ -2,6 +2,7 @@
 use integers::magnitude;
 use integers::wide;
 use libc::STDOUT_FILENO;
+use network::Board;
 use network::Network;
 
 pub fn text(bytes: &[u8]) {
@@ -124,12 +125,24 @@ fn outputs(network: Network) {
     }
 }
 
-// A network: its gates, its outputs, and whether it is sound.
+// A board of version 2: its version and its margins.
+fn board(board: Board) {
+    if board.version == 1 {
+        return;
+    }
+    text(b" board");
+    number(wide(board.version));
+    number(wide(board.on));
+    number(wide(board.off));
+}
+
+// A network: its gates, its outputs, its board, and whether it is sound.
 fn network(network: Network) {
     text(b" gates");
     gates(network);
     text(b" outputs");
     outputs(network);
+    board(network.board);
     if network::soundness::is_sound(network) {
         text(b" sound");
     }
@@ -143,9 +156,16 @@ fn same_held(a: Held, b: Held) -> bool {
         & (a.driver == b.driver)
 }
 
-// Whether two records have the same counts, and the same numbers at every place.
+fn same_board(a: Board, b: Board) -> bool {
+    (a.version == b.version) & (a.on == b.on) & (a.off == b.off)
+}
+
+// Whether two records have the same counts and boards, and the same numbers at every place.
 fn same(a: Network, b: Network) -> bool {
     if (a.inputs != b.inputs) | (a.gates != b.gates) | (a.outputs != b.outputs) {
+        return false;
+    }
+    if !same_board(a.board, b.board) {
         return false;
     }
     let mut p: usize = 0;

@@ -3,6 +3,7 @@
 ghost use mathlib.Core.Path.{_≡_};
 ghost use Rattle.integers.specs.Refusals.{codeOf, stored};
 ghost use lib.ListN.{length};
+ghost use Rattle.converting.specs.Conversion.{conversionPlaces};
 ghost use Rattle.frames.specs.Frames.{fileFrames};
 ghost use Rattle.opening.specs.Files.{readNet, openNet, lengthOf};
 ghost use Rattle.preview.specs.Files.{previewPlaces};
@@ -121,6 +122,16 @@ pub extern "C" fn pmn_write(file: &[u8], out: &mut [u8], answer: &mut [u64]) -> 
     }
     let written = pmn_writer::unchecked::write_sound(loaded.network, out);
     opening::unchecked::places::put_one(answer, written.code, written.length as u64)
+}
+
+// The file of the same network in the other version is put into `out`, and its length goes into place 0 of the answer.
+#[no_mangle]
+pub extern "C" fn pmn_convert(file: &[u8], out: &mut [u8], answer: &mut [u64]) -> u8
+    ensures { λ r. ⌜ r ≡ codeOf (conversionPlaces (now (file .entry)) (length (now (out .entry))) (length (now (answer .entry)))) ⌝ }
+    ensures { λ _. ⌜ now (out .exit) ≡ stored (conversionPlaces (now (file .entry)) (length (now (out .entry))) (length (now (answer .entry)))) (now (out .entry)) ⌝ }
+    ensures { λ _. ⌜ now (answer .exit) ≡ stored (lengthOf (conversionPlaces (now (file .entry)) (length (now (out .entry))) (length (now (answer .entry))))) (now (answer .entry)) ⌝ }
+{
+    converting::files::convert_file(file, out, answer)
 }
 
 // The bytes of the gate with a signal are copied into `out`, and their number goes into place 0 of the answer.

@@ -14,12 +14,14 @@ use Rattle.integers.specs.Refusals.{Answer, accepted, refused, bind, Refused}
 use Rattle.integers.specs.RefusalLaws.{accepted≢refused, accepted-inj}
 use Rattle.network.specs.Threshold.{Gate}
 use Rattle.network.specs.Sound.{GateOk}
+use Rattle.network.specs.Limits.{keeps}
+use Rattle.network.specs.declared.Board.{Board}
 use Rattle.network.specs.Record.{gateOf, netOf}
 use Rattle.network.specs.Changes.{gateAt, withGates, without}
 use Rattle.network.specs.Places.{SoundGate}
 use Rattle.network.specs.RecordLaws.{gate-within, gate-number}
 use Rattle.network.specs.declared.Network.{Network}
-use Rattle.folding.specs.Merge.{Edge, edgeOf, silent, reads, merged, narrow}
+use Rattle.folding.specs.Merge.{Edge, edgeOf, silent, reads, merged, narrow, mergeKeeps}
 use Rattle.folding.specs.Pair.{Pair, qualifies, pairOf}
 use Rattle.folding.specs.Collapse.{fuse, fuseAll}
 use Rattle.folding.specs.RefusalLaws.{Numbered}
@@ -84,7 +86,8 @@ module _ (e : Edge) where
 
   module _ (p : Pair) (h : readerPair e ≡ accepted p) where
     -- the two cases of an accepted pair
-    pair-case : {X : Type 0} → (silent (e .u) (e .gateV) ≡ true → p ≡ noPair → X) → (silent (e .u) (e .gateV) ≡ false → pairOf e ≡ accepted p → Merges p → X) → X
+    pair-case : {X : Type 0} → (silent (e .u) (e .gateV) ≡ true → p ≡ noPair → X)
+        → (silent (e .u) (e .gateV) ≡ false → pairOf e ≡ accepted p → Merges p → X) → X
     unfolding reads
     pair-case {X} f g = elim (silent (e .u) (e .gateV)) as (λ b. silent (e .u) (e .gateV) ≡ b → X) [
       | true ↦ λ t. f t (accepted-inj (sym h ∙ pair-silent t))
@@ -129,21 +132,31 @@ module _ (e : Edge) where
         (λ t q m. subst (GateOk (e .v)) (sym (fused-merged (λ z. omega (arith, m .dials))))
         (merged-ok e (p .k) (p .l) (leb→le _ 16 (m .few)) (qualified-of e p (m .qualified) .scaled)))
 
+    -- and it keeps the margins
+    pub fused-keeps : T (keeps (e .board) (e .gateV)) → T (keeps (e .board) (fused e p))
+    unfolding mergeKeeps
+    fused-keeps kept = pair-case
+        (λ t q. subst (λ (g : Gate). T (keeps (e .board) g)) (sym (fused-silent t)) kept)
+        (λ t q m. subst (λ (g : Gate). T (keeps (e .board) g)) (sym (fused-merged (λ z. omega (arith, m .dials)))) (qualified-of e p (m .qualified) .kept))
+
   -- a reader whose pair is refused
   pub fuse-refused : (c : ℕ) → readerPair e ≡ refused c → fuse e ≡ refused c
   unfolding readerPair fuse bind
-  fuse-refused c h = elim (silent (e .u) (e .gateV)) as (λ b. cond b (accepted noPair) (pairOf e) ≡ refused c → cond b (accepted (e .gateV)) (bind (pairOf e) (λ p. accepted (merged e (p .k) (p .l)))) ≡ refused c) [
-    | true ↦ λ q. accepted≢refused q
-    | false ↦ λ q. rw q
-  ] h
+  fuse-refused c h =
+      elim (silent (e .u) (e .gateV)) as
+      (λ b. cond b (accepted noPair) (pairOf e) ≡ refused c
+      → cond b (accepted (e .gateV)) (bind (pairOf e) (λ p. accepted (merged e (p .k) (p .l)))) ≡ refused c) [
+        | true ↦ λ q. accepted≢refused q
+        | false ↦ λ q. rw q
+      ] h
 
 -- ---- all gates: those with numbers from a on, n of them
-module _ (u : ℕ) (gateU : Gate) (inputs : ℕ) (gate : ℕ → Gate) where
+module _ (board : Board) (u : ℕ) (gateU : Gate) (inputs : ℕ) (gate : ℕ → Gate) where
   abbrev at : ℕ → Edge
-  at g = edgeOf u (inputs + g) gateU (gate g)
+  at g = edgeOf board u (inputs + g) gateU (gate g)
 
   abbrev from : ℕ → ℕ → Answer (List Gate)
-  from a n = fuseAll u gateU (inputs + a) (map gate (range a n))
+  from a n = fuseAll board u gateU (inputs + a) (map gate (range a n))
 
   -- the first gate, and those after it
   fuseAll-step : (a n : ℕ) → from a (suc n) ≡ bind (fuse (at a)) (λ h. bind (from (suc a) n) (λ hs. accepted (h ∷ hs)))
@@ -158,74 +171,86 @@ module _ (u : ℕ) (gateU : Gate) (inputs : ℕ) (gate : ℕ → Gate) where
       ∙ rw (q a (omega arith) (omega arith), fuseAll-accepted h (suc a) n (λ g k l. q g (omega arith) (omega arith)))
 
   -- the first refused gate is the answer
-  pub fuseAll-refused : (h : ℕ → Gate) (a n g c : ℕ) → a ≤ g → g < a + n → ((i : ℕ) → i < g → fuse (at i) ≡ accepted (h i)) → fuse (at g) ≡ refused c → from a n ≡ refused c
+  pub fuseAll-refused : (h : ℕ → Gate) (a n g c : ℕ) → a ≤ g → g < a + n → ((i : ℕ) → i < g → fuse (at i) ≡ accepted (h i)) → fuse (at g) ≡ refused c
+      → from a n ≡ refused c
   unfolding bind
   fuseAll-refused h a zero g c k l q r = absurd (omega arith)
-  fuseAll-refused h a (suc n) g c k l q r = fuseAll-step a n ∙ (elim (decLt a g) as (λ d. bind (fuse (at a)) (λ h. bind (from (suc a) n) (λ hs. accepted (h ∷ hs))) ≡ refused c) [
-    | yes j ↦ rw (q a j, fuseAll-refused h (suc a) n g c j (omega arith) q r)
-    | no j ↦ let e : a ≡ g = omega arith in rw (e, r)
-  ])
+  fuseAll-refused h a (suc n) g c k l q r =
+      fuseAll-step a n ∙ (elim (decLt a g) as (λ d. bind (fuse (at a)) (λ h. bind (from (suc a) n) (λ hs. accepted (h ∷ hs))) ≡ refused c) [
+        | yes j ↦ rw (q a j, fuseAll-refused h (suc a) n g c j (omega arith) q r)
+        | no j ↦ let e : a ≡ g = omega arith in rw (e, r)
+      ])
 
   -- any refused gate is a refusal
   pub fuseAll-some : (a n g : ℕ) → a ≤ g → g < a + n → Refused (fuse (at g)) → Refused (from a n)
   unfolding bind
   fuseAll-some a zero g k l r = absurd (omega arith)
-  fuseAll-some a (suc n) g k l r = subst Refused (sym (fuseAll-step a n)) (elim (decLt a g) as (λ d. Refused (bind (fuse (at a)) (λ h. bind (from (suc a) n) (λ hs. accepted (h ∷ hs))))) [
-    | yes j ↦ each-refused (fuse (at a)) (λ h. bind (from (suc a) n) (λ hs. accepted (h ∷ hs))) (λ h. refused-bind (from (suc a) n) (λ hs. accepted (h ∷ hs)) (fuseAll-some (suc a) n g j (omega arith) r))
-    | no j ↦ let e : a ≡ g = omega arith in refused-bind (fuse (at a)) (λ h. bind (from (suc a) n) (λ hs. accepted (h ∷ hs))) (rw e r)
-  ])
+  fuseAll-some a (suc n) g k l r =
+      subst Refused (sym (fuseAll-step a n)) (elim (decLt a g) as (λ d. Refused (bind (fuse (at a)) (λ h. bind (from (suc a) n) (λ hs. accepted (h ∷ hs))))) [
+        | yes j ↦ each-refused (fuse (at a)) (λ h. bind (from (suc a) n) (λ hs. accepted (h ∷ hs)))
+            (λ h. refused-bind (from (suc a) n) (λ hs. accepted (h ∷ hs)) (fuseAll-some (suc a) n g j (omega arith) r))
+        | no j ↦ let e : a ≡ g = omega arith in refused-bind (fuse (at a)) (λ h. bind (from (suc a) n) (λ hs. accepted (h ∷ hs))) (rw e r)
+      ])
 
 -- ---- all gates by their pairs
-module _ (gate : ℕ → Gate) (inputs gates u : ℕ) where
+module _ (board : Board) (gate : ℕ → Gate) (inputs gates u : ℕ) where
   -- the answer from the first gate on
   abbrev all-from : Answer (List Gate)
-  all-from = from u (gate (u - inputs)) inputs gate 0 gates
+  all-from = from board u (gate (u - inputs)) inputs gate 0 gates
 
-  from-first : all-from ≡ fusion gate inputs gates u
-  from-first = ap (λ (n : ℕ). fuseAll u (gate (u - inputs)) n (tab gates gate)) (let e : inputs + 0 ≡ inputs = omega arith in e)
+  from-first : all-from ≡ fusion board gate inputs gates u
+  from-first = ap (λ (n : ℕ). fuseAll board u (gate (u - inputs)) n (tab gates gate)) (let e : inputs + 0 ≡ inputs = omega arith in e)
 
   -- where every gate has its pair, all are accepted
-  pub fusion-pairs : (p : Pairs) → AllPairs gate inputs gates u p → fusion gate inputs gates u ≡ accepted (fusedGates gate inputs gates u p)
-  fusion-pairs p h = sym from-first ∙ fuseAll-accepted u (gate (u - inputs)) inputs gate (λ g. fused (edgeTo gate inputs u g) (pairAt p g)) 0 gates
-      λ g k l. fuse-pair (edgeTo gate inputs u g) (pairAt p g) (h .each g (omega arith))
+  pub fusion-pairs : (p : Pairs) → AllPairs board gate inputs gates u p → fusion board gate inputs gates u ≡ accepted (fusedGates board gate inputs gates u p)
+  fusion-pairs p h = sym from-first ∙ fuseAll-accepted board u (gate (u - inputs)) inputs gate (λ g. fused (edgeTo board gate inputs u g) (pairAt p g)) 0 gates
+      λ g k l. fuse-pair (edgeTo board gate inputs u g) (pairAt p g) (h .each g (omega arith))
 
   -- the first gate whose pair is refused is the answer
-  pub fusion-first : (q : ℕ → Pair) (g c : ℕ) → g < gates → ((i : ℕ) → i < g → readerPair (edgeTo gate inputs u i) ≡ accepted (q i)) → readerPair (edgeTo gate inputs u g) ≡ refused c
-      → fusion gate inputs gates u ≡ refused c
-  fusion-first q g c l h r = sym from-first ∙ fuseAll-refused u (gate (u - inputs)) inputs gate (λ i. fused (edgeTo gate inputs u i) (q i)) 0 gates g c (omega arith) (omega arith)
-      (λ i k. fuse-pair (edgeTo gate inputs u i) (q i) (h i k)) (fuse-refused (edgeTo gate inputs u g) c r)
+  pub fusion-first : (q : ℕ → Pair) (g c : ℕ) → g < gates → ((i : ℕ) → i < g → readerPair (edgeTo board gate inputs u i) ≡ accepted (q i))
+      → readerPair (edgeTo board gate inputs u g) ≡ refused c
+      → fusion board gate inputs gates u ≡ refused c
+  fusion-first q g c l h r =
+      sym from-first
+      ∙ fuseAll-refused board u (gate (u - inputs)) inputs gate (λ i. fused (edgeTo board gate inputs u i) (q i)) 0 gates g c (omega arith) (omega arith)
+      (λ i k. fuse-pair (edgeTo board gate inputs u i) (q i) (h i k)) (fuse-refused (edgeTo board gate inputs u g) c r)
 
   -- any gate whose pair is refused is a refusal
-  pub fusion-some : (g c : ℕ) → g < gates → readerPair (edgeTo gate inputs u g) ≡ refused c → Refused (fusion gate inputs gates u)
-  fusion-some g c l r = subst Refused from-first (fuseAll-some u (gate (u - inputs)) inputs gate 0 gates g (omega arith) (omega arith) (subst Refused (sym (fuse-refused (edgeTo gate inputs u g) c r)) tt))
+  pub fusion-some : (g c : ℕ) → g < gates → readerPair (edgeTo board gate inputs u g) ≡ refused c → Refused (fusion board gate inputs gates u)
+  fusion-some g c l r =
+      subst Refused from-first
+      (fuseAll-some board u (gate (u - inputs)) inputs gate 0 gates g (omega arith) (omega arith)
+      (subst Refused (sym (fuse-refused (edgeTo board gate inputs u g) c r)) tt))
 
   -- by what the pairs of all readers say
-  module _ (p : Pairs) (h : ReaderPairs gate inputs gates u p) where
-    pub pairs-all : p .code ≡ 0 → AllPairs gate inputs gates u p
+  module _ (p : Pairs) (h : ReaderPairs board gate inputs gates u p) where
+    pub pairs-all : p .code ≡ 0 → AllPairs board gate inputs gates u p
     pairs-all z = record { each = λ g l. h .found g (omega (arith, h .all z)) }
 
-    pub pairs-first : p .code ≢ 0 → fusion gate inputs gates u ≡ refused (p .code)
+    pub pairs-first : p .code ≢ 0 → fusion board gate inputs gates u ≡ refused (p .code)
     pairs-first n = let r = h .refuses n in fusion-first (pairAt p) (p .last) (p .code) (r .within) (h .found) (r .refusal)
 
   -- a gate whose pair is refused is a refusal
-  pub tried-refused : (p : Pairs) → TriedPairs gate inputs gates u p → p .code ≢ 0 → Refused (fusion gate inputs gates u)
+  pub tried-refused : (p : Pairs) → TriedPairs board gate inputs gates u p → p .code ≢ 0 → Refused (fusion board gate inputs gates u)
   tried-refused p h n = let r = h .refuses n in fusion-some (p .last) (p .code) (r .within) (r .refusal)
 
 -- ---- a record's gate folded into its readers
 module _ (r : Network) (u : ℕ) (s : SoundGate r u) where
   -- the collapse, by the gates' numbers
-  folded-fusion : folded (netOf r) u ≡ bind (fusion (gateOf r) (r .inputs) (r .gates) u) (λ gs. accepted (without (withGates (netOf r) gs) u))
+  folded-fusion : folded (netOf r) u ≡ bind (fusion (r .board) (gateOf r) (r .inputs) (r .gates) u) (λ gs. accepted (without (withGates (netOf r) gs) u))
   unfolding folded gateAt netOf
-  folded-fusion = ap (λ (g : Gate). bind (fuseAll u g (r .inputs) (tab (r .gates) (gateOf r))) (λ gs. accepted (without (withGates (netOf r) gs) u)))
+  folded-fusion = ap (λ (g : Gate). bind (fuseAll (r .board) u g (r .inputs) (tab (r .gates) (gateOf r))) (λ gs. accepted (without (withGates (netOf r) gs) u)))
       (gate-within r (u - r .inputs) (gate-number r u s .1))
 
-  pub folded-pairs : (p : Pairs) → AllPairs (gateOf r) (r .inputs) (r .gates) u p → folded (netOf r) u ≡ accepted (foldedBy r u p)
+  pub folded-pairs : (p : Pairs) → AllPairs (r .board) (gateOf r) (r .inputs) (r .gates) u p → folded (netOf r) u ≡ accepted (foldedBy r u p)
   unfolding bind foldedBy
-  folded-pairs p h = folded-fusion ∙ rw (fusion-pairs (gateOf r) (r .inputs) (r .gates) u p h)
+  folded-pairs p h = folded-fusion ∙ rw (fusion-pairs (r .board) (gateOf r) (r .inputs) (r .gates) u p h)
 
-  pub folded-first : (c : ℕ) → fusion (gateOf r) (r .inputs) (r .gates) u ≡ refused c → folded (netOf r) u ≡ refused c
+  pub folded-first : (c : ℕ) → fusion (r .board) (gateOf r) (r .inputs) (r .gates) u ≡ refused c → folded (netOf r) u ≡ refused c
   unfolding bind
   folded-first c h = folded-fusion ∙ rw h
 
-  pub folded-some : Refused (fusion (gateOf r) (r .inputs) (r .gates) u) → Refused (folded (netOf r) u)
-  folded-some h = subst Refused (sym folded-fusion) (refused-bind (fusion (gateOf r) (r .inputs) (r .gates) u) (λ gs. accepted (without (withGates (netOf r) gs) u)) h)
+  pub folded-some : Refused (fusion (r .board) (gateOf r) (r .inputs) (r .gates) u) → Refused (folded (netOf r) u)
+  folded-some h =
+      subst Refused (sym folded-fusion)
+      (refused-bind (fusion (r .board) (gateOf r) (r .inputs) (r .gates) u) (λ gs. accepted (without (withGates (netOf r) gs) u)) h)

@@ -12,6 +12,7 @@ use Rattle.integers.specs.Refusals.{Answer, accepted, refused, bind}
 use Rattle.network.specs.Threshold.{Gate, Net}
 use Rattle.network.specs.Record.{gateOf, netOf}
 use Rattle.network.specs.Changes.{gateAt, withGates, without}
+use Rattle.network.specs.declared.Board.{Board}
 use Rattle.network.specs.declared.Network.{Network}
 use Rattle.folding.specs.Merge.{Edge, edgeOf, silent, merged}
 use Rattle.folding.specs.Pair.{Pair, pairOf}
@@ -20,13 +21,13 @@ use Rattle.collapse.specs.declared.Pairs.{Pairs}
 
 -- a collapse of u, once 20, 11 and 17 do not apply
 unfoldable pub folded : Net → ℕ → Answer Net
-folded N u = bind (fuseAll u (gateAt N u) (N .inputs) (N .gates)) (λ gs. accepted (without (withGates N gs) u))
+folded N u = bind (fuseAll (N .board) u (gateAt N u) (N .inputs) (N .gates)) (λ gs. accepted (without (withGates N gs) u))
 
 -- ---- one gate
 
--- gates u and g, g by its number, as an edge
-abbrev pub edgeTo : (ℕ → Gate) → ℕ → ℕ → ℕ → Edge
-edgeTo gate inputs u g = edgeOf u (inputs + g) (gate (u - inputs)) (gate g)
+-- gates u and g, g by its number, as an edge on a board
+abbrev pub edgeTo : Board → (ℕ → Gate) → ℕ → ℕ → ℕ → Edge
+edgeTo board gate inputs u g = edgeOf board u (inputs + g) (gate (u - inputs)) (gate g)
 
 -- no pair: 0 and 0
 abbrev pub noPair : Pair
@@ -43,41 +44,41 @@ fused e p = cond (eqb (p .k) 0) (e .gateV) (merged e (p .k) (p .l))
 -- ---- all gates
 
 -- what becomes of the gates, or the first refusal
-abbrev pub fusion : (ℕ → Gate) → ℕ → ℕ → ℕ → Answer (List Gate)
-fusion gate inputs gates u = fuseAll u (gate (u - inputs)) inputs (tab gates gate)
+abbrev pub fusion : Board → (ℕ → Gate) → ℕ → ℕ → ℕ → Answer (List Gate)
+fusion board gate inputs gates u = fuseAll board u (gate (u - inputs)) inputs (tab gates gate)
 
 -- the pair that was found for gate g
 abbrev pub pairAt : Pairs → ℕ → Pair
 pairAt p g = record { k = getD (p .ks) g 0; l = getD (p .ls) g 0 }
 
 -- p has the pair of every gate
-pub record AllPairs (gate : ℕ → Gate) (inputs gates u : ℕ) (p : Pairs) : Type 0 where
-  pub each : (g : ℕ) → g < gates → readerPair (edgeTo gate inputs u g) ≡ accepted (pairAt p g)
+pub record AllPairs (board : Board) (gate : ℕ → Gate) (inputs gates u : ℕ) (p : Pairs) : Type 0 where
+  pub each : (g : ℕ) → g < gates → readerPair (edgeTo board gate inputs u g) ≡ accepted (pairAt p g)
 
 -- gate `last` of p is one whose pair is refused, with p's code
-pub record Refuses (gate : ℕ → Gate) (inputs gates u : ℕ) (p : Pairs) : Type 0 where
+pub record Refuses (board : Board) (gate : ℕ → Gate) (inputs gates u : ℕ) (p : Pairs) : Type 0 where
   pub within : p .last < gates
-  pub refusal : readerPair (edgeTo gate inputs u (p .last)) ≡ refused (p .code)
+  pub refusal : readerPair (edgeTo board gate inputs u (p .last)) ≡ refused (p .code)
 
 -- p has the pair of every gate before `last` and no pair from there on; and with code 0 `last` is the number of gates, else the pair of
 -- that gate is refused. Nothing in p is free
-pub record ReaderPairs (gate : ℕ → Gate) (inputs gates u : ℕ) (p : Pairs) : Type 0 where
-  pub found : (g : ℕ) → g < p .last → readerPair (edgeTo gate inputs u g) ≡ accepted (pairAt p g)
+pub record ReaderPairs (board : Board) (gate : ℕ → Gate) (inputs gates u : ℕ) (p : Pairs) : Type 0 where
+  pub found : (g : ℕ) → g < p .last → readerPair (edgeTo board gate inputs u g) ≡ accepted (pairAt p g)
   pub spare : (g : ℕ) → p .last ≤ g → pairAt p g ≡ noPair
   pub all : p .code ≡ 0 → p .last ≡ gates
-  pub refuses : p .code ≢ 0 → Refuses gate inputs gates u p
+  pub refuses : p .code ≢ 0 → Refuses board gate inputs gates u p
 
 -- p has the pair of every gate, or else a gate whose pair is refused, not always the first; then its pairs are free
-pub record TriedPairs (gate : ℕ → Gate) (inputs gates u : ℕ) (p : Pairs) : Type 0 where
-  pub found : p .code ≡ 0 → AllPairs gate inputs gates u p
-  pub refuses : p .code ≢ 0 → Refuses gate inputs gates u p
+pub record TriedPairs (board : Board) (gate : ℕ → Gate) (inputs gates u : ℕ) (p : Pairs) : Type 0 where
+  pub found : p .code ≡ 0 → AllPairs board gate inputs gates u p
+  pub refuses : p .code ≢ 0 → Refuses board gate inputs gates u p
 
 -- ---- a record
 
 -- the gates with their pairs
-abbrev pub fusedGates : (ℕ → Gate) → ℕ → ℕ → ℕ → Pairs → List Gate
-fusedGates gate inputs gates u p = tab gates (λ g. fused (edgeTo gate inputs u g) (pairAt p g))
+abbrev pub fusedGates : Board → (ℕ → Gate) → ℕ → ℕ → ℕ → Pairs → List Gate
+fusedGates board gate inputs gates u p = tab gates (λ g. fused (edgeTo board gate inputs u g) (pairAt p g))
 
 -- the network of a record, with gate u folded into its readers by their pairs
 unfoldable pub foldedBy : Network → ℕ → Pairs → Net
-foldedBy r u p = without (withGates (netOf r) (fusedGates (gateOf r) (r .inputs) (r .gates) u p)) u
+foldedBy r u p = without (withGates (netOf r) (fusedGates (r .board) (gateOf r) (r .inputs) (r .gates) u p)) u

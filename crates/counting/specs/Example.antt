@@ -11,7 +11,7 @@ use Rattle.counting.specs.Counting.{solutions, differences, ways}
 
 -- one input, one gate, and two outputs that name it
 abbrev twice : Gate → Net
-twice g = record { inputs = 1; gates = g ∷ []; outputs = 1 ∷ 1 ∷ [] }
+twice g = record { board = record { version = 1; on = 0; off = 1 }; inputs = 1; gates = g ∷ []; outputs = 1 ∷ 1 ∷ [] }
 
 -- "[1;1]" on the input: the input's bit
 unfoldable pub inputTwice : Net

@@ -1,8 +1,10 @@
 -- The example, by computing. Assumes nothing.
 use mathlib.Core.Path.{refl}
 use Rattle.integers.specs.Lists.{all, allFrom, every, range, between}
+use Rattle.integers.specs.TestLaws.{is-true, of-every}
 use Rattle.network.specs.Threshold.{negated, sum, bit, assign, run, values, frame, outputBits}
-use Rattle.network.specs.Limits.{signalsOf, rising, inScale, isZero, weightOk, scaleOk, gateOk, isGate, soundTests, sound}
+use Rattle.network.specs.Limits.{signalsOf, rising, inScale, isZero, weightOk, scaleOk, gateOk, isGate, boardOk, soundTests, sound}
+use Rattle.network.specs.MarginLaws.{all-plain}
 use Rattle.constraints.specs.Question.{holds, most, least, upper, lower, secondVariable, overGate, gateLines}
 use Rattle.constraints.specs.Question.{someLine, notBothLine, outputLines, lastLine, alike, firstDifference, question, variables}
 use Rattle.constraints.specs.Demand.{differs}
@@ -12,11 +14,15 @@ use Rattle.counting.specs.Example.{inputTwice, oneTwice, ThreeWays}
 
 pub three-ways : ThreeWays
 unfolding inputTwice oneTwice all allFrom every range between negated sum bit assign run values frame outputBits signalsOf rising inScale
-    isZero weightOk scaleOk gateOk isGate soundTests sound holds most least upper lower secondVariable overGate gateLines someLine
+    isZero weightOk scaleOk gateOk isGate boardOk soundTests sound holds most least upper lower secondVariable overGate gateLines someLine
     notBothLine outputLines lastLine alike firstDifference question variables differs sumBelow solves solutions differences ways
 three-ways = record {
-  first-sound = refl;
-  second-sound = refl;
+  first-sound =
+      is-true (sound inputTwice)
+      (of-every (soundTests inputTwice) (tt, (tt, (tt, (tt, (tt, (all-plain (inputTwice .board) (inputTwice .gates) refl refl, (tt, tt))))))));
+  second-sound =
+      is-true (sound oneTwice)
+      (of-every (soundTests oneTwice) (tt, (tt, (tt, (tt, (tt, (all-plain (oneTwice .board) (oneTwice .gates) refl refl, (tt, tt))))))));
   same-counts = refl;
   both-differ = refl;
   none-differs = refl;

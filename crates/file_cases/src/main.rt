@@ -227,16 +227,20 @@ fn numbers_41(bytes: &[u8; 41]) {
 }
 
 // The bytes of the gate with a signal.
-fn part(signal: usize) {
-    let file = F;
-    let code = pmn::gate_part_code(&file, signal);
-    let p = pmn::gate_part(&file, signal);
+fn part_of(file: &[u8], signal: usize) {
+    let code = pmn::gate_part_code(file, signal);
+    let p = pmn::gate_part(file, signal);
     text(b"part");
     number(signal as u64);
     number(code as u64);
     number(p.len() as u64);
     numbers(p);
     end();
+}
+
+fn part(signal: usize) {
+    let file = F;
+    part_of(&file, signal);
 }
 
 // The network written into the first bytes of those lent.
@@ -258,6 +262,109 @@ fn written(network: Network, room: usize) {
     end();
 }
 
+// F in version 2.
+fn second_file() -> [u8; 41] {
+    let file = F;
+    let mut out = [0u8; 41];
+    converting::convert(&file, &mut out);
+    out
+}
+
+fn prefix_code_41(file: &[u8; 41], n: usize) -> u64 {
+    prefix_code(file, n)
+}
+
+fn second_part(signal: usize) {
+    let file = second_file();
+    part_of(&file, signal);
+}
+
+// F in version 2 with two bytes changed, of which the first n are read: where, to what, how many, and the code.
+fn second(first: usize, byte: u8, other: usize, value: u8, n: usize) {
+    let mut file = second_file();
+    if first < 41 {
+        file[first] = byte;
+    }
+    if other < 41 {
+        file[other] = value;
+    }
+    text(b"second");
+    number(first as u64);
+    number(byte as u64);
+    number(other as u64);
+    number(value as u64);
+    number(n as u64);
+    number(prefix_code_41(&file, n));
+    end();
+}
+
+// F in version 2, cut after each of its bytes from the eighth on.
+fn second_cuts() {
+    let mut n: usize = 8;
+    while n < 42 {
+        second(3, 2, 4, 0, n);
+        n = n + 1;
+    }
+}
+
+// F in version 2, damaged: its version, its margins, its counts; and margins that its gates break, or keep.
+fn seconds() {
+    second(3, 3, 4, 0, 41);
+    second(3, 2, 4, 1, 41);
+    second(6, 0, 7, 3, 41);
+    second(6, 0, 7, 0, 8);
+    second(7, 0, 7, 0, 8);
+    second(8, 129, 7, 3, 9);
+    second(9, 17, 7, 3, 10);
+    second(5, 1, 6, 1, 41);
+    second(5, 1, 6, 1, 39);
+    second(5, 0, 6, 2, 41);
+    second(5, 0, 6, 2, 25);
+    second(5, 0, 6, 2, 24);
+    second(5, 1, 31, 2, 41);
+    second(5, 2, 31, 2, 41);
+}
+
+// A file converted into the first bytes of those lent.
+fn convert_prefix(file: &[u8], out: &mut [u8], room: usize) {
+    if room <= out.len() {
+        let c = converting::convert(file, &mut out[..room]);
+        number(c.code as u64);
+        number(c.length as u64);
+    }
+}
+
+// A file converted into the first bytes of 41, each of which was 170: the answer, and all 41 bytes.
+fn converted(file: &[u8], room: usize) {
+    let mut out = [170u8; 41];
+    text(b"convert");
+    number(room as u64);
+    convert_prefix(file, &mut out, room);
+    numbers_41(&out);
+    end();
+}
+
+fn converted_41(file: &[u8; 41], room: usize) {
+    converted(file, room);
+}
+
+// F there and back, margins that version 1 can't hold, and a file that is refused.
+fn conversions() {
+    let file = F;
+    converted(&file, 40);
+    converted(&file, 41);
+    let mut there = second_file();
+    converted_41(&there, 38);
+    converted_41(&there, 39);
+    there[31] = 2;
+    converted_41(&there, 39);
+    there[5] = 1;
+    converted_41(&there, 39);
+    converted_41(&there, 0);
+    there[5] = 2;
+    converted_41(&there, 39);
+}
+
 fn main() {
     let file = F;
     let loaded = pmn::read(&file);
@@ -272,7 +379,9 @@ fn main() {
     changed(0, 81);
     changed(1, 78);
     changed(2, 77);
+    changed(3, 0);
     changed(3, 2);
+    changed(3, 3);
     changed(4, 1);
     changed(5, 0);
     changed(5, 41);
@@ -315,4 +424,10 @@ fn main() {
     let blank = network::blank();
     frame(blank, 0);
     written(blank, 0);
+    second_cuts();
+    second_part(3);
+    second_part(4);
+    second_part(2);
+    seconds();
+    conversions();
 }

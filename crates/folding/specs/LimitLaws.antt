@@ -1,12 +1,13 @@
 -- The tests of a merge and of a pair as facts, each by its name. Assumes nothing.
-use Prim.Native.Nat.{ℕ}
-use lib.Dec.{T}
+use Prim.Native.Nat.{ℕ, _≤_}
+use lib.Dec.{T, leb→le}
+use lib.ListN.{length}
 use Rattle.integers.specs.TestLaws.{T-and, and-T}
 use Rattle.integers.specs.Refusals.{Passed}
 use Rattle.network.specs.Threshold.{Net}
 use Rattle.network.specs.Limits.{scaleOk, isGate, sound}
 use Rattle.network.specs.Changes.{gateAt}
-use Rattle.folding.specs.Merge.{Edge, edge, reads, merged, onDial, narrow, feedTests, limits}
+use Rattle.folding.specs.Merge.{Edge, edge, reads, distinct, merged, onDial, narrow, feedTests, limits}
 use Rattle.folding.specs.Pair.{pairTests}
 
 -- ---- two gates of a sound network, of which u feeds v
@@ -36,6 +37,11 @@ searched-of e p = record { is-narrow = p .0 }
 pub of-searched : (e : Edge) → Searched e → Passed (pairTests e)
 unfolding pairTests
 of-searched e s = (s .is-narrow, tt)
+
+-- at most 16 distinct feeds
+pub narrow-few : (e : Edge) → T (narrow e) → length (distinct e) ≤ 16
+unfolding narrow
+narrow-few e t = leb→le (length (distinct e)) 16 t
 
 -- ---- a merge within the limits
 pub record Limited (N : Net) (u v k l : ℕ) : Type 0 where

@@ -8,6 +8,7 @@ use native.Mathlib.Omega.{arith}
 use Rattle.integers.specs.TestLaws.{cond-case}
 use Rattle.integers.specs.Refusals.{accepted, bind}
 use Rattle.network.specs.Threshold.{Gate, Net}
+use Rattle.network.specs.declared.Board.{Board}
 use Rattle.folding.specs.Merge.{Edge, edgeOf, edge, silent, merged, feedTests, limits, merge}
 use Rattle.folding.specs.Pair.{pairs, qualifies, first, pairTests, pairOf, pair}
 use Rattle.folding.specs.Collapse.{drop, fuse, fuseAll, collapse}
@@ -21,7 +22,7 @@ use Rattle.folding.specs.declared.Call.the-variants.{Merge, Drop, Collap
 pub merge-never : (N : Net) (u v k l : ℕ) → NeverSays 13 (merge N u v k l)
 unfolding merge limits
 merge-never N u v k l = checks-never 13 (limits N u v k l) _ (omega arith, (omega arith, (omega arith, (omega arith, (omega arith, (omega arith, tt))))))
-    (checks-never 13 _ (accepted _) (omega arith, tt) tt)
+    (checks-never 13 _ (accepted _) (omega arith, (omega arith, tt)) tt)
 
 -- ---- pair
 first-never : {A : Type 0} (p : A → Bool) (n : ℕ) (xs : List A) (c : ℕ) → c ≢ n → NeverSays n (first p xs c)
@@ -61,15 +62,15 @@ fuse-never n e h =
     (λ t. tt) (λ t. bind-never n (pairOf e) _ h (λ p. tt))
 
 module _ (n : ℕ) (pairs-never : (e : Edge) → NeverSays n (pairOf e)) where
-  fuseAll-never : (u : ℕ) (gateU : Gate) (m : ℕ) (gs : List Gate) → NeverSays n (fuseAll u gateU m gs)
+  fuseAll-never : (b : Board) (u : ℕ) (gateU : Gate) (m : ℕ) (gs : List Gate) → NeverSays n (fuseAll b u gateU m gs)
   unfolding fuseAll
-  fuseAll-never u gateU m [] = tt
-  fuseAll-never u gateU m (g ∷ gs) = bind-never n (fuse (edgeOf u m gateU g)) _ (fuse-never n (edgeOf u m gateU g) (pairs-never (edgeOf u m gateU g)))
-      (λ h. bind-never n (fuseAll u gateU (suc m) gs) _ (fuseAll-never u gateU (suc m) gs) (λ hs. tt))
+  fuseAll-never b u gateU m [] = tt
+  fuseAll-never b u gateU m (g ∷ gs) = bind-never n (fuse (edgeOf b u m gateU g)) _ (fuse-never n (edgeOf b u m gateU g) (pairs-never (edgeOf b u m gateU g)))
+      (λ h. bind-never n (fuseAll b u gateU (suc m) gs) _ (fuseAll-never b u gateU (suc m) gs) (λ hs. tt))
 
   fused-never : (N : Net) (u : ℕ) → 20 ≢ n → 11 ≢ n → 17 ≢ n → NeverSays n (collapse N u)
   unfolding collapse
-  fused-never N u x y z = checks-never n _ _ (x, (y, (z, tt))) (bind-never n (fuseAll _ _ _ (N .gates)) _ (fuseAll-never _ _ _ (N .gates)) (λ gs. tt))
+  fused-never N u x y z = checks-never n _ _ (x, (y, (z, tt))) (bind-never n (fuseAll _ _ _ _ (N .gates)) _ (fuseAll-never _ _ _ _ (N .gates)) (λ gs. tt))
 
 pub collapse-never : (N : Net) (u : ℕ) → NeverSays 13 (collapse N u)
 collapse-never N u = fused-never 13 pairOf-13 N u (omega arith) (omega arith) (omega arith)

@@ -3,39 +3,35 @@ use mathlib.Core.Path.{_≡_, refl, ap, _∙_, subst}
 use mathlib.Core.Bool.{_&&_}
 use mathlib.Core.List.{List, [], _∷_, map}
 use mathlib.Core.Logic.{_≢_, _↔_}
-use Prim.Native.Nat.{ℕ, suc, _-_, _≤_}
+use Prim.Native.Nat.{ℕ, suc, _-_}
 use native.Mathlib.Omega.{arith}
-use lib.Dec.{T, leb→le}
+use lib.Dec.{T}
 use lib.ListN.{length}
 use lib.Seq.{map-set-same}
 use Rattle.integers.specs.Lists.{all, range, other, Each}
-use Rattle.integers.specs.TestLaws.{T-and, cond-case, or-case, other-ne}
+use Rattle.integers.specs.TestLaws.{T-and, and-T, cond-case, or-case, other-ne}
 use Rattle.integers.specs.ListLaws.{each-of, each-imp, kept, all-other}
-use Rattle.integers.specs.Refusals.{accepted, _else_, Passed}
+use Rattle.integers.specs.Refusals.{accepted, Test, _else_, Passed}
 use Rattle.integers.specs.RefusalLaws.{accepted-inj, checks-accepted, passed-checks, bind-accepted}
 use Rattle.network.specs.Threshold.{Gate, Net, Assignment, bit}
-use Rattle.network.specs.Limits.{isGate, sound}
+use Rattle.network.specs.Limits.{keeps, isGate, sound}
 use Rattle.network.specs.Record.{noGate}
-use Rattle.network.specs.Changes.{gateAt, withGate, withGates}
+use Rattle.network.specs.Changes.{gateAt, withGate, withGates, without}
 use Rattle.network.specs.Sound.{GateOk, Gates, Has}
 use Rattle.network.specs.LimitLaws.{has-of, sound-of, gate-ok}
+use Rattle.network.specs.declared.Board.{Board}
 use Rattle.equivalence.specs.ConsistentLaws.{own-bit, sim-trans, replaced}
-use Rattle.folding.specs.Merge.{Edge, edgeOf, edge, silent, reads, among, distinct, merged, narrow, agrees, limits, merge}
+use Rattle.folding.specs.Merge.{Edge, edgeOf, edge, silent, reads, among, distinct, merged, agrees, mergeKeeps, limits, merge}
 use Rattle.folding.specs.Pair.{pairOf}
 use Rattle.folding.specs.Collapse.{unread, drop, fuse, fuseAll, collapse}
-use Rattle.folding.specs.Guarantee.{Alike, AlikeUnderAll, Kept}
+use Rattle.folding.specs.Guarantee.{Alike, AlikeUnderAll, MarginsKept, Kept}
 use Rattle.folding.specs.LowerLaws.{Free, silent-free, without-sim}
-use Rattle.folding.specs.LimitLaws.{Fed, limited-of}
+use Rattle.folding.specs.LimitLaws.{Fed, narrow-few, limited-of}
 use Rattle.folding.specs.AgreeLaws.{Low, merged-signals, merged-bit, alike-of, of-alike, alike-all}
 use Rattle.folding.specs.SoundLaws.{merged-ok, reader-above, both-low, resized-sound, withGate-sound, without-size, without-sound}
-use Rattle.folding.specs.PairLaws.{qualified-of, pairOf-found}
+use Rattle.folding.specs.PairLaws.{qualified-of, margins-kept, pairOf-found}
 
 -- ---- merge
-
--- at most 16 distinct feeds
-pub narrow-few : (e : Edge) → T (narrow e) → length (distinct e) ≤ 16
-unfolding narrow
-narrow-few e t = leb→le (length (distinct e)) 16 t
 
 -- both gates' feeds lie below v
 fed-low : (N : Net) (u v : ℕ) → Fed N u v → Low (edge N u v)
@@ -48,26 +44,36 @@ pub merge-kept : (N : Net) (u v k l : ℕ) (M : Net) → merge N u v k l ≡ acc
 unfolding merge withGate gateAt edge
 merge-kept N u v k l M h =
     let a = checks-accepted (limits N u v k l) _ h in
-    let b = checks-accepted ((agrees e k l else 15) ∷ []) _ (a .1) in
+    let b = checks-accepted ((mergeKeeps e k l else 24) ∷ (agrees e k l else 15) ∷ []) _ (a .1) in
     let p = limited-of N u v k l (a .0) in
     let s = sound-of N (p .fed .is-sound) in
     let hu = has-of N u (p .fed .u-gate) in
     let hv = has-of N v (p .fed .v-gate) in
     subst (Kept N) (accepted-inj (b .1)) (record {
-      sim = replaced N _ λ ρ r. map-set-same (bit ρ) (N .gates) (v - N .inputs) (merged e k l) noGate (merged-bit e k l (fed-low N u v (p .fed)) (b .0 .0) ρ (own-bit N u ρ hu r));
-      sound = withGate-sound N v (merged e k l) hv (merged-ok e k l (narrow-few e (p .searched .is-narrow)) (p .scaled)) s;
+      board = refl;
+      sim = replaced N _ λ ρ r. map-set-same (bit ρ) (N .gates) (v - N .inputs) (merged e k l) noGate
+          (merged-bit e k l (fed-low N u v (p .fed)) (b .0 .1 .0) ρ (own-bit N u ρ hu r));
+      sound = withGate-sound N v (merged e k l) hv (merged-ok e k l (narrow-few e (p .searched .is-narrow)) (p .scaled)) (unfold mergeKeeps in b .0 .0) s;
     })
   where
     e : Edge
     e = edge N u v
 
--- a merge within the limits is accepted exactly when merged gate and composed pair are alike
-pub merge-exact : (N : Net) (u v k l : ℕ) → Passed (limits N u v k l) → (merge N u v k l ≡ accepted (withGate N v (merged (edge N u v) k l))) ↔ Alike (edge N u v) k l
+-- the tests of a merge within the limits
+abbrev served : Edge → ℕ → ℕ → List Test
+served e k l = (mergeKeeps e k l else 24) ∷ (agrees e k l else 15) ∷ []
+
+-- it is accepted exactly when merged gate and composed pair are alike, and the margins are kept
+pub merge-exact : (N : Net) (u v k l : ℕ) → Passed (limits N u v k l)
+    → (merge N u v k l ≡ accepted (withGate N v (merged (edge N u v) k l))) ↔ (Alike (edge N u v) k l × MarginsKept (edge N u v) k l)
 unfolding merge
-merge-exact N u v k l p = (
-  (λ h. alike-of (edge N u v) k l (checks-accepted ((agrees (edge N u v) k l else 15) ∷ []) _ (checks-accepted (limits N u v k l) _ h .1) .0 .0)),
-  (λ h. passed-checks (limits N u v k l) _ p ∙ passed-checks ((agrees (edge N u v) k l else 15) ∷ []) _ (of-alike (edge N u v) k l h, tt)),
-)
+merge-exact N u v k l p =
+    let e = edge N u v in
+    let h = limited-of N u v k l p in
+    let m = margins-kept e k l (h .searched .is-narrow) (h .scaled) in (
+      (λ q. let t = checks-accepted (served e k l) _ (checks-accepted (limits N u v k l) _ q .1) .0 in (alike-of e k l (t .1 .0), m .0 (t .0))),
+      (λ q. passed-checks (limits N u v k l) _ p ∙ passed-checks (served e k l) _ (m .1 (q .1), (of-alike e k l (q .0), tt))),
+    )
 
 -- on every setting is under every assignment
 pub merge-same : (N : Net) (u v k l : ℕ) → Passed (limits N u v k l) → Alike (edge N u v) k l ↔ AlikeUnderAll (edge N u v) k l
@@ -77,8 +83,8 @@ pub merge-net : (N : Net) (u v k l : ℕ) (M : Net) → merge N u v k l ≡ acce
 unfolding merge
 merge-net N u v k l M h =
     let a = checks-accepted (limits N u v k l) _ h in
-    let b = checks-accepted ((agrees (edge N u v) k l else 15) ∷ []) _ (a .1) in
-    passed-checks (limits N u v k l) _ (a .0) ∙ passed-checks ((agrees (edge N u v) k l else 15) ∷ []) _ (b .0)
+    let b = checks-accepted (served (edge N u v) k l) _ (a .1) in
+    passed-checks (limits N u v k l) _ (a .0) ∙ passed-checks (served (edge N u v) k l) _ (b .0)
 
 -- ---- drop
 pub drop-kept : (N : Net) (u : ℕ) (M : Net) → drop N u ≡ accepted M → Kept N M
@@ -89,7 +95,8 @@ drop-kept N u M h =
     let g = has-of N u (a .0 .1 .0) in
     let f = each-of (silent u) (Free u) (silent-free u) (N .gates) (r .0) in
     let o = all-other u (N .outputs) (r .1) in
-    subst (Kept N) (accepted-inj (a .1)) (record { sim = without-sim N u g f o; sound = without-sound N u g f o (sound-of N (a .0 .0)) })
+    subst (Kept N) (accepted-inj (a .1))
+    (record { board = unfold without in refl; sim = without-sim N u g f o; sound = without-sound N u g f o (sound-of N (a .0 .0)) })
 
 -- ---- collapse
 merged-free : (e : Edge) (k l : ℕ) → GateOk (e .u) (e .gateU) → Free (e .u) (merged e k l)
@@ -105,11 +112,12 @@ record Fused (e : Edge) (h : Gate) : Type 0 where
   bits : (ρ : Assignment) → ρ (e .u) ≡ bit ρ (e .gateU) → bit ρ h ≡ bit ρ (e .gateV)
   free : Free (e .u) h
   good : GateOk (e .v) h
+  keep : T (keeps (e .board) h)
 
-fuse-fused : (e : Edge) (h : Gate) → GateOk (e .u) (e .gateU) → GateOk (e .v) (e .gateV) → fuse e ≡ accepted h → Fused e h
-unfolding fuse reads
-fuse-fused e h ou ov q = cond-case (λ x. x ≡ accepted h → Fused e h) (silent (e .u) (e .gateV))
-    (λ t q. subst (Fused e) (accepted-inj q) (record { bits = λ ρ r. refl; free = silent-free (e .u) (e .gateV) t; good = ov }))
+fuse-fused : (e : Edge) (h : Gate) → GateOk (e .u) (e .gateU) → GateOk (e .v) (e .gateV) → T (keeps (e .board) (e .gateV)) → fuse e ≡ accepted h → Fused e h
+unfolding fuse reads mergeKeeps
+fuse-fused e h ou ov m q = cond-case (λ x. x ≡ accepted h → Fused e h) (silent (e .u) (e .gateV))
+    (λ t q. subst (Fused e) (accepted-inj q) (record { bits = λ ρ r. refl; free = silent-free (e .u) (e .gateV) t; good = ov; keep = m }))
     (λ t q.
     let b = bind-accepted (pairOf e) _ q in
     let p = b .0 in
@@ -119,27 +127,33 @@ fuse-fused e h ou ov q = cond-case (λ x. x ≡ accepted h → Fused e h) (silen
       bits = merged-bit e (p .k) (p .l) (both-low e ou ov t) (d .agreed);
       free = merged-free e (p .k) (p .l) ou;
       good = merged-ok e (p .k) (p .l) (narrow-few e (f .searched .is-narrow)) (d .scaled);
+      keep = d .kept;
     })) q
 
 -- the same of the gates from signal n on
-record FusedAll (u : ℕ) (gateU : Gate) (n : ℕ) (gs hs : List Gate) : Type 0 where
+record FusedAll (b : Board) (u : ℕ) (gateU : Gate) (n : ℕ) (gs hs : List Gate) : Type 0 where
   bits : (ρ : Assignment) → ρ u ≡ bit ρ gateU → map (bit ρ) hs ≡ map (bit ρ) gs
   free : Each (Free u) hs
   good : Gates n hs
+  keep : T (all (keeps b) hs)
   size : length hs ≡ length gs
 
-fuseAll-fused : (u : ℕ) (gateU : Gate) (n : ℕ) (gs hs : List Gate) → GateOk u gateU → Gates n gs → fuseAll u gateU n gs ≡ accepted hs → FusedAll u gateU n gs hs
-unfolding fuseAll
-fuseAll-fused u gateU n [] hs ou os q = subst (FusedAll u gateU n []) (accepted-inj q) (record { bits = λ ρ r. refl; free = tt; good = tt; size = refl })
-fuseAll-fused u gateU n (g ∷ gs) hs ou os q =
-    let a = bind-accepted (fuse (edgeOf u n gateU g)) _ q in
-    let b = bind-accepted (fuseAll u gateU (suc n) gs) _ (a .2) in
-    let h = fuse-fused (edgeOf u n gateU g) (a .0) ou (os .0) (a .1) in
-    let r = fuseAll-fused u gateU (suc n) gs (b .0) ou (os .1) (b .1) in
-    subst (FusedAll u gateU n (g ∷ gs)) (accepted-inj (b .2)) (record {
+fuseAll-fused : (b : Board) (u : ℕ) (gateU : Gate) (n : ℕ) (gs hs : List Gate) → GateOk u gateU → Gates n gs → T (all (keeps b) gs)
+    → fuseAll b u gateU n gs ≡ accepted hs → FusedAll b u gateU n gs hs
+unfolding fuseAll all
+fuseAll-fused b u gateU n [] hs ou os m q =
+    subst (FusedAll b u gateU n []) (accepted-inj q) (record { bits = λ ρ r. refl; free = tt; good = tt; keep = tt; size = refl })
+fuseAll-fused b u gateU n (g ∷ gs) hs ou os m q =
+    let t = T-and (keeps b g) (all (keeps b) gs) m in
+    let a = bind-accepted (fuse (edgeOf b u n gateU g)) _ q in
+    let c = bind-accepted (fuseAll b u gateU (suc n) gs) _ (a .2) in
+    let h = fuse-fused (edgeOf b u n gateU g) (a .0) ou (os .0) (t .0) (a .1) in
+    let r = fuseAll-fused b u gateU (suc n) gs (c .0) ou (os .1) (t .1) (c .1) in
+    subst (FusedAll b u gateU n (g ∷ gs)) (accepted-inj (c .2)) (record {
       bits = λ ρ x. rw (h .bits ρ x, r .bits ρ x);
       free = (h .free, r .free);
       good = (h .good, r .good);
+      keep = and-T (keeps b (a .0)) (all (keeps b) (c .0)) (h .keep) (r .keep);
       size = ap suc (r .size);
     })
 
@@ -152,16 +166,17 @@ pub collapse-kept : (N : Net) (u : ℕ) (M : Net) → collapse N u ≡ accepted 
 unfolding collapse
 collapse-kept N u M h =
     let a = checks-accepted ((sound N else 20) ∷ (isGate N u else 11) ∷ (all (other u) (N .outputs) else 17) ∷ []) _ h in
-    let d = bind-accepted (fuseAll u (gateAt N u) (N .inputs) (N .gates)) _ (a .1) in
+    let d = bind-accepted (fuseAll (N .board) u (gateAt N u) (N .inputs) (N .gates)) _ (a .1) in
     let s = sound-of N (a .0 .0) in
     let g = has-of N u (a .0 .1 .0) in
-    let f = fuseAll-fused u (gateAt N u) (N .inputs) (N .gates) (d .0) (gate-ok N u s g) (s .all-gates) (d .1) in
+    let f = fuseAll-fused (N .board) u (gateAt N u) (N .inputs) (N .gates) (d .0) (gate-ok N u s g) (s .all-gates) (s .all-keep) (d .1) in
     let o = all-other u (N .outputs) (a .0 .1 .1 .0) in
     let k : Has (withGates N (d .0)) u = omega (arith, f .size, g) in
     subst (Collapsed N) (accepted-inj (d .2)) (record {
       all-kept = record {
+        board = unfold without in refl;
         sim = sim-trans (replaced N (d .0) λ ρ r. f .bits ρ (own-bit N u ρ g r)) (without-sim (withGates N (d .0)) u k (f .free) o);
-        sound = without-sound (withGates N (d .0)) u k (f .free) o (resized-sound N (d .0) (f .size) (f .good) s);
+        sound = without-sound (withGates N (d .0)) u k (f .free) o (resized-sound N (d .0) (f .size) (f .good) (f .keep) s);
       };
       fewer = without-size (withGates N (d .0)) u k ∙ f .size;
     })

@@ -1,18 +1,21 @@
 -- A refusal's number is not 0 and has at most two digits, so a number of 0 is an accepted file. Assumes nothing.
 use mathlib.Core.Path.{_≡_}
-use mathlib.Core.Bool.{Bool, true, false, _&&_}
+use mathlib.Core.Bool.{Bool, true, false, cond, _&&_}
 use mathlib.Core.List.{List, [], _∷_, _++_}
 use Prim.Native.Nat.{ℕ, zero, suc, _+_, _<_}
 use native.Mathlib.Omega.{arith}
 use lib.Dec.{T, ltb, leb, eqb, ltb→lt}
+use lib.ListN.{length}
 use lib.IntN.{ℤ}
 use mir.Syntax.{w32}
 use mir.Val.{toZ}
 use Rattle.integers.specs.Word.{wordOf}
 use Rattle.integers.specs.Lists.{between}
 use Rattle.network.specs.Threshold.{Feed, Gate, Net}
-use Rattle.network.specs.Limits.{inScale, weightOk}
-use Rattle.format.specs.Format.{Read, refused, done, byteOr, intThen, check, andThen, parseFeed, parseFeeds, parseGate, parseGates, parseOutputs, netRead, atEnd, parseBody, parseHead, parseFile}
+use Rattle.network.specs.Limits.{inScale, weightOk, keeps}
+use Rattle.network.specs.declared.Board.{Board}
+use Rattle.format.specs.Format.{Read, refused, done, byteOr, intThen, check, andThen, parseFeed, parseFeeds, parseGate, parseGates}
+use Rattle.format.specs.Format.{parseOutputs, netRead, atEnd, parseBody, parseCounts, parseBoard, parseVersion, parseFile}
 
 -- a refusal's number is not 0, and has at most two digits
 abbrev Holds : {A : Type 0} → Read A → Type 0
@@ -52,14 +55,15 @@ n-feeds : (own n low : ℕ) (acc : List Feed) (l : List ℕ) → Numbered (parse
 n-feeds own zero low acc l = n-done acc l
 n-feeds own (suc n) low acc l = n-then (parseFeed own low l) _ (n-feed own low l) (λ f l₁. n-feeds own n (suc (f .signal)) (acc ++ (f ∷ [])) l₁)
 
-n-gate : (own : ℕ) (l : List ℕ) → Numbered (parseGate own l)
-n-gate own l =
+n-gate : (b : Board) (own : ℕ) (l : List ℕ) → Numbered (parseGate b own l)
+n-gate b own l =
     n-byte 3 tt l _ (λ n l₁. n-check (leb n 16) 6 tt _ (n-int l₁ _ (λ t l₂. n-check (inScale t) 5 tt _
-    (n-then (parseFeeds own n 0 [] l₂) _ (n-feeds own n 0 [] l₂) (λ fs l₃. n-done (record { feeds = fs; threshold = t }) l₃)))))
+    (n-then (parseFeeds own n 0 [] l₂) _ (n-feeds own n 0 [] l₂) (λ fs l₃.
+    n-check (keeps b (record { feeds = fs; threshold = t })) 23 tt _ (n-done (record { feeds = fs; threshold = t }) l₃))))))
 
-n-gates : (own n : ℕ) (acc : List Gate) (l : List ℕ) → Numbered (parseGates own n acc l)
-n-gates own zero acc l = n-done acc l
-n-gates own (suc n) acc l = n-then (parseGate own l) _ (n-gate own l) (λ g l₁. n-gates (suc own) n (acc ++ (g ∷ [])) l₁)
+n-gates : (b : Board) (own n : ℕ) (acc : List Gate) (l : List ℕ) → Numbered (parseGates b own n acc l)
+n-gates b own zero acc l = n-done acc l
+n-gates b own (suc n) acc l = n-then (parseGate b own l) _ (n-gate b own l) (λ g l₁. n-gates b (suc own) n (acc ++ (g ∷ [])) l₁)
 
 n-outputs : (low top n : ℕ) (acc l : List ℕ) → Numbered (parseOutputs low top n acc l)
 n-outputs low top zero acc l = n-done acc l
@@ -69,21 +73,34 @@ n-end : (N : Net) (l : List ℕ) → Numbered (atEnd N l)
 n-end N [] = n-done N []
 n-end N (b ∷ l) = record { holds = (omega arith, omega arith) }
 
-n-body : (i g o : ℕ) (l : List ℕ) → Numbered (parseBody i g o l)
-n-body i g o l =
-    n-then (parseGates i g [] l) _ (n-gates i g [] l) (λ gs l₁.
-    n-then (parseOutputs i (i + g) o [] l₁) _ (n-outputs i (i + g) o [] l₁) (λ os l₂. n-end (netRead i gs os) l₂))
+n-body : (b : Board) (i g o : ℕ) (l : List ℕ) → Numbered (parseBody b i g o l)
+n-body b i g o l =
+    n-then (parseGates b i g [] l) _ (n-gates b i g [] l) (λ gs l₁.
+    n-then (parseOutputs i (i + g) o [] l₁) _ (n-outputs i (i + g) o [] l₁) (λ os l₂. n-end (netRead b i gs os) l₂))
 
-n-head : (p m n v w i g o : ℕ) (l : List ℕ) → Numbered (parseHead p m n v w i g o l)
-n-head p m n v w i g o l =
-    n-check (eqb p 80 && (eqb m 77 && eqb n 78)) 0 tt _ (n-check (eqb v 1 && eqb w 0) 1 tt _
-    (n-check (between 1 40 i) 2 tt _ (n-check (between 1 128 g) 2 tt _ (n-check (between 1 16 o) 2 tt _ (n-body i g o l)))))
+n-counts : (b : Board) (l : List ℕ) → Numbered (parseCounts b l)
+n-counts b l =
+    n-byte 3 tt l _ (λ i l₁. n-check (between 1 40 i) 2 tt _ (n-byte 3 tt l₁ _ (λ g l₂. n-check (between 1 128 g) 2 tt _
+    (n-byte 3 tt l₂ _ (λ o l₃. n-check (between 1 16 o) 2 tt _ (n-body b i g o l₃))))))
+
+n-cond : {A : Type 0} (b : Bool) (x y : Read A) → Numbered x → Numbered y → Numbered (cond b x y)
+n-cond true x y h k = h
+n-cond false x y h k = k
+
+n-board : (v : ℕ) (l : List ℕ) → Numbered (parseBoard v l)
+n-board v l = n-cond (eqb v 1) _ _ (n-done (record { version = 1; on = 0; off = 1 }) l)
+    (n-byte 3 tt l _ (λ on l₁. n-byte 3 tt l₁ _ (λ off l₂. n-check (leb 1 off) 2 tt _ (n-done (record { version = 2; on = on; off = off }) l₂))))
+
+n-version : (l : List ℕ) → Numbered (parseVersion l)
+n-version l =
+    n-byte 3 tt l _ (λ v l₁. n-byte 3 tt l₁ _ (λ w l₂. n-check (between 1 2 v && eqb w 0) 1 tt _
+    (n-then (parseBoard v l₂) parseCounts (n-board v l₂) n-counts)))
 
 -- the whole file
 pub file-numbered : (s : List ℕ) → Numbered (parseFile s)
 file-numbered s =
-    n-byte 0 tt s _ (λ p l₁. n-byte 0 tt l₁ _ (λ m l₂. n-byte 0 tt l₂ _ (λ n l₃. n-byte 0 tt l₃ _ (λ v l₄.
-    n-byte 0 tt l₄ _ (λ w l₅. n-byte 0 tt l₅ _ (λ i l₆. n-byte 0 tt l₆ _ (λ g l₇. n-byte 0 tt l₇ _ (λ o l₈. n-head p m n v w i g o l₈))))))))
+    n-check (leb 8 (length s)) 0 tt _ (n-byte 3 tt s _ (λ p l₁. n-byte 3 tt l₁ _ (λ m l₂. n-byte 3 tt l₂ _ (λ n l₃.
+    n-check (eqb p 80 && (eqb m 77 && eqb n 78)) 0 tt _ (n-version l₃)))))
 
 pub refused-positive : (s : List ℕ) (k : ℕ) → parseFile s ≡ refused k → 0 < k
 refused-positive s k e = (rw e at (file-numbered s)) .holds .0

@@ -1,6 +1,7 @@
 pub mod Files
 pub mod FileLaws
 pub mod Lists
+pub mod Margins
 pub mod Questions
 pub mod QuestionLaws
 pub mod ListLaws
@@ -10,3 +11,4 @@ pub mod Thirteen
 pub mod ThirteenLaws
 pub mod Witnesses
 pub mod WitnessLaws
+pub mod MarginLaws

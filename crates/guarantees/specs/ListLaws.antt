@@ -61,6 +61,10 @@ pub inputs-of : (r : Network) → netOf r .inputs ≡ r .inputs
 unfolding netOf
 inputs-of r = refl
 
+board-of : (r : Network) → netOf r .board ≡ r .board
+unfolding netOf
+board-of r = refl
+
 pub list-claim : (r : Network) (cs : List Call) → Holds r → ListClaim r cs
 list-claim r cs s =
     let left = list-left r cs s in
@@ -76,6 +80,7 @@ list-claim r cs s =
     let same : Differ N (netOf q) → ⊥ = λ d. d .2 (sym (bits (frame (d .0)))) in
     record {
       sound-after = holds-sound q (left .holds);
+      same-board = sym (board-of q) ∙ ap (λ (x : Net). x .board) (left .network) ∙ k .same-board ∙ board-of r;
       network-after = left .network;
       same-bits = λ x h. bits (frame x);
       same-readings = λ x. read-alike r q x (holds-sound r s) (holds-sound q (left .holds)) (sym (inputs-of q) ∙ inputs ∙ inputs-of r) (bits (frame x));

@@ -14,6 +14,7 @@ ghost use Rattle.witness.specs.declared.Witnessed.{Witnessed};
 ghost use Rattle.guarantees.specs.Files.{Accepted, SoundIsDescribed, WrittenIsRead, ReadIsWritten};
 ghost use Rattle.guarantees.specs.Questions.{Questions};
 ghost use Rattle.guarantees.specs.Lists.{ListClaim};
+ghost use Rattle.guarantees.specs.Margins.{MarginsHold};
 ghost use Rattle.guarantees.specs.Previews.{PreviewClaim};
 ghost use Rattle.guarantees.specs.Thirteen.{NeverThirteen};
 ghost use Rattle.guarantees.specs.Witnesses.{LightsFewest};
@@ -42,10 +43,11 @@ pub fn question_decides(first: Network, second: Network)
 {}
 
 // Demand 3: from the record of any file that a read accepts, every list of merges, drops, collapses, sweeps and previews with any numbers,
-// refused ones included. The record after it is read alike on every frame; the two have equal input and output counts, and the question written
-// for them is as claimed above and has no 0/1 solution; each call leaves exactly the network and gives exactly the answer that the
-// definitions give; a merge within the limits is accepted exactly when it agrees; a collapse exactly when every reader has a pair; after an
-// accepted sweep nothing within its reader limit is left to collapse; and a preview changes nothing and shows what a collapse would leave.
+// refused ones included. The record after it is read alike on every frame and has the same board; the two have equal input and output
+// counts, and the question written for them is as claimed above and has no 0/1 solution; each call leaves exactly the network and gives
+// exactly the answer that the definitions give; a merge within the limits is accepted exactly when it agrees and keeps the margins; a
+// collapse exactly when every reader has a pair; after an accepted sweep nothing within its reader limit is left to collapse; and a preview
+// changes nothing and shows what a collapse would leave.
 pub fn lists_of_calls()
     ensures { λ _. ⌜ ((file : List ℕ) → Bytes file → Accepted file → (calls : List Call) → ListClaim (loaded file .network) calls) ⌝ }
 {}
@@ -76,4 +78,9 @@ pub fn witnesses_light_fewest(network: Network)
 // The bench gates P1 to P11 and the example of document 02, No. 2: what the definitions say is what the papers say.
 pub fn bench_gates()
     ensures { λ _. ⌜ map (λ row. reply (row .ask)) bench ≡ map (λ row. row .want) bench ⌝ }
+{}
+
+// Document 02, No. 8, for every record: if it is sound, every gate of its network keeps the margins under every assignment.
+pub fn margins_hold(network: Network)
+    ensures { λ _. ⌜ MarginsHold network ⌝ }
 {}

@@ -11,7 +11,7 @@ use lib.Dec.{T, T-not, eqb, eqb→eq, eqb-refl}
 use lib.ListN.{length, getD, replicate, length-map, length-replicate, getD-replicate}
 use lib.Seq.{ext-getD}
 use Rattle.integers.specs.Lists.{all, allFrom, below, keep, range, tab, other, Each}
-use Rattle.integers.specs.TestLaws.{is-true, T-is, refuted, fails, T-and, and-T, cond-case, other-ne}
+use Rattle.integers.specs.TestLaws.{is-true, T-is, test-same, refuted, fails, T-and, and-T, cond-case, other-ne}
 
 -- ---- below: a test at each number
 pub below-none : (p : ℕ → Bool) → below 0 p ≡ true
@@ -73,6 +73,11 @@ module _ {A : Type 0} where
   all-at p xs d h i k =
       let passes : A → Type 0 = λ x. T (p x) in
       is-true (p (getD xs i d)) (each-getD passes xs d (each-of p passes (λ x t. t) xs (T-is (all p xs) h)) i k)
+
+  -- two facts of each member
+  pub each-both : (P Q : A → Type 0) (xs : List A) → Each P xs → Each Q xs → Each (λ x. P x × Q x) xs
+  each-both P Q [] h k = tt
+  each-both P Q (x ∷ xs) h k = ((h .0, k .0), each-both P Q xs (h .1) (k .1))
 
   pub each-keep : (P : A → Type 0) (p : A → Bool) (xs : List A) → Each P xs → Each P (keep p xs)
   unfolding keep
@@ -137,6 +142,27 @@ range-same f g a (suc n) h = rw (h a (omega arith), range-same f g (suc a) n (λ
 
 pub tab-same : {A : Type 0} (n : ℕ) (f g : ℕ → A) → ((i : ℕ) → i < n → f i ≡ g i) → tab n f ≡ tab n g
 tab-same n f g h = range-same f g 0 n λ i k. h i (omega arith)
+
+-- ---- the values of a function on a range, and a test of each
+module _ {A : Type 0} where
+  pub each-range : (P : A → Type 0) (f : ℕ → A) (a n : ℕ) → ((i : ℕ) → a ≤ i → i < a + n → P (f i)) → Each P (map f (range a n))
+  unfolding range
+  each-range P f a zero h = tt
+  each-range P f a (suc n) h = (h a (omega arith) (omega arith), each-range P f (suc a) n λ i j k. h i (omega arith) (omega arith))
+
+  pub range-each : (P : A → Type 0) (f : ℕ → A) (a n : ℕ) → Each P (map f (range a n)) → (i : ℕ) → a ≤ i → i < a + n → P (f i)
+  unfolding range
+  range-each P f a zero h i j k = absurd (omega arith)
+  range-each P f a (suc n) h i j k = elim (decLt a i) as (λ d. P (f i)) [
+    | yes l ↦ range-each P f (suc a) n (h .1) i l (omega arith)
+    | no l ↦ rw (let e : i ≡ a = omega arith in e) (h .0)
+  ]
+
+  pub all-tab : (p : A → Bool) (n : ℕ) (f : ℕ → A) → all p (tab n f) ≡ below n (λ i. p (f i))
+  all-tab p n f = test-same (all p (tab n f)) (below n (λ i. p (f i)))
+      (λ t. at-below n (λ i. p (f i)) λ i k.
+      range-each (λ x. T (p x)) f 0 n (each-of p (λ x. T (p x)) (λ x u. u) (tab n f) t) i (omega arith) (omega arith))
+      (λ t. of-each p (λ x. T (p x)) (λ x u. u) (tab n f) (each-range (λ x. T (p x)) f 0 n λ i j k. below-at n (λ i. p (f i)) t i (omega arith)))
 
 -- a run of one value has it at every place, past its end too
 pub getD-spare : {A : Type 0} (n i : ℕ) (a : A) → getD (replicate n a) i a ≡ a

@@ -1,34 +1,41 @@
 -- The tests of two gates by their distinct feeds are those of the merge and of the pair. Assumes nothing.
-use mathlib.Core.Path.{_≡_, refl, sym, ap, _∙_}
+use mathlib.Core.Path.{_≡_, refl, sym, ap, ap₂, _∙_}
 use mathlib.Core.Bool.{Bool, true, false, cond, _&&_}
-use mathlib.Core.List.{List, [], _∷_}
+use mathlib.Core.List.{List, [], _∷_, map}
 use Prim.Native.Nat.{ℕ, _≤_}
 use native.Mathlib.Omega.{arith}
 use lib.Dec.{T, leb, leb→le}
-use lib.ListN.{length}
+use lib.ListN.{length, length-map}
 use Rattle.integers.specs.Refusals.{Answer, Test, _else_, checks, Passed}
-use Rattle.integers.specs.TestLaws.{T-and}
-use Rattle.network.specs.Limits.{scaleOk}
+use Rattle.integers.specs.TestLaws.{T-and, and-T}
+use Rattle.integers.specs.Lists.{all, keep, range}
+use Rattle.integers.specs.ListLaws.{below-at, of-each, each-both, each-keep, kept, length-keep, length-range, each-range}
+use Rattle.network.specs.Threshold.{Gate}
+use Rattle.network.specs.Limits.{inScale, stays, weightOk, scaleOk, keeps}
 use Rattle.network.specs.Record.{gateRecord}
-use Rattle.folding.specs.Merge.{Edge, distinct, merged, agrees, onDial, narrow}
+use Rattle.folding.specs.Merge.{Edge, distinct, merged, agrees, mergeKeeps, onDial, narrow}
 use Rattle.folding.specs.Pair.{pairs, qualifies, first, pairTests, pairOf}
-use Rattle.folding.specs.Aligned.{Aligned, scaleFits, qualifiesOn}
+use Rattle.folding.specs.Aligned.{Aligned, aligned, edgeThresholds, mixedThreshold, mixedWeight, scaleFits, qualifiesOn}
+use Rattle.agreement.specs.GateLaws.{feed-count}
 use Rattle.folding.specs.AlignedLaws.{EdgeOk, scaleOk-fits, agrees-all, first-on}
 use Rattle.folding.specs.PairLaws.{qualified-of, dial-of}
-use Rattle.folding.specs.StepLaws.{narrow-few}
-use Rattle.alignment.specs.Alignments.{alignmentOf, alignedIn, mergedOf, Fair, Mergeable}
+use Rattle.folding.specs.LimitLaws.{narrow-few}
+use Rattle.alignment.specs.Alignments.{alignmentOf, alignedIn, mixedFeed, mergedOf, Fair, Searchable, Mergeable}
 use Rattle.alignment.specs.declared.Alignment.{Alignment}
 use Rattle.alignment.specs.AlignmentLaws.{aligned-in, merged-is, mergeable}
 use Rattle.merging.specs.Codes.{firstFailing, mergeTests, settingTests, limitTestsOn, mergeTestsOn, pairOn}
 use Rattle.merging.specs.CodeLaws.{code-passed}
 
 module _ (e : Edge) (ok : EdgeOk e) where
-  -- 6 and 15, where 7 does not apply
+  -- 6, 24 and 15, where 7 does not apply
   fit-is : length (distinct e) ≤ 16 → (k l : ℕ)
-      → (scaleFits (alignedIn (alignmentOf e)) k l else 6) ∷ settingTests (alignedIn (alignmentOf e)) k l
-      ≡ (scaleOk (merged e k l) else 6) ∷ (agrees e k l else 15) ∷ []
-  unfolding settingTests
-  fit-is few k l = ap (λ (a : Aligned). (scaleFits a k l else 6) ∷ settingTests a k l) (aligned-in e few) ∙ rw (scaleOk-fits e k l, agrees-all e ok k l)
+      → (scaleFits (alignedIn (alignmentOf e)) k l else 6) ∷ (keeps (e .board) (mergedOf (alignmentOf e) k l) else 24) ∷ settingTests
+      (alignedIn (alignmentOf e)) k l
+      ≡ (scaleOk (merged e k l) else 6) ∷ (mergeKeeps e k l else 24) ∷ (agrees e k l else 15) ∷ []
+  unfolding settingTests mergeKeeps
+  fit-is few k l =
+      ap₂ (λ (a : Aligned) (g : Gate). (scaleFits a k l else 6) ∷ (keeps (e .board) g else 24) ∷ settingTests a k l) (aligned-in e few) (merged-is e k l few)
+      ∙ rw (scaleOk-fits e k l, agrees-all e ok k l)
 
   -- the first pair, where 7 does not apply
   first-is : length (distinct e) ≤ 16 → first (qualifiesOn (alignedIn (alignmentOf e))) pairs 16 ≡ first (qualifies e) pairs 16
@@ -46,7 +53,7 @@ module _ (e : Edge) (ok : EdgeOk e) where
   after-checks false c h = refl
 
   pub tests-on : (k l : ℕ) → firstFailing (mergeTestsOn (alignmentOf e) k l) ≡ firstFailing (mergeTests e k l)
-  unfolding firstFailing mergeTestsOn limitTestsOn mergeTests narrow alignmentOf
+  unfolding firstFailing mergeTestsOn limitTestsOn mergeTests narrow alignmentOf aligned edgeThresholds
   tests-on k l = ap (λ (n : ℕ). cond (onDial k && onDial l) n 14)
       (after-test (leb (length (distinct e)) 16) 7 (λ t. fit-is (leb→le (length (distinct e)) 16 t) k l))
 
@@ -66,7 +73,24 @@ limits-hold a k l p f =
 
 pub limits-passed : (a : Alignment) (k l : ℕ) → firstFailing (limitTestsOn a k l) ≡ 0 → Passed (limitTestsOn a k l)
 unfolding limitTestsOn
-limits-passed a k l e = code-passed (limitTestsOn a k l) (omega arith, (omega arith, (omega arith, tt))) e
+limits-passed a k l e = code-passed (limitTestsOn a k l) (omega arith, (omega arith, (omega arith, (omega arith, tt)))) e
+
+-- the merged gate of aligned gates is within the limits where the test of the scale says so
+pub merged-scaled : (a : Alignment) (k l : ℕ) → Searchable a → T (scaleFits (alignedIn a) k l)
+    → (length (mergedOf a k l .feeds) ≤ 16) × T (scaleOk (mergedOf a k l))
+unfolding mergedOf mixedFeed scaleOk scaleFits weightOk stays alignedIn
+merged-scaled a k l f t =
+    let fs = map (mixedFeed a k l) (range 0 (a .count)) in
+    let h = T-and (inScale (mixedThreshold (a .thresholds) k l)) _ t in
+    let sized = each-range (λ x. T (inScale (x .weight))) (mixedFeed a k l) 0 (a .count) λ i j n.
+    below-at _ (λ i. inScale (mixedWeight (alignedIn a) k l i)) (h .1) i (omega (arith, feed-count a f)) in
+    let few : length fs ≤ 16 = omega (arith, length-map (range 0 (a .count)) (mixedFeed a k l), length-range 0 (a .count), f .few) in
+    let both = each-both (λ x. T (inScale (x .weight))) (λ x. T (stays x)) (keep stays fs) (each-keep (λ x. T (inScale (x .weight))) stays fs sized)
+    (kept stays fs) in (
+      omega (arith, few, length-keep stays fs),
+      and-T (inScale (mixedThreshold (a .thresholds) k l)) (all weightOk (keep stays fs)) (h .0)
+          (of-each weightOk (λ x. T (inScale (x .weight)) × T (stays x)) (λ x q. and-T (inScale (x .weight)) (stays x) (q .0) (q .1)) (keep stays fs) both),
+    )
 
 -- ---- the merged gate of k and l that qualify
 module _ (e : Edge) (ok : EdgeOk e) (k l : ℕ) (t : T (narrow e)) where

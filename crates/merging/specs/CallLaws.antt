@@ -14,12 +14,12 @@ use Rattle.network.specs.Places.{SoundGate}
 use Rattle.network.specs.PlaceLaws.{gateIn-gateRecord}
 use Rattle.network.specs.declared.Network.{Network}
 use Rattle.network.specs.declared.GateRecord.{GateRecord}
-use Rattle.folding.specs.Merge.{Edge, edge, merged, agrees, onDial, feedTests, limits, merge}
+use Rattle.folding.specs.Merge.{Edge, edge, merged, agrees, mergeKeeps, onDial, feedTests, limits, merge}
 use Rattle.folding.specs.Pair.{pairOf, pair}
 use Rattle.folding.specs.LimitLaws.{Searched}
 use Rattle.folding.specs.PairLaws.{dial-of}
 use Rattle.folding.specs.SoundLaws.{merged-ok}
-use Rattle.folding.specs.StepLaws.{narrow-few}
+use Rattle.folding.specs.LimitLaws.{narrow-few}
 use Rattle.folding.specs.AlignedLaws.{EdgeOk}
 use Rattle.alignment.specs.Alignments.{alignmentOf, mergedOf, Mergeable}
 use Rattle.alignment.specs.AlignmentLaws.{merged-is, mergeable}
@@ -101,7 +101,7 @@ module _ (r : Network) (s : soundRecord r ≡ true) (u v : ℕ) where
       apart-gate = record { sound = s; gate = is-true (isGate (netOf r) v) (T-and (isGate (netOf r) u) (isGate (netOf r) v) (feeds .0) .1) }
 
       abbrev here : Edge
-      here = edgeIn (r .fanins) (r .thresholds) (r .signals) (r .weights) (r .inputs) u v
+      here = edgeIn (r .board) (r .fanins) (r .thresholds) (r .signals) (r .weights) (r .inputs) u v
 
       pub here-is : here ≡ edge (netOf r) u v
       here-is = edge-is r u v (apart-none .u-gate) (apart-none .v-gate)
@@ -122,7 +122,7 @@ module _ (r : Network) (s : soundRecord r ≡ true) (u v : ℕ) where
           ap (λ (c : Changed). c .code) (merge-joined k l) ∙ changed-code r _
           ∙ code-checks (mergeTests here k l) (withGate (netOf r) v (merged here k l))
 
-      -- 14, 7, 6 or 15
+      -- 14, 7, 6, 24 or 15
       pub merge-refused : (k l m : ℕ) → m ≡ firstFailing (mergeTests here k l) → (m ≡ 0 → ⊥) → mergedRecord r u v k l ≡ asChanged r (refused m)
       merge-refused k l m e h = merge-joined k l ∙ ap (asChanged r) (code-refused (mergeTests here k l) _ (λ z. h (e ∙ z)) ∙ ap refused (sym e))
 
@@ -132,7 +132,7 @@ module _ (r : Network) (s : soundRecord r ≡ true) (u v : ℕ) where
 -- ---- where the tests of a merge hold
 pub merge-passed : (e : Edge) (k l m : ℕ) → m ≡ firstFailing (mergeTests e k l) → m ≡ 0 → Passed (mergeTests e k l)
 unfolding mergeTests
-merge-passed e k l m same none = code-passed (mergeTests e k l) (omega arith, (omega arith, (omega arith, (omega arith, tt)))) (sym same ∙ none)
+merge-passed e k l m same none = code-passed (mergeTests e k l) (omega arith, (omega arith, (omega arith, (omega arith, (omega arith, tt))))) (sym same ∙ none)
 
 -- the tests as facts, each by its name
 pub record MergeFits (e : Edge) (k l : ℕ) : Type 0 where
@@ -140,6 +140,7 @@ pub record MergeFits (e : Edge) (k l : ℕ) : Type 0 where
   pub k-dial : T (onDial k)
   pub l-dial : T (onDial l)
   pub scaled : T (scaleOk (merged e k l))
+  pub kept : T (mergeKeeps e k l)
   pub agreed : T (agrees e k l)
 
 pub merge-fits : (e : Edge) (k l : ℕ) → Passed (mergeTests e k l) → MergeFits e k l
@@ -149,7 +150,8 @@ merge-fits e k l p = let d = T-and (onDial k) (onDial l) (p .0) in record {
   k-dial = d .0;
   l-dial = d .1;
   scaled = p .1 .1 .0;
-  agreed = p .1 .1 .1 .0;
+  kept = p .1 .1 .1 .0;
+  agreed = p .1 .1 .1 .1 .0;
 }
 
 module _ (e : Edge) (k l : ℕ) (f : MergeFits e k l) where

@@ -6,14 +6,14 @@ use lib.Dec.{leb}
 use lib.IntN.{ℤ}
 use Rattle.integers.specs.Refusals.{Answer, Test, _else_, checks}
 use Rattle.network.specs.Threshold.{Net}
-use Rattle.network.specs.Limits.{scaleOk, isGate}
+use Rattle.network.specs.Limits.{scaleOk, keeps, isGate}
 use Rattle.network.specs.Changes.{gateAt}
 use Rattle.network.specs.Record.{gateFrom}
 use Rattle.network.specs.RecordTests.{gateSignal}
-use Rattle.folding.specs.Merge.{Edge, reads, merged, agrees, onDial, narrow}
+use Rattle.folding.specs.Merge.{Edge, reads, merged, agrees, mergeKeeps, onDial, narrow}
 use Rattle.folding.specs.Pair.{Pair, pairs, first}
 use Rattle.folding.specs.Aligned.{Aligned, agreesAll, scaleFits, qualifiesOn}
-use Rattle.alignment.specs.Alignments.{alignedIn}
+use Rattle.alignment.specs.Alignments.{alignedIn, mergedOf}
 use Rattle.alignment.specs.declared.Alignment.{Alignment}
 
 -- the number of the first test that fails, 0 if none does
@@ -31,22 +31,24 @@ edgeTestsIn fanins thresholds signals weights inputs gates u v =
     (gateSignal inputs gates u && gateSignal inputs gates v else 11)
     ∷ (reads u (gateFrom fanins thresholds signals weights (v - inputs)) else 12) ∷ []
 
--- 14, 7, 6 and 15: what is tested of the two gates and of k and l
+-- 14, 7, 6, 24 and 15: what is tested of the two gates and of k and l
 unfoldable pub mergeTests : Edge → ℕ → ℕ → List Test
 mergeTests e k l =
-    (onDial k && onDial l else 14) ∷ (narrow e else 7) ∷ (scaleOk (merged e k l) else 6) ∷ (agrees e k l else 15) ∷ []
+    (onDial k && onDial l else 14) ∷ (narrow e else 7) ∷ (scaleOk (merged e k l) else 6) ∷ (mergeKeeps e k l else 24) ∷ (agrees e k l else 15) ∷ []
 
 -- ---- of two gates by their distinct feeds
 
--- 14, 7 and 6: what is tested before the settings
+-- 14, 7, 6 and 24: what is tested before the settings
 unfoldable pub limitTestsOn : Alignment → ℕ → ℕ → List Test
-limitTestsOn a k l = (onDial k && onDial l else 14) ∷ (leb (a .count) 16 else 7) ∷ (scaleFits (alignedIn a) k l else 6) ∷ []
+limitTestsOn a k l =
+    (onDial k && onDial l else 14) ∷ (leb (a .count) 16 else 7) ∷ (scaleFits (alignedIn a) k l else 6)
+    ∷ (keeps (a .thresholds .board) (mergedOf a k l) else 24) ∷ []
 
 -- 15: on every setting
 unfoldable pub settingTests : Aligned → ℕ → ℕ → List Test
 settingTests a k l = (agreesAll a k l else 15) ∷ []
 
--- 14, 7, 6 and 15
+-- 14, 7, 6, 24 and 15
 unfoldable pub mergeTestsOn : Alignment → ℕ → ℕ → List Test
 mergeTestsOn a k l = limitTestsOn a k l ++ settingTests (alignedIn a) k l
 

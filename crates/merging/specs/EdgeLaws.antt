@@ -10,7 +10,7 @@ use lib.IntN.{ℤ}
 use Rattle.integers.specs.Refusals.{_else_, Passed}
 use Rattle.integers.specs.TestLaws.{T-and}
 use Rattle.network.specs.Threshold.{Gate}
-use Rattle.network.specs.Limits.{isGate}
+use Rattle.network.specs.Limits.{boardOk, isGate}
 use Rattle.network.specs.Sound.{GateOk}
 use Rattle.network.specs.Changes.{gateAt}
 use Rattle.network.specs.Record.{gateFrom, gateIn, netOf}
@@ -18,6 +18,7 @@ use Rattle.network.specs.RecordTests.{gateSignal}
 use Rattle.network.specs.Places.{rowAt}
 use Rattle.network.specs.PlaceLaws.{gateIn-gateRecord}
 use Rattle.network.specs.RecordLaws.{count-gates, gate-within}
+use Rattle.network.specs.declared.Board.{Board}
 use Rattle.network.specs.declared.Network.{Network}
 use Rattle.network.specs.declared.GateRecord.{GateRecord}
 use Rattle.folding.specs.Merge.{edge, reads, edgeOf}
@@ -52,19 +53,19 @@ module _ {fanins : List ℕ} {thresholds : List ℤ} {signals : List ℕ} {weigh
   signal-row s w = ap gateIn (l .rows (s - inputs) (w .high)) ∙ gateIn-gateRecord (gateFrom fanins thresholds signals weights (s - inputs)) (signal-gate s w .few)
 
   -- two gates of which one feeds the other
-  module _ {u v : ℕ} (j : Joined fanins thresholds signals weights inputs gates u v) where
-    pub joined-ok : EdgeOk (edgeIn fanins thresholds signals weights inputs u v)
-    joined-ok = record { okU = signal-gate u (j .u-gate); okV = signal-gate v (j .v-gate); joined = j .joined }
+  module _ {b : Board} {u v : ℕ} (j : Joined fanins thresholds signals weights inputs gates u v) (sound : T (boardOk b)) where
+    pub joined-ok : EdgeOk (edgeIn b fanins thresholds signals weights inputs u v)
+    joined-ok = record { on-board = sound; okU = signal-gate u (j .u-gate); okV = signal-gate v (j .v-gate); joined = j .joined }
 
     -- they can be aligned
-    pub joined-alignable : Alignable (edgeIn fanins thresholds signals weights inputs u v)
+    pub joined-alignable : Alignable (edgeIn b fanins thresholds signals weights inputs u v)
     joined-alignable = record { ok = joined-ok; low = omega (arith, j .v-gate .high, l .few-inputs, l .few-gates) }
 
     -- their places stand for them
     pub joined-rows : (gateU gateV : GateRecord) → gateU ≡ rowAt fanins thresholds signals weights (u - inputs) → gateV ≡ rowAt fanins thresholds signals weights (v - inputs)
-        → alignments.edgeBetween gateU gateV u v ≡ edgeIn fanins thresholds signals weights inputs u v
+        → alignments.edgeBetween b gateU gateV u v ≡ edgeIn b fanins thresholds signals weights inputs u v
     joined-rows gateU gateV x y =
-        ap₂ (λ (g h : Gate). edgeOf u v g h) (ap gateIn x ∙ signal-row u (j .u-gate)) (ap gateIn y ∙ signal-row v (j .v-gate))
+        ap₂ (λ (g h : Gate). edgeOf b u v g h) (ap gateIn x ∙ signal-row u (j .u-gate)) (ap gateIn y ∙ signal-row v (j .v-gate))
 
 -- where both tests hold, one feeds the other
 pub joined-of : (fanins : List ℕ) (thresholds : List ℤ) (signals : List ℕ) (weights : List ℤ) (inputs gates u v : ℕ)
@@ -87,9 +88,9 @@ module _ (r : Network) where
   gate-is s w = sym (gate-within r (s - r .inputs) (w .high))
 
   pub edge-is : (u v : ℕ) → Within (r .inputs) (r .gates) u → Within (r .inputs) (r .gates) v
-      → edgeIn (r .fanins) (r .thresholds) (r .signals) (r .weights) (r .inputs) u v ≡ edge (netOf r) u v
-  unfolding edge
-  edge-is u v a b = ap₂ (λ (g h : Gate). edgeOf u v g h) (gate-is u a) (gate-is v b)
+      → edgeIn (r .board) (r .fanins) (r .thresholds) (r .signals) (r .weights) (r .inputs) u v ≡ edge (netOf r) u v
+  unfolding edge netOf
+  edge-is u v a b = ap₂ (λ (g h : Gate). edgeOf (r .board) u v g h) (gate-is u a) (gate-is v b)
 
   -- so are the tests: v's feeds are looked at only if v is a gate
   pub tests-are : (u v : ℕ) → firstFailing (edgeTestsIn (r .fanins) (r .thresholds) (r .signals) (r .weights) (r .inputs) (r .gates) u v) ≡ firstFailing (edgeTests (netOf r) u v)

@@ -9,16 +9,17 @@ use Rattle.network.specs.Threshold.{Gate}
 use Rattle.network.specs.Record.{gateFrom, gateRecord}
 use Rattle.network.specs.Places.{rowAt}
 use Rattle.network.specs.Sound.{Gates}
+use Rattle.network.specs.declared.Board.{Board}
 use Rattle.folding.specs.Merge.{Edge, edgeOf, reads}
 
 -- the gates
 abbrev pub gatesIn : List ℕ → List ℤ → List ℕ → List ℤ → ℕ → List Gate
 gatesIn fanins thresholds signals weights gates = tab gates (gateFrom fanins thresholds signals weights)
 
--- gates u and v, by their signals, as an edge
-abbrev pub edgeIn : List ℕ → List ℤ → List ℕ → List ℤ → ℕ → ℕ → ℕ → Edge
-edgeIn fanins thresholds signals weights inputs u v =
-    edgeOf u v (gateFrom fanins thresholds signals weights (u - inputs)) (gateFrom fanins thresholds signals weights (v - inputs))
+-- gates u and v, by their signals, as an edge on a board
+abbrev pub edgeIn : Board → List ℕ → List ℤ → List ℕ → List ℤ → ℕ → ℕ → ℕ → Edge
+edgeIn b fanins thresholds signals weights inputs u v =
+    edgeOf b u v (gateFrom fanins thresholds signals weights (u - inputs)) (gateFrom fanins thresholds signals weights (v - inputs))
 
 -- the arrays are those of a sound record: every gate is within the limits, and its places hold it and nothing more
 pub record Lent (fanins : List ℕ) (thresholds : List ℤ) (signals : List ℕ) (weights : List ℤ) (inputs gates : ℕ) : Type 0 where

@@ -26,7 +26,7 @@ pub struct PairFound {
     pub l: usize,
 }
 
-// The pair for u and v: the k and l with the least k + l, then the least k, whose merge is within the limits and agrees. Refusals:
+// The pair for u and v: the k and l with the least k + l, then the least k, whose merge is within the limits, keeps the margins and agrees. Refusals:
 // 20 broken record, 11 no such gate, 12 not a feed, 7 too wide, 16 no pair.
 pub fn pair(network: Network, u: usize, v: usize) -> PairFound
     ensures { λ r. ⌜ r ≡ pairFound network u v ⌝ }
@@ -49,7 +49,9 @@ pub fn pair(network: Network, u: usize, v: usize) -> PairFound
     if code != 0 {
         return no_pair(code);
     }
+    let board = network.board;
     let a = aligned_at(
+        board,
         &network.fanins,
         &network.thresholds,
         &network.signals,
@@ -63,7 +65,7 @@ pub fn pair(network: Network, u: usize, v: usize) -> PairFound
 }
 
 // The network with u merged into v with k and l; where u votes against v, its complement is merged. Refusals: 20 broken record, 11 no
-// such gate, 12 not a feed, 14 off the dial, 7 too wide, 6 off the scale, 15 disagrees.
+// such gate, 12 not a feed, 14 off the dial, 7 too wide, 6 off the scale, 24 broken margin, 15 disagrees.
 pub fn merge(network: Network, u: usize, v: usize, k: usize, l: usize) -> Changed
     ensures { λ r. ⌜ r ≡ mergedRecord network u v k l ⌝ }
 {
@@ -88,7 +90,9 @@ pub fn merge(network: Network, u: usize, v: usize, k: usize, l: usize) -> Change
             network,
         };
     }
+    let board = network.board;
     let a = aligned_at(
+        board,
         &network.fanins,
         &network.thresholds,
         &network.signals,

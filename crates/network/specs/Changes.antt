@@ -9,7 +9,7 @@ use Rattle.network.specs.Record.{noGate}
 
 -- N with other gates and outputs; all else stays
 abbrev pub remade : Net → List Gate → List ℕ → Net
-remade N gs os = record { inputs = N .inputs; gates = gs; outputs = os }
+remade N gs os = record { board = N .board; inputs = N .inputs; gates = gs; outputs = os }
 
 -- N with other gates
 abbrev pub withGates : Net → List Gate → Net

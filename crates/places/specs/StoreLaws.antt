@@ -32,6 +32,7 @@ stored-gates c l a s =
 -- a record with other arrays for its gates
 abbrev pub withArrays : Network → List ℕ → List ℤ → List ℕ → List ℤ → Network
 withArrays n fanins thresholds signals weights = record {
+  board = n .board;
   inputs = n .inputs;
   gates = n .gates;
   outputs = n .outputs;
@@ -59,6 +60,7 @@ stored-record n g x shape s h st =
     let few : g < 128 = omega (arith, count-gates n, sound-net n (T-is (soundRecord n) s) .few-gates) in
     let new = stored-gates (changed-set gs g x (omega (arith, count-gates n))) few old st in
     λ i. record {
+      board = n .board;
       inputs = n .inputs;
       gates = sym (length-set gs g x ∙ count-gates n) i;
       outputs = sym (count-outputs n) i;

@@ -8,6 +8,7 @@ use lib.IntN.{ℤ, pos}
 use lib.ListN.{length, drop, replicate, length-append}
 use Rattle.network.specs.Threshold.{Gate}
 use Rattle.network.specs.Record.{layout, gateRecord}
+use Rattle.network.specs.declared.Board.{Board}
 use Rattle.network.specs.declared.GateRecord.{GateRecord}
 use Rattle.network.specs.Places.{Stored, ArraysOf}
 use Rattle.network.specs.PlaceLaws.{changed-end, no-arrays, no-drivers}
@@ -18,33 +19,36 @@ use Rattle.pmn.specs.Seen.{Seen, mapped, gatesRecord}
 use Rattle.pmn.proofs.SeenLaws.{Found}
 
 -- after g of count gates: the arrays hold them, and what is left to read stands at a place
-pub record GatesSoFar (s : List ℕ) (start inputs count : ℕ) (fanins signals : List ℕ) (weights thresholds : List ℤ) (at g : ℕ) : Type 0 where
+pub record GatesSoFar (s : List ℕ) (board : Board) (start inputs count : ℕ) (fanins signals : List ℕ) (weights thresholds : List ℤ)
+    (at g : ℕ) : Type 0 where
   pub taken : List Gate
   pub many : length taken ≡ g
   pub few : g ≤ count
   pub inside : at ≤ length s
   pub arrays : ArraysOf taken fanins thresholds signals weights
-  pub rest : parseGates inputs count [] (drop start s) ≡ parseGates (inputs + g) (count - g) taken (drop at s)
+  pub rest : parseGates board inputs count [] (drop start s) ≡ parseGates board (inputs + g) (count - g) taken (drop at s)
 
-pub gates-start : (s : List ℕ) (start inputs count : ℕ) → start ≤ length s
-    → GatesSoFar s start inputs count (replicate 128 0) (replicate 2048 0) (replicate 2048 (pos 0)) (replicate 128 (pos 0)) start 0
-gates-start s start inputs count h = record {
+pub gates-start : (s : List ℕ) (board : Board) (start inputs count : ℕ) → start ≤ length s
+    → GatesSoFar s board start inputs count (replicate 128 0) (replicate 2048 0) (replicate 2048 (pos 0)) (replicate 128 (pos 0)) start 0
+gates-start s board start inputs count h = record {
   taken = [];
   many = refl;
   few = zero-le;
   inside = h;
   arrays = no-arrays;
-  rest = ap (λ (k : ℕ). parseGates k count [] (drop start s)) (sym (add-zero inputs)) ∙ ap (λ (k : ℕ). parseGates (inputs + 0) k [] (drop start s)) (sym (sub-zero count));
+  rest = ap (λ (k : ℕ). parseGates board k count [] (drop start s)) (sym (add-zero inputs))
+      ∙ ap (λ (k : ℕ). parseGates board (inputs + 0) k [] (drop start s)) (sym (sub-zero count));
 }
 
-module _ {s : List ℕ} {start inputs count : ℕ} {fanins signals : List ℕ} {weights thresholds : List ℤ} {at g : ℕ} (h : GatesSoFar s start inputs count fanins signals weights thresholds at g) where
-  pub gates-bad : {k : ℕ} → g < count → parseGate (inputs + g) (drop at s) ≡ refused k → parseGates inputs count [] (drop start s) ≡ refused k
-  gates-bad j e = h .rest ∙ gates-refused (inputs + g) count g (h .taken) (drop at s) j e
+module _ {s : List ℕ} {board : Board} {start inputs count : ℕ} {fanins signals : List ℕ} {weights thresholds : List ℤ} {at g : ℕ}
+    (h : GatesSoFar s board start inputs count fanins signals weights thresholds at g) where
+  pub gates-bad : {k : ℕ} → g < count → parseGate board (inputs + g) (drop at s) ≡ refused k → parseGates board inputs count [] (drop start s) ≡ refused k
+  gates-bad j e = h .rest ∙ gates-refused board (inputs + g) count g (h .taken) (drop at s) j e
 
   pub gates-got : {gate : GateRecord} {next : ℕ} {fanins′ signals′ : List ℕ} {weights′ thresholds′ : List ℤ} → g < count → count ≤ 128
-      → Found gateRecord s (parseGate (inputs + g) (drop at s)) next gate → next ≤ length s
+      → Found gateRecord s (parseGate board (inputs + g) (drop at s)) next gate → next ≤ length s
       → Stored g gate fanins thresholds signals weights fanins′ thresholds′ signals′ weights′
-      → GatesSoFar s start inputs count fanins′ signals′ weights′ thresholds′ next (g + 1)
+      → GatesSoFar s board start inputs count fanins′ signals′ weights′ thresholds′ next (g + 1)
   gates-got {gate} {next} {fanins′} {signals′} {weights′} {thresholds′} j few f inside st =
       let gs = h .taken in
       let x = f .what in
@@ -54,13 +58,23 @@ module _ {s : List ℕ} {start inputs count : ℕ} {fanins signals : List ℕ} {
         few = omega arith;
         inside = inside;
         arrays = stored-gates (changed-end gs g x (h .many)) (omega arith) (h .arrays) (rw (f .holds) at st);
-        rest = h .rest ∙ gates-more (inputs + g) count g gs (drop at s) j (f .reads)
-            ∙ ap (λ (k : ℕ). parseGates k (count - (g + 1)) (gs ++ (x ∷ [])) (drop next s)) {x = suc (inputs + g)} {y = inputs + (g + 1)} (omega arith);
+        rest = h .rest ∙ gates-more board (inputs + g) count g gs (drop at s) j (f .reads)
+            ∙ ap (λ (k : ℕ). parseGates board k (count - (g + 1)) (gs ++ (x ∷ [])) (drop next s)) {x = suc (inputs + g)} {y = inputs + (g + 1)} (omega arith);
       }
 
   pub gates-end : count ≤ g
-      → Seen (gatesRecord inputs) s (parseGates inputs count [] (drop start s)) 0 at
-      (record { inputs = inputs; gates = count; outputs = 0; fanins = fanins; signals = signals; weights = weights; thresholds = thresholds; drivers = replicate 16 0 })
+      → Seen (gatesRecord board inputs) s (parseGates board inputs count [] (drop start s)) 0 at
+      (record {
+        board = board;
+        inputs = inputs;
+        gates = count;
+        outputs = 0;
+        fanins = fanins;
+        signals = signals;
+        weights = weights;
+        thresholds = thresholds;
+        drivers = replicate 16 0;
+      })
   unfolding layout
   gates-end j =
       let gs = h .taken in
@@ -68,6 +82,7 @@ module _ {s : List ℕ} {start inputs count : ℕ} {fanins signals : List ℕ} {
       record {
         inside = h .inside;
         says = (λ x. done (record {
+          board = board;
           inputs = inputs;
           gates = e x;
           outputs = 0;
@@ -77,5 +92,5 @@ module _ {s : List ℕ} {start inputs count : ℕ} {fanins signals : List ℕ} {
           thresholds = h .arrays .thresholds-are x;
           drivers = sym no-drivers x;
         }) (drop at s))
-            ∙ sym (ap (mapped (gatesRecord inputs)) (h .rest ∙ gates-ended (inputs + g) count g gs (drop at s) j));
+            ∙ sym (ap (mapped (gatesRecord board inputs)) (h .rest ∙ gates-ended board (inputs + g) count g gs (drop at s) j));
       }

@@ -15,11 +15,13 @@ use Rattle.network.specs.Sound.{Has}
 use Rattle.network.specs.LimitLaws.{has-of}
 use Rattle.network.specs.Record.{layout}
 use Rattle.network.specs.Changes.{gateAt}
-use Rattle.format.specs.Format.{headerLength, Read, refused, done, gateBytes, fileBytes, parseFile, Bytes}
+use Rattle.format.specs.Format.{Read, refused, done, gateBytes, fileBytes, parseFile, Bytes}
 use Rattle.format.specs.Part.{partAnswer, asPart}
 use Rattle.format.specs.CodeLaws.{refused-positive}
 use Rattle.format.specs.ReadWriteLaws.{file-of}
-use Rattle.format.specs.PartLaws.{GateFile, part-refused, part-stray, part-found, part-by}
+use Rattle.format.specs.BoardLaws.{header-long}
+use Rattle.format.specs.LengthLaws.{fileBytes-length, file-long}
+use Rattle.format.specs.PartLaws.{firstStart, firstStart-is, inputs-at, GateFile, part-refused, part-stray, part-found, part-by}
 use Rattle.pmn.specs.declared.Loaded.{Loaded}
 use Rattle.pmn.specs.Answers.{asLoaded, loaded}
 use Rattle.pmn.specs.Parts.{partBy}
@@ -87,11 +89,17 @@ part-file s x bs h = part-file-by s x bs (parseFile s) refl h
 
 module _ {s : List ℕ} {x : ℕ} (p : PartFile s x) where
   -- the inputs' byte
-  pub inputs-at : getD s 5 0 ≡ p .net .inputs
-  inputs-at = ap (λ (l : List ℕ). getD l 5 0) (p .file)
+  pub inputs-there : getD s (firstStart s - 3) 0 ≡ p .net .inputs
+  inputs-there = inputs-at s (p .net) (p .file)
 
-  pub long : headerLength ≤ length s
-  long = omega (arith, ap length (p .file))
+  pub long : 8 ≤ length s
+  long = omega (arith, file-long (p .net), ap length (p .file))
+
+  pub starts : (8 ≤ firstStart s) × (firstStart s ≤ length s)
+  starts =
+      let e = firstStart-is s (p .net) (p .file) in
+      let k = header-long (p .net .board) in
+      (omega arith, omega (arith, fileBytes-length (p .net), ap length (p .file)))
 
   pub gate-file : {g : ℕ} → g ≡ x - p .net .inputs → GateFile s g
   gate-file e = record { net = p .net; file = p .file; below = omega (arith, p .has) }

@@ -1,12 +1,14 @@
 -- The answers of the readers: what an answer says where its code is 0 and where it is not. Assumes nothing.
 use mathlib.Core.Path.{_≡_, refl, sym, ap, _∙_}
 use mathlib.Core.List.{List}
-use Prim.Native.Nat.{ℕ, zero, suc, _<_}
+use Prim.Native.Nat.{ℕ, zero, suc, _≤_, _<_}
 use native.Mathlib.Omega.{arith}
-use lib.ListN.{drop}
-use Rattle.format.specs.Format.{headerLength, Read, refused, done, parseBody, parseFile}
+use lib.ListN.{length, drop}
+use Rattle.network.specs.Threshold.{Net}
+use Rattle.format.specs.Format.{Read, refused, done}
 use Rattle.format.specs.StepLaws.{refused≢done, done-inj}
-use Rattle.pmn.specs.Seen.{byCode, HeadSeen, mapped, Seen}
+use Rattle.pmn.specs.declared.unchecked.head_reader.HeadRead.{HeadRead}
+use Rattle.pmn.specs.Seen.{byCode, bodyAfter, HeadSeen, mapped, Seen, itself}
 
 -- a code that is not 0
 pub by-refusal : {A : Type 0} (code : ℕ) (r : Read A) → (code ≡ 0 → ⊥) → byCode code r ≡ refused code
@@ -19,6 +21,12 @@ seen-refused {A} {B} {f} {s} {p} {code} {next} {value} k h e r = record {
   inside = omega (arith, e .1);
   says = by-refusal code (done value (drop next s)) (λ z. omega (arith, e .0)) ∙ ap refused (e .0) ∙ sym (ap (mapped f) r);
 }
+
+-- the answer for a read that gives a value
+pub seen-done : {A B : Type 0} {f : A → B} {s : List ℕ} {p : Read A} {next : ℕ} {value : B} (a : A) → next ≤ length s → p ≡ done a (drop next s)
+    → value ≡ f a → Seen f s p 0 next value
+seen-done {A} {B} {f} {s} {p} {next} {value} a h r e =
+    record { inside = h; says = ap (λ (v : B). done v (drop next s)) e ∙ sym (ap (mapped f) r) }
 
 -- a read that gave a value
 pub record Found {A B : Type 0} (f : A → B) (s : List ℕ) (p : Read A) (next : ℕ) (value : B) : Type 0 where
@@ -33,6 +41,10 @@ found-by f s (done a l) next value e = let h = done-inj e in record { what = a; 
 pub found : {A B : Type 0} {f : A → B} {s : List ℕ} {p : Read A} {code next : ℕ} {value : B} → Seen f s p code next value → code ≡ 0 → Found f s p next value
 found {A} {B} {f} {s} {p} {code} {next} {value} h e = found-by f s p next value (ap (λ (k : ℕ). byCode k (done value (drop next s))) (sym e) ∙ h .says)
 
+-- the same where the value is as it was read
+pub read-as : {A : Type 0} {s : List ℕ} {p : Read A} {code next : ℕ} {value : A} → Seen itself s p code next value → code ≡ 0 → p ≡ done value (drop next s)
+read-as {A} {s} {p} {code} {next} {value} h e = let f = found h e in f .reads ∙ ap (λ (a : A). done a (drop next s)) (sym (f .holds))
+
 failed-by : {A B : Type 0} (f : A → B) (p : Read A) (code : ℕ) → refused code ≡ mapped f p → p ≡ refused code
 failed-by f (refused k) code e = ap refused (cc)
 failed-by f (done a l) code e = refused≢done e
@@ -40,17 +52,29 @@ failed-by f (done a l) code e = refused≢done e
 pub failed : {A B : Type 0} {f : A → B} {s : List ℕ} {p : Read A} {code next : ℕ} {value : B} → Seen f s p code next value → (code ≡ 0 → ⊥) → p ≡ refused code
 failed {A} {B} {f} {s} {p} {code} {next} {value} h e = failed-by f p code (sym (by-refusal code (done value (drop next s)) e) ∙ h .says)
 
+-- the same answer for an equal read
+pub seen-same : {A B : Type 0} {f : A → B} {s : List ℕ} {p q : Read A} {code next : ℕ} {value : B} → p ≡ q
+    → Seen f s q code next value → Seen f s p code next value
+seen-same {A} {B} {f} e h = record { inside = h .inside; says = h .says ∙ sym (ap (mapped f) e) }
+
 -- an answer for a read whose value goes through two functions
 mapped-twice : {A B C : Type 0} (f : A → B) (g : B → C) (p : Read A) → mapped (λ a. g (f a)) p ≡ mapped g (mapped f p)
 mapped-twice f g (refused k) = refl
 mapped-twice f g (done a l) = refl
 
-pub seen-through : {A B C : Type 0} (f : A → B) (g : B → C) {s : List ℕ} {p : Read A} {q : Read B} {code next : ℕ} {value : C} → Seen (λ a. g (f a)) s p code next value → q ≡ mapped f p → Seen g s q code next value
+pub seen-through : {A B C : Type 0} (f : A → B) (g : B → C) {s : List ℕ} {p : Read A} {q : Read B} {code next : ℕ} {value : C}
+    → Seen (λ a. g (f a)) s p code next value → q ≡ mapped f p → Seen g s q code next value
 seen-through f g {s} {p} h e = record { inside = h .inside; says = h .says ∙ mapped-twice f g p ∙ sym (ap (mapped g) e) }
 
+-- ---- a header
+
 -- the answer for a header that is refused
-pub head-refused : {s : List ℕ} {code inputs gates outputs : ℕ} (k : ℕ) → 0 < k → code ≡ k → parseFile s ≡ refused k → HeadSeen s code inputs gates outputs
-head-refused {s} {code} {inputs} {gates} {outputs} k h e r = record {
-  says = r ∙ ap refused (sym e) ∙ sym (by-refusal code (parseBody inputs gates outputs (drop headerLength s)) (λ z. omega arith));
+pub head-refused : {s : List ℕ} {p : Read Net} {head : HeadRead} (k : ℕ) → 0 < k → head .code ≡ k → p ≡ refused k → HeadSeen s p head
+head-refused {s} {p} {head} k h e r = record {
+  says = r ∙ ap refused (sym e) ∙ sym (by-refusal (head .code) (bodyAfter s head) (λ z. omega arith));
   counts = λ z. absurd (omega arith);
 }
+
+-- the same answer for an equal read
+pub head-same : {s : List ℕ} {p q : Read Net} {head : HeadRead} → p ≡ q → HeadSeen s q head → HeadSeen s p head
+head-same e h = record { says = e ∙ h .says; counts = h .counts }

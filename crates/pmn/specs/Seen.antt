@@ -4,13 +4,15 @@ use mathlib.Core.List.{List, []}
 use Prim.Native.Nat.{ℕ, zero, suc, _+_, _≤_, _<_}
 use lib.IntN.{ℤ}
 use lib.ListN.{length, drop}
-use Rattle.network.specs.Threshold.{Feed, Gate}
+use Rattle.network.specs.Threshold.{Feed, Gate, Net}
 use Rattle.network.specs.Record.{gateRecord, driversOf, layout}
+use Rattle.network.specs.declared.Board.{Board}
 use Rattle.network.specs.declared.GateRecord.{GateRecord}
 use Rattle.network.specs.declared.Network.{Network}
-use Rattle.format.specs.Format.{headerLength, Read, refused, done, andThen, parseFeed, netRead, parseBody, parseFile}
+use Rattle.format.specs.Format.{Read, refused, done, andThen, parseFeed, netRead, parseBody}
 use Rattle.pmn.specs.declared.unchecked.gate_reader.FeedRead.{FeedRead}
 use Rattle.pmn.specs.declared.unchecked.gate_reader.FeedRead.the-variants.{Bad, Got}
+use Rattle.pmn.specs.declared.unchecked.head_reader.HeadRead.{HeadRead}
 
 -- the refusal where the code is not 0, else r
 abbrev pub byCode : {A : Type 0} → ℕ → Read A → Read A
@@ -19,17 +21,22 @@ byCode (suc k) r = refused (suc k)
 
 -- ---- the header
 
--- a header with counts that are within the limits
-pub record Header (s : List ℕ) (inputs gates outputs : ℕ) : Type 0 where
-  pub long : headerLength ≤ length s
-  pub few-inputs : inputs ≤ 40
-  pub few-gates : gates ≤ 128
-  pub few-outputs : outputs ≤ 16
+-- a header whose counts are within the limits, and which lies in the file
+pub record Header (s : List ℕ) (head : HeadRead) : Type 0 where
+  pub inside : head .next ≤ length s
+  pub few-inputs : head .inputs ≤ 40
+  pub few-gates : head .gates ≤ 128
+  pub few-outputs : head .outputs ≤ 16
 
--- an answer for the header of the file s: where the code is 0, what follows the header decides; else the code is the file's refusal
-pub record HeadSeen (s : List ℕ) (code inputs gates outputs : ℕ) : Type 0 where
-  pub says : parseFile s ≡ byCode code (parseBody inputs gates outputs (drop headerLength s))
-  pub counts : code ≡ 0 → Header s inputs gates outputs
+-- what follows a header
+abbrev pub bodyAfter : List ℕ → HeadRead → Read Net
+bodyAfter s head = parseBody (head .board) (head .inputs) (head .gates) (head .outputs) (drop (head .next) s)
+
+-- an answer for the header with which the read p from the file s begins: where the code is 0, what follows the header decides; else the
+-- code is the refusal of p
+pub record HeadSeen (s : List ℕ) (p : Read Net) (head : HeadRead) : Type 0 where
+  pub says : p ≡ byCode (head .code) (bodyAfter s head)
+  pub counts : head .code ≡ 0 → Header s head
 
 -- ---- a feed
 
@@ -59,13 +66,17 @@ pub record Seen {A B : Type 0} (f : A → B) (s : List ℕ) (p : Read A) (code n
   pub inside : next ≤ length s
   pub says : byCode code (done value (drop next s)) ≡ mapped f p
 
+-- a value as it was read
+abbrev pub itself : {A : Type 0} → A → A
+itself a = a
+
 -- the 16 places of a gate with a threshold, by its feeds
 abbrev pub rowOf : ℤ → List Feed → GateRecord
 rowOf t fs = gateRecord (record { feeds = fs; threshold = t })
 
 -- the record of a network by its gates, with no outputs
-abbrev pub gatesRecord : ℕ → List Gate → Network
-gatesRecord inputs gs = layout (netRead inputs gs [])
+abbrev pub gatesRecord : Board → ℕ → List Gate → Network
+gatesRecord board inputs gs = layout (netRead board inputs gs [])
 
 -- the number of the outputs, and their 16 places
 abbrev pub outputPlaces : List ℕ → ℕ × List ℕ

@@ -1,6 +1,8 @@
 // The PMN file: reading it into a record, and the bytes of one gate.
+use format::header_length;
 use integers::wide;
 use network::Network;
+use unchecked::head_reader::read_head;
 use unchecked::reader;
 ghost use mathlib.Core.Path.{_≡_};
 ghost use Rattle.integers.specs.Refusals.{codeOf};
@@ -17,12 +19,12 @@ pub struct Loaded {
 pub fn read(file: &[u8]) -> Loaded
     ensures { λ r. ⌜ r ≡ loaded (now (file .entry)) ⌝ }
 {
-    let head = reader::read_head(file);
+    let head = read_head(file);
     let code = head.code;
     if code != 0 {
         return reader::refuse(code);
     }
-    reader::read_body(file, head.inputs, head.gates, head.outputs)
+    reader::read_body(file, head)
 }
 
 // The number of the refusal that `gate_part` gives for the same file and signal, or 0.
@@ -52,7 +54,8 @@ pub fn gate_part(file: &[u8], signal: usize) -> &[u8]
     if gate_part_code(file, signal) != 0 {
         return &file[..0];
     }
-    let inputs = wide(file[5]);
+    let start = header_length(file[3]);
+    let inputs = wide(file[start - 3]);
     unchecked::parts::gate_bytes(file, signal - inputs)
 }
 

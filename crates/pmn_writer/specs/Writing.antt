@@ -1,15 +1,20 @@
 -- What the writer puts, as lists: the header, the gates of a record's arrays, and the outputs. Nothing is proved here.
-use mathlib.Core.List.{List, [], _∷_}
+use mathlib.Core.List.{List, [], _∷_, _++_}
 use Prim.Native.Nat.{ℕ, zero, suc, _+_, _*_, _≤_, _<_}
 use lib.IntN.{ℤ}
 use lib.ListN.{getD}
 use Rattle.integers.specs.Lists.{tab}
 use Rattle.network.specs.Record.{feedsFrom, gateFrom}
-use Rattle.format.specs.Format.{feedsBytes, gatesBytes}
+use Rattle.network.specs.declared.Board.{Board}
+use Rattle.format.specs.Format.{feedsBytes, gatesBytes, boardBytes}
 
--- the header with these counts
-abbrev pub header : ℕ → ℕ → ℕ → List ℕ
-header inputs gates outputs = 80 ∷ 77 ∷ 78 ∷ 1 ∷ 0 ∷ inputs ∷ gates ∷ outputs ∷ []
+-- the mark, the version and the margins of a board
+abbrev pub marked : Board → List ℕ
+marked b = 80 ∷ 77 ∷ 78 ∷ boardBytes b
+
+-- the header of a board with these counts
+abbrev pub header : Board → ℕ → ℕ → ℕ → List ℕ
+header b inputs gates outputs = marked b ++ (inputs ∷ gates ∷ outputs ∷ [])
 
 -- the first n feeds of a gate's places
 unfoldable pub firstFeeds : List ℕ → List ℤ → ℕ → List ℕ

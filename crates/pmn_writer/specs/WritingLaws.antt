@@ -5,11 +5,13 @@ use Prim.Native.Nat.{ℕ, zero, suc, _+_, _*_, _-_, _≤_, _<_}
 use native.Mathlib.Nat.{zero-add}
 use native.Mathlib.Numerals.{add-one}
 use native.Mathlib.Omega.{arith}
+use borrow.Author.Tests.{eq-eqb, ne-eqb}
 use lib.IntN.{ℤ, pos}
 use lib.ListN.{length, getD, length-append}
 use Rattle.integers.specs.Lists.{range, tab}
 use Rattle.integers.specs.ListLaws.{length-tab, getD-tab, tab-same, range-more}
 use Rattle.integers.specs.Word.{intBytes}
+use Rattle.network.specs.declared.Board.{Board}
 use Rattle.network.specs.declared.GateRecord.{GateRecord}
 use Rattle.network.specs.declared.Network.{Network}
 use Rattle.network.specs.Threshold.{Feed}
@@ -18,8 +20,9 @@ use Rattle.network.specs.Places.{rowAt}
 use Rattle.integers.specs.TableLaws.{range-tab}
 use Rattle.network.specs.PlaceLaws.{length-feeds}
 use Rattle.format.specs.Format.{feedBytes, feedsBytes, gateBytes, gatesBytes, headerLength, fileBytes}
+use Rattle.format.specs.BoardLaws.{boardBytes-length}
 use Rattle.format.specs.LengthLaws.{feedsBytes-length, feedsBytes-append, gateBytes-length, gatesBytes-append}
-use Rattle.pmn_writer.specs.Writing.{header, firstFeeds, firstGates, gatesLength, firstOutputs}
+use Rattle.pmn_writer.specs.Writing.{marked, header, firstFeeds, firstGates, gatesLength, firstOutputs}
 
 -- a table with one member more
 pub tab-more : {A : Type 0} (f : ℕ → A) (n : ℕ) → tab (n + 1) f ≡ tab n f ++ (f n ∷ [])
@@ -119,23 +122,38 @@ module _ (ds : List ℕ) where
   unfolding firstOutputs
   firstOutputs-length n = length-tab n (λ k. getD ds k 0)
 
+-- ---- the header
+pub marked-second : (b : Board) → b .version ≡ 2 → marked b ≡ 80 ∷ 77 ∷ 78 ∷ 2 ∷ 0 ∷ b .on ∷ b .off ∷ []
+marked-second b e = rw (eq-eqb (b .version) 2 e)
+
+pub marked-first : (b : Board) → (b .version ≡ 2 → ⊥) → marked b ≡ 80 ∷ 77 ∷ 78 ∷ 1 ∷ 0 ∷ []
+marked-first b e = rw (ne-eqb (b .version) 2 e)
+
+pub marked-length : (b : Board) → length (marked b) + 3 ≡ headerLength b
+marked-length b = let e = boardBytes-length b in omega arith
+
+pub header-length : (b : Board) (inputs gates outputs : ℕ) → length (header b inputs gates outputs) ≡ headerLength b
+header-length b inputs gates outputs = length-append (marked b) (inputs ∷ gates ∷ outputs ∷ []) ∙ marked-length b
+
 -- ---- the file of a record
 module _ (r : Network) where
   abbrev recordGates : List ℕ
   recordGates = firstGates (r .fanins) (r .thresholds) (r .signals) (r .weights) (r .gates)
 
   -- its parts
-  pub file-parts : fileBytes (netOf r) ≡ header (r .inputs) (r .gates) (r .outputs) ++ (recordGates ++ firstOutputs (r .drivers) (r .outputs))
+  pub file-parts : fileBytes (netOf r) ≡ header (r .board) (r .inputs) (r .gates) (r .outputs) ++ (recordGates ++ firstOutputs (r .drivers) (r .outputs))
   unfolding netOf firstGates firstOutputs
   file-parts =
       let rest = recordGates ++ firstOutputs (r .drivers) (r .outputs) in
-      ap (λ (k : ℕ). header (r .inputs) k (length (netOf r .outputs)) ++ rest) (length-tab (r .gates) (gateOf r))
-      ∙ ap (λ (k : ℕ). header (r .inputs) (r .gates) k ++ rest) (length-tab (r .outputs) (λ j. getD (r .drivers) j 0))
+      ap (λ (k : ℕ). header (r .board) (r .inputs) k (length (netOf r .outputs)) ++ rest) (length-tab (r .gates) (gateOf r))
+      ∙ ap (λ (k : ℕ). header (r .board) (r .inputs) (r .gates) k ++ rest) (length-tab (r .outputs) (λ j. getD (r .drivers) j 0))
 
   -- its length
-  pub file-length : length (fileBytes (netOf r)) ≡ headerLength + gatesLength (r .fanins) (r .gates) + r .outputs
+  pub file-length : length (fileBytes (netOf r)) ≡ headerLength (r .board) + gatesLength (r .fanins) (r .gates) + r .outputs
   file-length =
-      let e = ap length file-parts in
+      let rest = recordGates ++ firstOutputs (r .drivers) (r .outputs) in
+      let d = header-length (r .board) (r .inputs) (r .gates) (r .outputs) in
+      let e = ap length file-parts ∙ length-append (header (r .board) (r .inputs) (r .gates) (r .outputs)) rest in
       let f = length-append recordGates (firstOutputs (r .drivers) (r .outputs)) in
       let g = firstGates-length (r .fanins) (r .thresholds) (r .signals) (r .weights) (r .gates) in
       let h = firstOutputs-length (r .drivers) (r .outputs) in

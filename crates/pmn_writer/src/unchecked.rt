@@ -1,19 +1,20 @@
 // Writing the parts of a file, each at the front of the lent bytes. The bytes after a part stay as they were. Each public function asks for
 // what its caller has tested.
 use crate::Written;
-use format::HEADER_LENGTH;
+use format::header_length;
+use network::Board;
 use network::GateRecord;
 use network::Network;
 ghost use mathlib.Core.Path.{_≡_};
 ghost use mathlib.Core.Bool.{true};
-ghost use mathlib.Core.List.{_++_, _∷_};
+ghost use mathlib.Core.List.{[], _∷_, _++_};
 ghost use Prim.Native.Nat.{_+_, _*_, _≤_, _<_};
 ghost use lib.ListN.{length, drop};
 ghost use Rattle.integers.specs.Word.{intBytes};
 ghost use Rattle.network.specs.Record.{gateIn, soundRecord};
 ghost use Rattle.format.specs.Format.{gateBytes, headerLength};
 ghost use Rattle.pmn_writer.specs.Answers.{written, bytesAfter};
-ghost use Rattle.pmn_writer.specs.Writing.{header, firstFeeds, firstGates, gatesLength, firstOutputs, Counted};
+ghost use Rattle.pmn_writer.specs.Writing.{marked, header, firstFeeds, firstGates, gatesLength, firstOutputs, Counted};
 
 // A byte and a signed number.
 fn put_pair(out: &mut [u8], byte: u8, number: i32)
@@ -70,20 +71,48 @@ fn put_gates<'a>(
     at
 }
 
-// The header with these counts.
-fn put_header(out: &mut [u8], inputs: usize, gates: usize, outputs: usize)
-    requires { ⌜ (inputs < 256) × (gates < 256) × (outputs < 256) ⌝ }
-    requires { ⌜ headerLength ≤ length (now out) ⌝ }
-    ensures { λ _. ⌜ now (out .exit) ≡ header inputs gates outputs ++ drop headerLength (now (out .entry)) ⌝ }
+// The mark, the version and the margins of a board. The answer is their length.
+fn put_board(out: &mut [u8], board: Board) -> usize
+    requires { ⌜ length (marked board) ≤ length (now out) ⌝ }
+    ensures { λ r. ⌜ r ≡ length (marked board) ⌝ }
+    ensures { λ r. ⌜ now (out .exit) ≡ marked board ++ drop r (now (out .entry)) ⌝ }
 {
     out[0] = 80;
     out[1] = 77;
     out[2] = 78;
+    if board.version == 2 {
+        out[3] = 2;
+        out[4] = 0;
+        out[5] = board.on;
+        out[6] = board.off;
+        return 7;
+    }
     out[3] = 1;
     out[4] = 0;
-    out[5] = inputs as u8;
-    out[6] = gates as u8;
-    out[7] = outputs as u8;
+    5
+}
+
+// The three counts.
+fn put_counts(out: &mut [u8], inputs: usize, gates: usize, outputs: usize)
+    requires { ⌜ (inputs < 256) × (gates < 256) × (outputs < 256) ⌝ }
+    requires { ⌜ 3 ≤ length (now out) ⌝ }
+    ensures { λ _. ⌜ now (out .exit) ≡ (inputs ∷ gates ∷ outputs ∷ []) ++ drop 3 (now (out .entry)) ⌝ }
+{
+    out[0] = inputs as u8;
+    out[1] = gates as u8;
+    out[2] = outputs as u8;
+}
+
+// The header of a board with these counts. The answer is its length.
+fn put_header(out: &mut [u8], board: Board, inputs: usize, gates: usize, outputs: usize) -> usize
+    requires { ⌜ (inputs < 256) × (gates < 256) × (outputs < 256) ⌝ }
+    requires { ⌜ headerLength board ≤ length (now out) ⌝ }
+    ensures { λ r. ⌜ r ≡ headerLength board ⌝ }
+    ensures { λ r. ⌜ now (out .exit) ≡ header board inputs gates outputs ++ drop r (now (out .entry)) ⌝ }
+{
+    let at = put_board(out, board);
+    put_counts(&mut out[at..], inputs, gates, outputs);
+    at + 3
 }
 
 // The outputs.
@@ -97,12 +126,12 @@ fn put_outputs(out: &mut [u8], drivers: &[u8; 16], outputs: usize)
 }
 
 // How long the file of a record is.
-fn file_length(fanins: &[u8; 128], gates: usize, outputs: usize) -> usize
+fn file_length(fanins: &[u8; 128], board: Board, gates: usize, outputs: usize) -> usize
     requires { ⌜ Counted (now fanins) gates ⌝ }
     requires { ⌜ outputs ≤ 16 ⌝ }
-    ensures { λ r. ⌜ r ≡ headerLength + gatesLength (now (fanins .entry)) gates + outputs ⌝ }
+    ensures { λ r. ⌜ r ≡ headerLength board + gatesLength (now (fanins .entry)) gates + outputs ⌝ }
 {
-    let mut total: usize = HEADER_LENGTH;
+    let mut total = header_length(board.version);
     for g in 0..gates {
         total += 5 + 5 * integers::wide(fanins[g]);
     }
@@ -115,23 +144,24 @@ pub fn write_sound(network: Network, out: &mut [u8]) -> Written
     ensures { λ r. ⌜ r ≡ written network (length (now (out .entry))) ⌝ }
     ensures { λ _. ⌜ now (out .exit) ≡ bytesAfter network (now (out .entry)) ⌝ }
 {
-    let length = file_length(&network.fanins, network.gates, network.outputs);
+    let board = network.board;
+    let length = file_length(&network.fanins, board, network.gates, network.outputs);
     if out.len() < length {
         return Written {
             code: 18,
             length: 0,
         };
     }
-    put_header(out, network.inputs, network.gates, network.outputs);
+    let start = put_header(out, board, network.inputs, network.gates, network.outputs);
     let gates = put_gates(
-        &mut out[HEADER_LENGTH..],
+        &mut out[start..],
         &network.fanins,
         &network.thresholds,
         &network.signals,
         &network.weights,
         network.gates,
     );
-    let at = HEADER_LENGTH + gates;
+    let at = start + gates;
     put_outputs(&mut out[at..], &network.drivers, network.outputs);
     Written { code: 0, length }
 }

@@ -7,10 +7,10 @@ use native.Mathlib.Omega.{arith}
 use Rattle.integers.specs.Lists.{below, every}
 use Rattle.integers.specs.TestLaws.{is-true, T-is, refuted, fails, between-of, of-between, every-of, of-every}
 use Rattle.folding.specs.Merge.{onDial}
-use Rattle.folding.specs.Aligned.{Aligned, agreesOn, agreesAll, scaleFits, qualifiesOn}
+use Rattle.folding.specs.Aligned.{Aligned, clearsOn, clearsAll, scaleFits, qualifiesOn}
 use Rattle.alignment.specs.declared.Alignment.{Alignment}
 use Rattle.alignment.specs.Alignments.{alignedIn, Searchable}
-use Rattle.agreement.specs.GateLaws.{agreement, disagrees}
+use Rattle.agreement.specs.GateLaws.{every-setting, one-short}
 
 module _ (g : Alignment) where
   abbrev gates : Aligned
@@ -18,24 +18,24 @@ module _ (g : Alignment) where
 
   -- what a pair has to pass
   abbrev tests : ℕ → ℕ → List Bool
-  tests k l = onDial k ∷ onDial l ∷ scaleFits gates k l ∷ agreesAll gates k l ∷ []
+  tests k l = onDial k ∷ onDial l ∷ scaleFits gates k l ∷ clearsAll gates k l ∷ []
 
   module _ (f : Searchable g) (k l : ℕ) where
     pub off-scale : scaleFits gates k l ≡ false → qualifiesOn gates (record { k = k; l = l }) ≡ false
     unfolding qualifiesOn
     off-scale e = refuted (every (tests k l)) (λ t. fails (scaleFits gates k l) e (every-of (tests k l) t .1 .1 .0))
 
-    pub differing : (s : ℕ) → s < 2 ^ g .count → agreesOn gates k l s ≡ false → qualifiesOn gates (record { k = k; l = l }) ≡ false
+    pub differing : (s : ℕ) → s < 2 ^ g .count → clearsOn gates k l s ≡ false → qualifiesOn gates (record { k = k; l = l }) ≡ false
     unfolding qualifiesOn
-    differing s h e = refuted (every (tests k l)) (λ t. fails (agreesAll gates k l) (disagrees g f k l s h e) (every-of (tests k l) t .1 .1 .1 .0))
+    differing s h e = refuted (every (tests k l)) (λ t. fails (clearsAll gates k l) (one-short g f k l s h e) (every-of (tests k l) t .1 .1 .1 .0))
 
-    pub qualified : 1 ≤ k → k ≤ 32 → 1 ≤ l → l ≤ 32 → scaleFits gates k l ≡ true → below (2 ^ g .count) (agreesOn gates k l) ≡ true
+    pub qualified : 1 ≤ k → k ≤ 32 → 1 ≤ l → l ≤ 32 → scaleFits gates k l ≡ true → below (2 ^ g .count) (clearsOn gates k l) ≡ true
         → qualifiesOn gates (record { k = k; l = l }) ≡ true
     unfolding qualifiesOn onDial
     qualified k1 k32 l1 l32 e a =
         let dial-k = of-between 1 32 k (k1, k32) in
         let dial-l = of-between 1 32 l (l1, l32) in
-        let all = T-is (agreesAll gates k l) (agreement g f k l ∙ a) in
+        let all = T-is (clearsAll gates k l) (every-setting g f k l ∙ a) in
         is-true (every (tests k l)) (of-every (tests k l) (dial-k, (dial-l, (T-is (scaleFits gates k l) e, (all, tt)))))
 
   -- no pair off the dial qualifies

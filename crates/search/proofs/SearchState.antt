@@ -11,7 +11,7 @@ use Rattle.integers.specs.Lists.{below}
 use Rattle.integers.specs.TestLaws.{both-true}
 use Rattle.integers.specs.ListLaws.{below-none, below-more}
 use Rattle.folding.specs.Pair.{Pair, pairs, first}
-use Rattle.folding.specs.Aligned.{agreesOn, scaleFits, qualifiesOn}
+use Rattle.folding.specs.Aligned.{clearsOn, scaleFits, qualifiesOn}
 use Rattle.alignment.specs.declared.Alignment.{Alignment}
 use Rattle.alignment.specs.Alignments.{alignedIn, Searchable}
 use Rattle.search.specs.declared.Found.the-variants.{At, Nothing}
@@ -56,7 +56,7 @@ module _ {g : Alignment} (f : Searchable g) where
 
   -- the candidate's two bits on a setting
   abbrev pub agrees : ℕ → ℕ → ℕ → Bool
-  agrees k l = agreesOn (alignedIn g) k l
+  agrees k l = clearsOn (alignedIn g) k l
 
   -- ---- the loops begin and end
   pub begin : AtSum q n 0 0 2

@@ -1,7 +1,7 @@
 // The pair search, by tables of sums. Each call asks for at most 16 distinct feeds and for numbers on the scale.
 use crate::Found;
-use agreement::unchecked::agrees_at;
-use agreement::unchecked::agrees_low;
+use agreement::unchecked::clears_at;
+use agreement::unchecked::clears_low;
 use agreement::unchecked::low_thresholds;
 use agreement::unchecked::scale_fits;
 use alignment::Alignment;
@@ -43,17 +43,17 @@ fn scan(a: Alignment, sums_u: &[i32; 512], sums_v: &[i32; 512]) -> Found
             if 32 < l {
                 continue 'candidate;
             }
-            if !agrees_at(sums_u, sums_v, thresholds, k, l, last) {
+            if !clears_at(sums_u, sums_v, thresholds, k, l, last) {
                 continue 'candidate;
             }
-            if !agrees_at(sums_u, sums_v, thresholds, k, l, earlier) {
+            if !clears_at(sums_u, sums_v, thresholds, k, l, earlier) {
                 continue 'candidate;
             }
             if !scale_fits(a, k, l) {
                 continue 'candidate;
             }
             let likely = likely_difference(sums_u, sums_v, thresholds, k, l, count, last);
-            if !agrees_at(sums_u, sums_v, thresholds, k, l, likely) {
+            if !clears_at(sums_u, sums_v, thresholds, k, l, likely) {
                 earlier = beside(sums_u, sums_v, thresholds, likely, last, earlier);
                 last = likely;
                 continue 'candidate;
@@ -61,7 +61,7 @@ fn scan(a: Alignment, sums_u: &[i32; 512], sums_v: &[i32; 512]) -> Found
             for high in 0..highs {
                 let reach = low_thresholds(sums_u, sums_v, thresholds, high);
                 for low in 0..lows {
-                    if !agrees_low(sums_u, sums_v, reach, k, l, low) {
+                    if !clears_low(sums_u, sums_v, reach, k, l, low) {
                         continue 'candidate;
                     }
                 }

@@ -61,7 +61,8 @@ module _ (N : Net) (B : ℕ) where
   module _ (inputs gates g : ℕ) (within : g < gates) where
     next : sweepFrom N B (inputs + g) (gates - g) ≡ orElse (asked (inputs + g)) (sweepFrom N B (inputs + (g + 1)) (gates - (g + 1)))
     unfolding sweepFrom
-    next = rw (let e : gates - g ≡ suc (gates - (g + 1)) = omega arith in e) (ap (λ (v : ℕ). orElse (asked (inputs + g)) (sweepFrom N B v (gates - (g + 1)))) (let e : suc (inputs + g) ≡ inputs + (g + 1) = omega arith in e))
+    next = rw (let e : gates - g ≡ suc (gates - (g + 1)) = omega arith in e)
+        (ap (λ (v : ℕ). orElse (asked (inputs + g)) (sweepFrom N B v (gates - (g + 1)))) (let e : suc (inputs + g) ≡ inputs + (g + 1) = omega arith in e))
 
     -- a gate is passed over
     pub turn-many : B < readers N (inputs + g) → sweepFrom N B (inputs + g) (gates - g) ≡ sweepFrom N B (inputs + (g + 1)) (gates - (g + 1))
@@ -98,7 +99,8 @@ module _ (N : Net) (B : ℕ) where
 -- ---- a sound record's gates, as the code tries them
 pub sweep-start : (r : Network) (b : ℕ) → sweepFrom (netOf r) b (r .inputs + 0) (r .gates - 0) ≡ sweepOnce (netOf r) b
 unfolding sweepOnce netOf
-sweep-start r b = rw (let e : r .inputs + 0 ≡ r .inputs = omega arith in e, let e : r .gates - 0 ≡ r .gates = omega arith in e, length-tab (r .gates) (gateOf r))
+sweep-start r b =
+    rw (let e : r .inputs + 0 ≡ r .inputs = omega arith in e, let e : r .gates - 0 ≡ r .gates = omega arith in e, length-tab (r .gates) (gateOf r))
 
 module _ (r : Network) (b g : ℕ) (whole : soundRecord r ≡ true) (within : g < r .gates) where
   -- gate g, by its signal, and what the code asks first: has it too many readers, or is it an output
@@ -110,7 +112,8 @@ module _ (r : Network) (b g : ℕ) (whole : soundRecord r ≡ true) (within : g 
 
   is-gate : gateSignal (r .inputs) (r .gates) signal ≡ true
   unfolding gateSignal
-  is-gate = both-true (leb (r .inputs) signal) (ltb signal (r .inputs + r .gates)) (le-leb (r .inputs) signal (omega arith)) (lt-ltb signal (r .inputs + r .gates) (omega arith))
+  is-gate = both-true (leb (r .inputs) signal) (ltb signal (r .inputs + r .gates)) (le-leb (r .inputs) signal (omega arith))
+      (lt-ltb signal (r .inputs + r .gates) (omega arith))
 
   pub own-gate : SoundGate r signal
   own-gate = sound-gate r signal whole is-gate
@@ -119,20 +122,24 @@ module _ (r : Network) (b g : ℕ) (whole : soundRecord r ≡ true) (within : g 
   pub pass-barred : barred ≡ true → sweepFrom (netOf r) b signal (r .gates - g) ≡ sweepFrom (netOf r) b (r .inputs + (g + 1)) (r .gates - (g + 1))
   pass-barred h = or-case (ltb b (readers (netOf r) signal)) (occurs (r .drivers) 0 (r .outputs) signal) (T-is barred h)
       (λ t. turn-many (netOf r) b (r .inputs) (r .gates) g within (ltb→lt b (readers (netOf r) signal) t))
-      (λ t. turn-refused (netOf r) b (r .inputs) (r .gates) g within (subst Refused (sym (collapse-refused r signal whole is-gate (is-true (occurs (r .drivers) 0 (r .outputs) signal) t))) tt))
+      (λ t. turn-refused (netOf r) b (r .inputs) (r .gates) g within
+      (subst Refused (sym (collapse-refused r signal whole is-gate (is-true (occurs (r .drivers) 0 (r .outputs) signal) t))) tt))
 
   module _ (free : barred ≡ false) where
     parts : (ltb b (readers (netOf r) signal) ≡ false) × (occurs (r .drivers) 0 (r .outputs) signal ≡ false)
     parts = or-false (ltb b (readers (netOf r) signal)) (occurs (r .drivers) 0 (r .outputs) signal) free
 
-    pub pass-refused : Refused (fusion (gateOf r) (r .inputs) (r .gates) signal) → sweepFrom (netOf r) b signal (r .gates - g) ≡ sweepFrom (netOf r) b (r .inputs + (g + 1)) (r .gates - (g + 1))
+    pub pass-refused : Refused (fusion (r .board) (gateOf r) (r .inputs) (r .gates) signal)
+        → sweepFrom (netOf r) b signal (r .gates - g) ≡ sweepFrom (netOf r) b (r .inputs + (g + 1)) (r .gates - (g + 1))
     pass-refused h = turn-refused (netOf r) b (r .inputs) (r .gates) g within
         (subst Refused (sym (collapse-folded r signal whole is-gate (parts .1))) (folded-some r signal own-gate h))
 
     -- it is taken
-    pub taken : (p : Pairs) → AllPairs (gateOf r) (r .inputs) (r .gates) signal p → sweepFrom (netOf r) b signal (r .gates - g) ≡ sweepOnce (netOf r) b → NextFold r b signal p
+    pub taken : (p : Pairs) → AllPairs (r .board) (gateOf r) (r .inputs) (r .gates) signal p
+        → sweepFrom (netOf r) b signal (r .gates - g) ≡ sweepOnce (netOf r) b → NextFold r b signal p
     taken p h e =
-        let fold : collapse (netOf r) signal ≡ accepted (foldedBy r signal p) = collapse-folded r signal whole is-gate (parts .1) ∙ folded-pairs r signal own-gate p h in
+        let fold : collapse (netOf r) signal ≡ accepted (foldedBy r signal p) =
+        collapse-folded r signal whole is-gate (parts .1) ∙ folded-pairs r signal own-gate p h in
         record {
           own = own-gate;
           pairs = h;
@@ -173,7 +180,8 @@ module _ {r : Network} {b turns : ℕ} {c : Network} {done : ℕ} (h : Reached r
     few = omega arith;
     whole = ap soundRecord e ∙ next-sound c b u p next;
     shape = subst Shaped (sym e) (shaped-layout (foldedBy c u p));
-    rest = ap (λ (m : Network). sweeping (turns - (done + 1)) b (netOf m) (done + 1)) e ∙ ap (λ (M : Net). sweeping (turns - (done + 1)) b M (done + 1)) (next-net c b u p next)
+    rest = ap (λ (m : Network). sweeping (turns - (done + 1)) b (netOf m) (done + 1)) e
+        ∙ ap (λ (M : Net). sweeping (turns - (done + 1)) b M (done + 1)) (next-net c b u p next)
         ∙ sym (sweeping-on (netOf c) b turns done (foldedBy c u p) l (next .first)) ∙ h .rest;
   }
 
@@ -184,8 +192,10 @@ module _ {r : Network} {b turns : ℕ} {c : Network} {done : ℕ} (h : Reached r
   reached-end e = (λ x. record { code = 0; network = sym (layout-netOf c (h .shape) (T-is (soundRecord c) (h .whole))) x; collapses = done })
       ∙ ap (λ (s : Swept). asOutcome r (accepted s)) (sym e ∙ h .rest)
 
-  pub reached-settled : Refused (sweepOnce (netOf c) b) → _≡_ {A = Outcome} (record { code = 0; network = c; collapses = done }) (asOutcome r (accepted (sweeping turns b (netOf r) 0)))
+  pub reached-settled : Refused (sweepOnce (netOf c) b)
+      → _≡_ {A = Outcome} (record { code = 0; network = c; collapses = done }) (asOutcome r (accepted (sweeping turns b (netOf r) 0)))
   reached-settled t = reached-end (sweeping-end (netOf c) b (turns - done) done t)
 
-  pub reached-last : turns ≤ done → _≡_ {A = Outcome} (record { code = 0; network = c; collapses = done }) (asOutcome r (accepted (sweeping turns b (netOf r) 0)))
+  pub reached-last : turns ≤ done
+      → _≡_ {A = Outcome} (record { code = 0; network = c; collapses = done }) (asOutcome r (accepted (sweeping turns b (netOf r) 0)))
   reached-last t = reached-end (sweeping-last (netOf c) b (turns - done) done (omega arith))

@@ -8,11 +8,14 @@ use collapse::unchecked::reader_pairs;
 use integers::wide;
 use merging::unchecked::readers::count_readers;
 use merging::unchecked::readers::is_output;
+use network::Board;
 use network::Network;
 ghost use mathlib.Core.Path.{_≡_};
 ghost use mathlib.Core.Bool.{true};
+ghost use lib.Dec.{T};
 ghost use lib.ListN.{replicate};
 ghost use Rattle.integers.specs.Refusals.{accepted};
+ghost use Rattle.network.specs.Limits.{boardOk};
 ghost use Rattle.network.specs.Record.{gateFrom, netOf, soundRecord};
 ghost use Rattle.folding.specs.Sweep.{sweeping};
 ghost use Rattle.sweeping.specs.Answers.{asOutcome};
@@ -32,6 +35,7 @@ fn no_pairs(code: u8, last: usize) -> Pairs
 // The pairs of all readers of u. The gate with number hint is tried first: if it is a reader whose pair is refused, there is no need to
 // try the others.
 fn hinted_pairs<'a>(
+    board: Board,
     fanins: &'a [u8; 128],
     thresholds: &'a [i32; 128],
     signals: &'a [u8; 2048],
@@ -41,17 +45,36 @@ fn hinted_pairs<'a>(
     u: usize,
     hint: usize,
 ) -> Pairs
-    requires { ⌜ Lent (now fanins) (now thresholds) (now signals) (now weights) inputs gates × Within inputs gates u ⌝ }
-    ensures { λ r. ⌜ TriedPairs (gateFrom (now (fanins .entry)) (now (thresholds .entry)) (now (signals .entry)) (now (weights .entry))) inputs gates u r ⌝ }
+    requires { ⌜ Lent (now fanins) (now thresholds) (now signals) (now weights) inputs gates × Within inputs gates u × T (boardOk board) ⌝ }
+    ensures { λ r. ⌜ TriedPairs board (gateFrom (now (fanins .entry)) (now (thresholds .entry)) (now (signals .entry)) (now (weights .entry))) inputs gates u r ⌝ }
 {
     if hint < gates {
-        let found = reader_pair(fanins, thresholds, signals, weights, inputs, gates, u, hint);
+        let found = reader_pair(
+            board,
+            fanins,
+            thresholds,
+            signals,
+            weights,
+            inputs,
+            gates,
+            u,
+            hint,
+        );
         let code = found.code;
         if code != 0 {
             return no_pairs(code, hint);
         }
     }
-    reader_pairs(fanins, thresholds, signals, weights, inputs, gates, u)
+    reader_pairs(
+        board,
+        fanins,
+        thresholds,
+        signals,
+        weights,
+        inputs,
+        gates,
+        u,
+    )
 }
 
 // The lowest gate with at most b readers that can be folded into them. A hint is the reader that refused a gate the last time; any
@@ -60,6 +83,7 @@ fn lowest_foldable(network: Network, b: usize, hints: &mut [u8; 128]) -> Choice
     requires { ⌜ soundRecord network ≡ true ⌝ }
     ensures { λ r. ⌜ Chosen network b r ⌝ }
 {
+    let board = network.board;
     let inputs = network.inputs;
     let gates = network.gates;
     let outputs = network.outputs;
@@ -71,6 +95,7 @@ fn lowest_foldable(network: Network, b: usize, hints: &mut [u8; 128]) -> Choice
         }
         let hint = wide(hints[g]);
         let pairs = hinted_pairs(
+            board,
             &network.fanins,
             &network.thresholds,
             &network.signals,

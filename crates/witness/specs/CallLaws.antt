@@ -10,6 +10,7 @@ use lib.ListN.{length}
 use Rattle.integers.specs.Refusals.{accepted, refused, _else_, checks}
 use Rattle.integers.specs.TestLaws.{is-true, is-false, test-case}
 use Rattle.network.specs.Record.{netOf, soundRecord}
+use Rattle.network.specs.SoundLaws.{sound-board}
 use Rattle.network.specs.declared.Network.{Network}
 use Rattle.folding.specs.Merge.{Edge, edge, distinct, narrow, agreesAt}
 use Rattle.folding.specs.AlignedLaws.{EdgeOk}
@@ -73,7 +74,7 @@ module _ (r : Network) (s : soundRecord r ≡ true) (u v : ℕ) where
     -- u feeds v
     module _ (none : n ≡ 0) where
       abbrev fed : Edge
-      fed = edgeIn (r .fanins) (r .thresholds) (r .signals) (r .weights) (r .inputs) u v
+      fed = edgeIn (r .board) (r .fanins) (r .thresholds) (r .signals) (r .weights) (r .inputs) u v
 
       pub feeds-joined : {f : DistinctFeeds} → f ≡ feedsOn (alignmentOf fed) → f ≡ distinctFeeds r u v
       feeds-joined h = h ∙ feeds-on fed ∙ sym (feeds-call r u v ∙ ap asFeeds (call-joined r s u v n same none feedsOf))
@@ -104,5 +105,5 @@ disagreeing-edge r u v k l e = test-case (soundRecord r) sound-one broken-one
               absurd (apart-other r s u v n refl other (sym (ap (λ (c : Changed). c .code) (merge-apart r s u v n refl other k l)) ∙ e))
           | no h ↦
               let none : n ≡ 0 = omega (arith, h) in
-              subst EdgeOk (here-is r s u v n refl none) (joined-ok (lent-of r t) (apart-none r s u v n refl none))
+              subst EdgeOk (here-is r s u v n refl none) (joined-ok (lent-of r t) (apart-none r s u v n refl none) (sound-board r s))
         ]

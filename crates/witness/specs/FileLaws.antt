@@ -17,7 +17,7 @@ use Rattle.network.specs.Record.{netOf, layout}
 use Rattle.network.specs.RecordLaws.{netOf-layout}
 use Rattle.network.specs.declared.Network.{Network}
 use Rattle.folding.specs.Merge.{edge, reads, distinct, agreesAt, narrow, feedTests, merge}
-use Rattle.folding.specs.StepLaws.{narrow-few}
+use Rattle.folding.specs.LimitLaws.{narrow-few}
 use Rattle.opening.specs.Files.{openNet}
 use Rattle.opening.specs.Places.{answerOf}
 use Rattle.opening.specs.Opening.{FileOpen}

@@ -1,12 +1,12 @@
 -- What the parts of the two calls promise, on two gates by their distinct feeds: needed by proofs only, no public call cites it. Nothing
 -- is proved here.
 use mathlib.Core.Bool.{cond}
-use mathlib.Core.List.{List, _∷_}
+use mathlib.Core.List.{List, [], _∷_}
 use Prim.Native.Nat.{ℕ, _^_}
 use lib.Dec.{leb}
 use lib.ListN.{take}
-use Rattle.integers.specs.Refusals.{refused}
-use Rattle.folding.specs.Aligned.{agreesOn}
+use Rattle.integers.specs.Refusals.{refused, _else_}
+use Rattle.folding.specs.Aligned.{agreesOn, clearsOn, clearsAll}
 use Rattle.alignment.specs.Alignments.{alignedIn}
 use Rattle.alignment.specs.declared.Alignment.{Alignment}
 use Rattle.merging.specs.Codes.{firstFailing, settingTests, mergeTestsOn}
@@ -19,11 +19,15 @@ use Rattle.witness.specs.Feeds.{asFeeds}
 unfoldable pub noWitness : ℕ → Witnessed
 noWitness code = record { code = code; setting = 0 }
 
--- a witness of two gates, with 15 or 0
+-- a setting of two gates on which the merged gate is not clear, with 15, or 0
 abbrev pub FewestOn : Alignment → ℕ → ℕ → Witnessed → Type 0
-FewestOn a k l w = Shows (firstFailing (settingTests (alignedIn a) k l)) (2 ^ a .count) (agreesOn (alignedIn a) k l) w
+FewestOn a k l w = Shows (firstFailing ((clearsAll (alignedIn a) k l else 15) ∷ [])) (2 ^ a .count) (clearsOn (alignedIn a) k l) w
 
--- with 14, 7 and 6 before
+-- a witness of two gates, with 15 or 0
+abbrev pub DiffersOn : Alignment → ℕ → ℕ → Witnessed → Type 0
+DiffersOn a k l w = Shows (firstFailing (settingTests (alignedIn a) k l)) (2 ^ a .count) (agreesOn (alignedIn a) k l) w
+
+-- with 14, 7, 6 and 24 before
 abbrev pub WitnessOn : Alignment → ℕ → ℕ → Witnessed → Type 0
 WitnessOn a k l w = Shows (firstFailing (mergeTestsOn a k l)) (2 ^ a .count) (agreesOn (alignedIn a) k l) w
 

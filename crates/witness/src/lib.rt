@@ -29,7 +29,8 @@ pub struct DistinctFeeds {
 
 // For a merge that is refused with 15, a setting of the distinct feeds on which the merged gate and the composed pair differ, with
 // as few ones as any such setting has; bit i is distinct feed i. Nothing is merged. The number is the merge's: 0 accepted, 20 broken
-// record, 11 no such gate, 12 not a feed, 14 off the dial, 7 too wide, 6 off the scale, 15 disagrees.
+// record, 11 no such gate, 12 not a feed, 14 off the dial, 7 too wide, 6 off the scale, 24 broken margin,
+// 15 disagrees.
 pub fn witness(network: Network, u: usize, v: usize, k: usize, l: usize) -> Witnessed
     ensures { λ r. ⌜ WitnessOf network u v k l r ⌝ }
 {
@@ -51,7 +52,9 @@ pub fn witness(network: Network, u: usize, v: usize, k: usize, l: usize) -> Witn
     if apart != 0 {
         return none(apart);
     }
+    let board = network.board;
     let a = aligned_at(
+        board,
         &network.fanins,
         &network.thresholds,
         &network.signals,
@@ -87,7 +90,9 @@ pub fn distinct_feeds(network: Network, u: usize, v: usize) -> DistinctFeeds
     if apart != 0 {
         return no_feeds(apart);
     }
+    let board = network.board;
     let a = aligned_at(
+        board,
         &network.fanins,
         &network.thresholds,
         &network.signals,

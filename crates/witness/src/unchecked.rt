@@ -1,8 +1,9 @@
 // The witness of two gates by their distinct feeds, and the list of these feeds. The caller has tested what each call asks for.
 use crate::DistinctFeeds;
 use crate::Witnessed;
-use agreement::unchecked::agrees_low;
+use agreement::unchecked::clears_low;
 use agreement::unchecked::low_thresholds;
+use agreement::unchecked::without_margins;
 use alignment::Alignment;
 use integers::wide;
 use merging::unchecked::merges::limit_code;
@@ -26,8 +27,8 @@ pub fn none(code: u8) -> Witnessed
     Witnessed { code, setting: 0 }
 }
 
-// In one pass over the settings: 15 and one with the fewest ones of those that differ, or 0 if none differs. `least` is the fewest ones
-// so far, 17 while nothing differs. The ones of a setting are counted before it is tested; where those of a high half alone are not
+// In one pass over the settings: 15 and one with the fewest ones of those that are not clear, or 0 if all are. `least` is the fewest ones
+// so far, 17 while every setting was clear. The ones of a setting are counted before it is tested; where those of a high half alone are not
 // fewer, it is passed over.
 fn fewest(a: Alignment, sums_u: &[i32; 512], sums_v: &[i32; 512], k: usize, l: usize) -> Witnessed
     requires { ⌜ Mergeable a k l ⌝ }
@@ -52,7 +53,7 @@ fn fewest(a: Alignment, sums_u: &[i32; 512], sums_v: &[i32; 512], k: usize, l: u
             if least <= ones {
                 continue;
             }
-            if agrees_low(sums_u, sums_v, reach, k, l, low) {
+            if clears_low(sums_u, sums_v, reach, k, l, low) {
                 continue;
             }
             least = ones;
@@ -68,7 +69,18 @@ fn fewest(a: Alignment, sums_u: &[i32; 512], sums_v: &[i32; 512], k: usize, l: u
     }
 }
 
-// The witness of two gates with k and l: the first refusal among 14, 7, 6 and 15, and a setting with 15; 0 if there is none.
+// The same from the two gates alone.
+fn fewest_of(a: Alignment, k: usize, l: usize) -> Witnessed
+    requires { ⌜ Mergeable a k l ⌝ }
+    ensures { λ r. ⌜ FewestOn a k l r ⌝ }
+{
+    let sums_u = table(&a.us);
+    let sums_v = table(&a.vs);
+    fewest(a, &sums_u, &sums_v, k, l)
+}
+
+// The witness of two gates with k and l: the first refusal among 14, 7, 6, 24 and 15, and a setting with 15; 0 if there is none. Margins
+// are tested before the settings, and play no part in them.
 pub fn witness_of(a: Alignment, k: usize, l: usize) -> Witnessed
     requires { ⌜ Fair a ⌝ }
     ensures { λ r. ⌜ WitnessOn a k l r ⌝ }
@@ -77,9 +89,7 @@ pub fn witness_of(a: Alignment, k: usize, l: usize) -> Witnessed
     if code != 0 {
         return none(code);
     }
-    let sums_u = table(&a.us);
-    let sums_v = table(&a.vs);
-    fewest(a, &sums_u, &sums_v, k, l)
+    fewest_of(without_margins(a), k, l)
 }
 
 // A refusal: no feeds.

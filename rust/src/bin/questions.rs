@@ -3,8 +3,8 @@
 //!
 //!     questions FOLDER COUNT
 use std::{env, fs, path::Path};
-use yovrenik_tests::generate::{chain, inverters, network, Random};
-use yovrenik_tests::reference::{self, Net};
+use yovrenik_tests::generate::{chain, inverters, network, on_some_board, Random};
+use yovrenik_tests::reference::{self, Board, Net};
 use yovrenik_tests::{line, run, LONGEST_FILE};
 
 /// The text of the library's question for two files.
@@ -36,9 +36,9 @@ fn swept(file: &[u8]) -> Vec<u8> {
     out
 }
 
-/// The network with one threshold moved by one.
+/// The network with one threshold moved by one, in a file of version 1, since it may break the margins.
 fn moved(r: &mut Random, net: &Net) -> Net {
-    let mut other = net.clone();
+    let mut other = Net { board: Board::VERSION_1, ..net.clone() };
     let g = r.below(net.gates.len() as u64) as usize;
     let step = if r.below(2) == 0 { 1 } else { -1 };
     let t = other.gates[g].threshold + step;
@@ -86,6 +86,7 @@ fn main() {
         if net.inputs > 12 {
             continue;
         }
+        let net = on_some_board(&mut r, net);
         let after = reference::read(&swept(&reference::write(&net))).unwrap();
         store(folder, number, &net, &after);
         store(folder, number + 1, &net, &moved(&mut r, &after));

@@ -10,8 +10,10 @@ use yovrenik_tests::{frames, line};
 /// With as many, the largest files take about ten seconds.
 const MOST_INPUTS: u8 = 24;
 
-/// The place of the number of inputs in a file.
-const INPUTS: usize = 5;
+/// The number of inputs of a file that is read: the first count, which in version 2 stands after the margins.
+fn inputs(file: &[u8]) -> u8 {
+    file[if file[3] == 2 { 7 } else { 5 }]
+}
 
 /// The output bits on up to 64 frames, by the library.
 fn words(file: &[u8], run: &[u64]) -> [u64; 64] {
@@ -32,7 +34,7 @@ fn ways(first: &[u8], second: &[u8]) -> Result<u64, String> {
     if code != 0 {
         return Err(format!("refused {code}"));
     }
-    let inputs = first[INPUTS];
+    let inputs = inputs(first);
     if inputs > MOST_INPUTS {
         return Err(format!("too many inputs: {inputs}, at most {MOST_INPUTS}"));
     }

@@ -8,6 +8,7 @@ use Rattle.network.specs.Threshold.{Gate}
 use Rattle.network.specs.Changes.{withGate}
 use Rattle.network.specs.Record.{netOf, layout, soundRecord, gateIn, gateRecord}
 use Rattle.network.specs.declared.Network.{Network}
+use Rattle.network.specs.SoundLaws.{sound-board}
 use Rattle.folding.specs.Merge.{Edge, merged}
 use Rattle.folding.specs.AlignedLaws.{EdgeOk}
 use Rattle.alignment.specs.Alignments.{mergedOf, Fair, Mergeable}
@@ -55,7 +56,7 @@ abbrev sound : tie.Else2 → tie.Else1
 sound c = c .before .before .before .before .before .before .before
 
 abbrev edge : tie.Start → Edge
-edge s = let r = s .args .t1 in edgeIn (r .fanins) (r .thresholds) (r .signals) (r .weights) (r .inputs) (s .args .u) (s .args .v)
+edge s = let r = s .args .t1 in edgeIn (r .board) (r .fanins) (r .thresholds) (r .signals) (r .weights) (r .inputs) (s .args .u) (s .args .v)
 
 joined : (c : tie.Else2) → let a = sound c .before .before .args in Joined (a .t1 .fanins) (a .t1 .thresholds) (a .t1 .signals) (a .t1 .weights) (a .t1 .inputs) (a .t1 .gates) (a .u) (a .v)
 joined c =
@@ -63,14 +64,14 @@ joined c =
     apart-none (a .t1) (tested (sound c)) (a .u) (a .v) _ (c .before .edge-code .ensures) (c .if2 .left)
 
 edge-ok : (c : tie.Else2) → EdgeOk (edge (sound c .before .before))
-edge-ok c = joined-ok (lent (sound c)) (joined c)
+edge-ok c = joined-ok (lent (sound c)) (joined c) (sound-board _ (tested (sound c)))
 
 aligned-at-requires : tie.Need-aligned-at-requires
-aligned-at-requires c κs = let t = c .before .before .before .before .before in (lent (sound t), joined t)
+aligned-at-requires c κs = let t = c .before .before .before .before .before .before in (lent (sound t), (joined t, sound-board _ (tested (sound t))))
 
 -- the two gates by their distinct feeds
 abbrev fed : tie.After-aligned-at → tie.Else2
-fed c = c .before .before .before .before .before .before
+fed c = c .before .before .before .before .before .before .before
 
 merge-code-requires : tie.Need-merge-code-requires
 merge-code-requires c κs = subst Fair (sym (c .aligned-at .ensures)) (aligned-fair _ (edge-ok (fed c)))

@@ -4,6 +4,7 @@ use mathlib.Core.Bool.{true}
 use borrow.Author.Tests.{not-true, not-false}
 use Rattle.integers.specs.TestLaws.{T-is}
 use Rattle.network.specs.Record.{soundRecord}
+use Rattle.network.specs.SoundLaws.{sound-board}
 use Rattle.folding.specs.Merge.{Edge}
 use Rattle.folding.specs.AlignedLaws.{EdgeOk}
 use Rattle.alignment.specs.Alignments.{Fair}
@@ -28,7 +29,8 @@ no-pair-requires c κs = search needs
 returns : tie.Need-returns
 returns c =
     let s = c .before .before in
-    c .no-pair .ensures ∙ sym (pair-broken (s .before .args .t1) (sym (s .is-sound .ensures) ∙ not-true _ (c .before .if1 .taken)) (s .before .args .u) (s .before .args .v))
+    c .no-pair .ensures
+    ∙ sym (pair-broken (s .before .args .t1) (sym (s .is-sound .ensures) ∙ not-true _ (c .before .if1 .taken)) (s .before .args .u) (s .before .args .v))
 
 -- past the first test the record is sound, and lends its arrays
 tested : (c : tie.Else1) → soundRecord (c .before .before .args .t1) ≡ true
@@ -55,27 +57,29 @@ abbrev sound : tie.Else2 → tie.Else1
 sound c = c .before .before .before .before .before .before .before
 
 abbrev here : tie.Else2 → Edge
-here c = let a = sound c .before .before .args in edgeIn (a .t1 .fanins) (a .t1 .thresholds) (a .t1 .signals) (a .t1 .weights) (a .t1 .inputs) (a .u) (a .v)
+here c = let a = sound c .before .before .args in
+    edgeIn (a .t1 .board) (a .t1 .fanins) (a .t1 .thresholds) (a .t1 .signals) (a .t1 .weights) (a .t1 .inputs) (a .u) (a .v)
 
-joined : (c : tie.Else2) → let a = sound c .before .before .args in Joined (a .t1 .fanins) (a .t1 .thresholds) (a .t1 .signals) (a .t1 .weights) (a .t1 .inputs) (a .t1 .gates) (a .u) (a .v)
+joined : (c : tie.Else2) → let a = sound c .before .before .args in
+    Joined (a .t1 .fanins) (a .t1 .thresholds) (a .t1 .signals) (a .t1 .weights) (a .t1 .inputs) (a .t1 .gates) (a .u) (a .v)
 joined c =
     let a = sound c .before .before .args in
     apart-none (a .t1) (tested (sound c)) (a .u) (a .v) _ (c .before .edge-code .ensures) (c .if2 .left)
 
 edge-ok : (c : tie.Else2) → EdgeOk (here c)
-edge-ok c = joined-ok (lent (sound c)) (joined c)
+edge-ok c = joined-ok (lent (sound c)) (joined c) (sound-board _ (tested (sound c)))
 
 aligned-at-requires : tie.Need-aligned-at-requires
-aligned-at-requires c κs = let t = c .before .before .before .before .before in (lent (sound t), joined t)
+aligned-at-requires c κs = let t = c .before .before .before .before .before .before in (lent (sound t), (joined t, sound-board _ (tested (sound t))))
 
 pair-of-requires : tie.Need-pair-of-requires
 pair-of-requires c κs =
-    let t = c .before .before .before .before .before .before in
+    let t = c .before .before .before .before .before .before .before in
     subst Fair (sym (c .aligned-at .ensures)) (aligned-fair (here t) (edge-ok t))
 
 returns-3 : tie.Need-returns-3
 returns-3 c =
-    let t = c .before .before .before .before .before .before .before in
+    let t = c .before .before .before .before .before .before .before .before in
     let a = sound t .before .before .args in
     c .pair-of .ensures
     ∙ ap asPair (ap pairOn (c .before .aligned-at .ensures) ∙ pair-on (here t) (edge-ok t))

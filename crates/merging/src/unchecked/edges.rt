@@ -3,9 +3,12 @@
 use crate::unchecked::readers::reads_gate;
 use alignment::Alignment;
 use alignment::unchecked::align;
+use network::Board;
 use network::soundness::is_gate;
 use places::unchecked::gate_at;
 ghost use mathlib.Core.Path.{_≡_};
+ghost use lib.Dec.{T};
+ghost use Rattle.network.specs.Limits.{boardOk};
 ghost use Rattle.folding.specs.Merge.{onDial};
 ghost use Rattle.alignment.specs.Alignments.{alignmentOf};
 ghost use Rattle.merging.specs.Lent.{edgeIn, Lent, Joined};
@@ -35,8 +38,9 @@ pub fn edge_code<'a>(
     0
 }
 
-// Gates u and v by their distinct feeds.
+// Gates u and v by their distinct feeds, on a sound board.
 pub fn aligned_at<'a>(
+    board: Board,
     fanins: &'a [u8; 128],
     thresholds: &'a [i32; 128],
     signals: &'a [u8; 2048],
@@ -48,11 +52,12 @@ pub fn aligned_at<'a>(
 ) -> Alignment
     requires { ⌜ Lent (now fanins) (now thresholds) (now signals) (now weights) inputs gates ⌝ }
     requires { ⌜ Joined (now fanins) (now thresholds) (now signals) (now weights) inputs gates u v ⌝ }
-    ensures { λ r. ⌜ r ≡ alignmentOf (edgeIn (now (fanins .entry)) (now (thresholds .entry)) (now (signals .entry)) (now (weights .entry)) inputs u v) ⌝ }
+    requires { ⌜ T (boardOk board) ⌝ }
+    ensures { λ r. ⌜ r ≡ alignmentOf (edgeIn board (now (fanins .entry)) (now (thresholds .entry)) (now (signals .entry)) (now (weights .entry)) inputs u v) ⌝ }
 {
     let gate_u = gate_at(fanins, thresholds, signals, weights, u - inputs);
     let gate_v = gate_at(fanins, thresholds, signals, weights, v - inputs);
-    align(gate_u, gate_v, u, v)
+    align(board, gate_u, gate_v, u, v)
 }
 
 // Whether a multiplier is on the dial.

@@ -1,11 +1,13 @@
 -- A number of 0 says that the file is that of a network with the gate; its count bytes lead to the gate's bytes.
 use borrow.Author.Needs.{needs}
 use native.Mathlib.Omega.{arith}
-use mathlib.Core.Path.{_≡_, sym, _∙_}
-use Prim.Native.Nat.{_-_}
+use mathlib.Core.Path.{_≡_, sym, ap, _∙_}
+use Prim.Native.Nat.{ℕ, _-_}
+use lib.ListN.{getD}
 use Rattle.format.specs.Part.{partAnswer}
 use Rattle.format.specs.LengthLaws.{bytes-of}
-use Rattle.pmn.proofs.PartFiles.{PartFile, no-part, part-file, inputs-at, long, gate-file, part-is}
+use Rattle.format.specs.PartLaws.{firstStart}
+use Rattle.pmn.proofs.PartFiles.{PartFile, no-part, part-file, inputs-there, long, starts, gate-file, part-is}
 use Rattle.pmn.proofs.gate_part.Statement.{statement}
 use Rattle.pmn.proofs.gate_part.Tie as tie
 
@@ -24,23 +26,43 @@ file-of c =
     let a = c .before .before .before .args in
     part-file (a .file .now) (a .signal) (bytes-of (a .file .now) (λ i. c .before .before .shared-slice-known .given i .fits)) (sym (c .before .gate-part-code .ensures) ∙ c .if1 .left)
 
-place : (c : tie.After-wide) → c .before .before .before .before .before .args .signal - c .wide .result ≡ c .before .before .before .before .before .args .signal - file-of (c .before .before) .net .inputs
-place c = rw (c .wide .ensures .0, inputs-at (file-of (c .before .before)))
+-- the header's length, and the inputs
+start-is : (c : tie.After-header-length) → c .header-length .result ≡ firstStart (c .before .before .before .before .before .args .file .now)
+start-is c = c .header-length .ensures
+
+inputs-is : (c : tie.After-wide) → c .wide .result ≡ file-of (c .before .before .before .before) .net .inputs
+inputs-is c =
+    let at-start = c .before .before in
+    let s = at-start .before .before .before .before .before .args .file .now in
+    c .wide .ensures .0 ∙ ap (λ (k : ℕ). getD s (k - 3) 0) (start-is at-start) ∙ inputs-there (file-of (at-start .before .before))
+
+place : (c : tie.After-wide) → let x = c .before .before .before .before .before .before .before .args .signal in
+    x - c .wide .result ≡ x - file-of (c .before .before .before .before) .net .inputs
+place c = let x = c .before .before .before .before .before .before .before .args .signal in ap (λ (k : ℕ). x - k) (inputs-is c)
+
+shared-slice-read-header-length : tie.Need-shared-slice-read-header-length
+shared-slice-read-header-length c = omega (arith, long (file-of (c .before)))
+
+header-length-requires : tie.Need-header-length-requires
+header-length-requires c κs = search needs
+
+sub-wide : tie.Need-sub-wide
+sub-wide c = omega (arith, start-is c, starts (file-of (c .before .before)))
 
 shared-slice-read-wide : tie.Need-shared-slice-read-wide
-shared-slice-read-wide c = omega (arith, long (file-of (c .before)))
+shared-slice-read-wide c = omega (arith, start-is (c .before), starts (file-of (c .before .before .before)))
 
 wide-requires : tie.Need-wide-requires
 wide-requires c κs = search needs
 
 sub-gate-bytes : tie.Need-sub-gate-bytes
-sub-gate-bytes c = omega (arith, c .wide .ensures .0, inputs-at (file-of (c .before .before)), file-of (c .before .before) .has)
+sub-gate-bytes c = omega (arith, inputs-is c, file-of (c .before .before .before .before) .has)
 
 gate-bytes-requires : tie.Need-gate-bytes-requires
-gate-bytes-requires c κs = gate-file (file-of (c .before .before)) (place c)
+gate-bytes-requires c κs = gate-file (file-of (c .before .before .before .before)) (place c)
 
 returns-2 : tie.Need-returns-2
-returns-2 c = c .gate-bytes .ensures ∙ part-is (file-of (c .before .before .before)) (place (c .before))
+returns-2 c = c .gate-bytes .ensures ∙ part-is (file-of (c .before .before .before .before .before)) (place (c .before))
 
 pub gate-part-spec : {M : Type 1} → statement M
 gate-part-spec =
@@ -49,6 +71,9 @@ gate-part-spec =
     gate-part-code-requires
     slice-aggregate-result
     returns
+    shared-slice-read-header-length
+    header-length-requires
+    sub-wide
     shared-slice-read-wide
     wide-requires
     sub-gate-bytes

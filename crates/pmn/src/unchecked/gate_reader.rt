@@ -1,16 +1,21 @@
-// Reading one gate at a place of a file: its feed count, its threshold, then its feeds. A code of 0 says that it was read, and that
+// Reading one gate at a place of a file: its feed count, its threshold, its feeds, then its margins. A code of 0 says that it was read, and that
 // its bytes end before `next`; any other code is the refusal.
 use integers::unchecked::get_int;
 use integers::wide;
+use network::Board;
 use network::GateRecord;
 use network::soundness::in_scale;
 use network::soundness::weight_sound;
+use network::unchecked::gate_keeps;
 ghost use mathlib.Core.Path.{_≡_};
 ghost use mathlib.Core.List.{[]};
 ghost use Prim.Native.Nat.{_≤_};
+ghost use lib.Dec.{T};
 ghost use lib.ListN.{length, drop};
+ghost use Rattle.network.specs.Limits.{inScale};
 ghost use Rattle.network.specs.Record.{gateRecord};
 ghost use Rattle.format.specs.Format.{parseFeeds, parseGate};
+ghost use Rattle.format.specs.AtLaws.{parseKept};
 ghost use Rattle.pmn.specs.Seen.{FeedSeen, Seen, rowOf};
 
 // A feed, or the refusal.
@@ -107,9 +112,53 @@ fn read_feeds(file: &[u8], start: usize, own: usize, fanin: u8, threshold: i32) 
     }
 }
 
+// The same, and that the gate keeps the margins.
+fn read_tested(
+    file: &[u8],
+    start: usize,
+    own: usize,
+    fanin: u8,
+    threshold: i32,
+    board: Board,
+) -> GateRead
+    requires { ⌜ (start ≤ length (now file)) × (fanin ≤ 16) × T (inScale threshold) ⌝ }
+    ensures { λ r. ⌜ Seen gateRecord (now (file .entry)) (parseKept board own fanin threshold (drop start (now (file .entry))))
+        (r .code) (r .next) (r .gate) ⌝ }
+{
+    let read = read_feeds(file, start, own, fanin, threshold);
+    let code = read.code;
+    if code != 0 {
+        return no_gate(code);
+    }
+    let gate = read.gate;
+    if !gate_keeps(gate, board) {
+        return no_gate(24);
+    }
+    read
+}
+
+// The same, where the margins of version 1 need no test.
+fn read_kept(
+    file: &[u8],
+    start: usize,
+    own: usize,
+    fanin: u8,
+    threshold: i32,
+    board: Board,
+) -> GateRead
+    requires { ⌜ (start ≤ length (now file)) × (fanin ≤ 16) × T (inScale threshold) ⌝ }
+    ensures { λ r. ⌜ Seen gateRecord (now (file .entry)) (parseKept board own fanin threshold (drop start (now (file .entry))))
+        (r .code) (r .next) (r .gate) ⌝ }
+{
+    if (board.on == 0) & (board.off == 1) {
+        return read_feeds(file, start, own, fanin, threshold);
+    }
+    read_tested(file, start, own, fanin, threshold, board)
+}
+
 // The gate with signal own at a place.
-pub fn read_gate(file: &[u8], at: usize, own: usize) -> GateRead
-    ensures { λ r. ⌜ Seen gateRecord (now (file .entry)) (parseGate own (drop at (now (file .entry)))) (r .code) (r .next) (r .gate) ⌝ }
+pub fn read_gate(file: &[u8], at: usize, own: usize, board: Board) -> GateRead
+    ensures { λ r. ⌜ Seen gateRecord (now (file .entry)) (parseGate board own (drop at (now (file .entry)))) (r .code) (r .next) (r .gate) ⌝ }
 {
     if file.len() <= at {
         return no_gate(4);
@@ -125,5 +174,5 @@ pub fn read_gate(file: &[u8], at: usize, own: usize) -> GateRead
     if !in_scale(threshold) {
         return no_gate(6);
     }
-    read_feeds(file, at + 5, own, fanin, threshold)
+    read_kept(file, at + 5, own, fanin, threshold, board)
 }

@@ -1,5 +1,5 @@
 // The bytes of one gate in its file, found by the file's own count bytes.
-use format::HEADER_LENGTH;
+use format::header_length;
 use integers::wide;
 ghost use mathlib.Core.Path.{_≡_};
 ghost use Rattle.format.specs.PartLaws.{startBy, GateFile};
@@ -10,7 +10,7 @@ fn gate_start(file: &[u8], g: usize) -> usize
     requires { ⌜ GateFile (now file) g ⌝ }
     ensures { λ r. ⌜ r ≡ startBy (now (file .entry)) g ⌝ }
 {
-    let mut at: usize = HEADER_LENGTH;
+    let mut at = header_length(file[3]);
     let mut i: usize = 0;
     while i < g {
         at += 5 + 5 * wide(file[at]);

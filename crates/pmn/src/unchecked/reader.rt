@@ -1,28 +1,20 @@
-// Reading the parts of a file: the header, the gates, the outputs, and the network that they make. A code of 0 says that the part was
+// Reading what follows the header of a file: the gates, the outputs, and the network that they make. A code of 0 says that the part was
 // read, and that the next one starts at `next`; any other code is the refusal.
 use super::gate_reader::read_gate;
+use super::head_reader::HeadRead;
 use crate::Loaded;
-use format::HEADER_LENGTH;
 use integers::wide;
+use network::Board;
 use network::Network;
 use network::blank;
-use network::soundness::counts_sound;
 use places::unchecked::store_gate;
 ghost use mathlib.Core.Path.{_≡_};
 ghost use mathlib.Core.List.{[]};
 ghost use Prim.Native.Nat.{_≤_};
 ghost use lib.ListN.{length, drop};
-ghost use Rattle.format.specs.Format.{headerLength, refused, parseGates, parseOutputs, parseBody};
+ghost use Rattle.format.specs.Format.{refused, parseGates, parseOutputs};
 ghost use Rattle.pmn.specs.Answers.{asLoaded};
-ghost use Rattle.pmn.specs.Seen.{Header, HeadSeen, Seen, gatesRecord, outputPlaces};
-
-// The counts of a header.
-pub struct HeadRead {
-    pub code: u8,
-    pub inputs: usize,
-    pub gates: usize,
-    pub outputs: usize,
-}
+ghost use Rattle.pmn.specs.Seen.{Header, bodyAfter, Seen, gatesRecord, outputPlaces};
 
 // The gates, as the record of a network that has no outputs.
 pub struct GatesRead {
@@ -38,47 +30,6 @@ pub struct OutputsRead {
     pub drivers: [u8; 16],
 }
 
-// The answer for a header that is refused.
-fn no_head(code: u8) -> HeadRead
-    ensures { λ r. ⌜ r .code ≡ code ⌝ }
-{
-    HeadRead {
-        code,
-        inputs: 0,
-        gates: 0,
-        outputs: 0,
-    }
-}
-
-// The header.
-pub fn read_head(file: &[u8]) -> HeadRead
-    ensures { λ r. ⌜ HeadSeen (now (file .entry)) (r .code) (r .inputs) (r .gates) (r .outputs) ⌝ }
-{
-    if file.len() < HEADER_LENGTH {
-        return no_head(1);
-    }
-    let mark = (file[0] == 80) & ((file[1] == 77) & (file[2] == 78));
-    if !mark {
-        return no_head(1);
-    }
-    let version = (file[3] == 1) & (file[4] == 0);
-    if !version {
-        return no_head(2);
-    }
-    let inputs = wide(file[5]);
-    let gates = wide(file[6]);
-    let outputs = wide(file[7]);
-    if !counts_sound(inputs, gates, outputs) {
-        return no_head(3);
-    }
-    HeadRead {
-        code: 0,
-        inputs,
-        gates,
-        outputs,
-    }
-}
-
 // The answer for gates that are refused.
 fn no_gates(code: u8) -> GatesRead
     ensures { λ r. ⌜ (r .code ≡ code) × (r .next ≡ 0) ⌝ }
@@ -91,10 +42,11 @@ fn no_gates(code: u8) -> GatesRead
     }
 }
 
-// The gates, from a place on, of a network with so many inputs and gates.
-pub fn read_gates(file: &[u8], start: usize, inputs: usize, gates: usize) -> GatesRead
+// The gates, from a place on, of a network with this board and so many inputs and gates.
+pub fn read_gates(file: &[u8], start: usize, board: Board, inputs: usize, gates: usize) -> GatesRead
     requires { ⌜ (start ≤ length (now file)) × (inputs ≤ 40) × (gates ≤ 128) ⌝ }
-    ensures { λ r. ⌜ Seen (gatesRecord inputs) (now (file .entry)) (parseGates inputs gates [] (drop start (now (file .entry)))) (r .code) (r .next) (r .network) ⌝ }
+    ensures { λ r. ⌜ Seen (gatesRecord board inputs) (now (file .entry)) (parseGates board inputs gates [] (drop start (now (file .entry))))
+        (r .code) (r .next) (r .network) ⌝ }
 {
     let mut fanins = [0u8; 128];
     let mut signals = [0u8; 2048];
@@ -103,7 +55,7 @@ pub fn read_gates(file: &[u8], start: usize, inputs: usize, gates: usize) -> Gat
     let mut at = start;
     let mut g: usize = 0;
     while g < gates {
-        let r = read_gate(file, at, inputs + g);
+        let r = read_gate(file, at, inputs + g, board);
         let code = r.code;
         if code != 0 {
             return no_gates(code);
@@ -122,6 +74,7 @@ pub fn read_gates(file: &[u8], start: usize, inputs: usize, gates: usize) -> Gat
     }
     let drivers = [0u8; 16];
     let network = Network {
+        board,
         inputs,
         gates,
         outputs: 0,
@@ -187,17 +140,20 @@ pub fn refuse(code: u8) -> Loaded
     Loaded { code, network }
 }
 
-// What follows the header of a file with so many inputs, gates and outputs.
-pub fn read_body(file: &[u8], inputs: usize, gates: usize, outputs: usize) -> Loaded
-    requires { ⌜ Header (now file) inputs gates outputs ⌝ }
-    ensures { λ r. ⌜ r ≡ asLoaded (parseBody inputs gates outputs (drop headerLength (now (file .entry)))) ⌝ }
+// What follows the header of a file.
+pub fn read_body(file: &[u8], head: HeadRead) -> Loaded
+    requires { ⌜ Header (now file) head ⌝ }
+    ensures { λ r. ⌜ r ≡ asLoaded (bodyAfter (now (file .entry)) head) ⌝ }
 {
-    let gates_read = read_gates(file, HEADER_LENGTH, inputs, gates);
+    let board = head.board;
+    let inputs = head.inputs;
+    let gates = head.gates;
+    let gates_read = read_gates(file, head.next, board, inputs, gates);
     let code = gates_read.code;
     if code != 0 {
         return refuse(code);
     }
-    let outputs_read = read_outputs(file, gates_read.next, inputs, inputs + gates, outputs);
+    let outputs_read = read_outputs(file, gates_read.next, inputs, inputs + gates, head.outputs);
     let code = outputs_read.code;
     if code != 0 {
         return refuse(code);
@@ -207,7 +163,7 @@ pub fn read_body(file: &[u8], inputs: usize, gates: usize, outputs: usize) -> Lo
     }
     let mut network = gates_read.network;
     let drivers = outputs_read.drivers;
-    network.outputs = outputs;
+    network.outputs = head.outputs;
     network.drivers = drivers;
     Loaded { code: 0, network }
 }

@@ -1,9 +1,10 @@
-// Settings on which a candidate's two bits are likely to differ. What is tried first needs no promise but that it is a setting: nothing
-// here decides an answer.
-use agreement::unchecked::agrees_at;
+// Settings on which a candidate's two bits are likely to differ, or its margins to be broken. What is tried first needs no promise but that
+// it is a setting: nothing here decides an answer.
+use agreement::unchecked::clears_at;
 use agreement::unchecked::composed_bit;
 use agreement::unchecked::low_thresholds;
-use agreement::unchecked::merged_threshold;
+use agreement::unchecked::lower_threshold;
+use agreement::unchecked::upper_threshold;
 use alignment::unchecked::mixed;
 use folding::Thresholds;
 use sums::unchecked::high_feeds;
@@ -73,26 +74,28 @@ fn mixed_sums(
     mixes
 }
 
-// Whether the two bits differ on a setting of the low half, all of them tried at once: no turn leaves the loop.
+// Whether the two bits differ, or the margins are broken, on a setting of the low half, all of them tried at once: no turn leaves the loop.
 fn differs_within(
     sums_u: &[i32; 512],
     sums_v: &[i32; 512],
     mixes: &[i32; 256],
     thresholds: Thresholds,
-    bar: i32,
+    upper: i32,
+    lower: i32,
     lows: usize,
 ) -> bool
     requires { ⌜ lows ≤ 256 ⌝ }
 {
     let mut differs = false;
     for low in 0..lows {
-        differs = differs
-            | ((mixes[low] >= bar) != composed_bit(thresholds, sums_u[low], sums_v[low]));
+        let one = composed_bit(thresholds, sums_u[low], sums_v[low]);
+        let sum = mixes[low];
+        differs = differs | (one & (sum < upper)) | (!one & (lower < sum));
     }
     differs
 }
 
-// A setting of the high half with which the two bits differ, the search going outwards from `nearest`; that one, if none was found.
+// A setting of the high half with which this is so, the search going outwards from `nearest`; that one, if none was found.
 fn likely_high_half(
     sums_u: &[i32; 512],
     sums_v: &[i32; 512],
@@ -116,15 +119,16 @@ fn likely_high_half(
     for step in 0..highs {
         let high = step ^ nearest;
         let reach = low_thresholds(sums_u, sums_v, thresholds, high);
-        let bar = merged_threshold(reach, k, l);
-        if differs_within(sums_u, sums_v, &mixes, reach, bar, lows) {
+        let upper = upper_threshold(reach, k, l);
+        let lower = lower_threshold(reach, k, l);
+        if differs_within(sums_u, sums_v, &mixes, reach, upper, lower, lows) {
             return high;
         }
     }
     nearest
 }
 
-// A setting on which the two bits are likely to differ.
+// A setting on which the two bits are likely to differ, or the margins to be broken.
 pub fn likely_difference(
     sums_u: &[i32; 512],
     sums_v: &[i32; 512],
@@ -144,7 +148,7 @@ pub fn likely_difference(
     let high = likely_high_half(sums_u, sums_v, thresholds, k, l, count, last / 256);
     let lows = settings(count - high_feeds(count));
     for low in 0..lows {
-        if !agrees_at(sums_u, sums_v, thresholds, k, l, 256 * high + low) {
+        if !clears_at(sums_u, sums_v, thresholds, k, l, 256 * high + low) {
             return 256 * high + low;
         }
     }

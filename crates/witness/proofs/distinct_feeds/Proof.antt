@@ -4,6 +4,7 @@ use mathlib.Core.Bool.{true}
 use borrow.Author.Tests.{not-true, not-false}
 use Rattle.integers.specs.TestLaws.{T-is}
 use Rattle.network.specs.Record.{soundRecord}
+use Rattle.network.specs.SoundLaws.{sound-board}
 use Rattle.merging.specs.Lent.{Lent, Joined}
 use Rattle.merging.specs.LentLaws.{lent-of}
 use Rattle.merging.specs.CallLaws.{apart-none}
@@ -56,14 +57,16 @@ joined c =
     apart-none (a .t1) (tested (sound c)) (a .u) (a .v) _ (c .before .edge-code .ensures) (c .if2 .left)
 
 aligned-at-requires : tie.Need-aligned-at-requires
-aligned-at-requires c κs = let t = c .before .before .before .before .before in (lent (sound t), joined t)
+aligned-at-requires c κs =
+    let t = c .before .before .before .before .before .before in
+    (lent (sound t), (joined t, sound-board _ (tested (sound t))))
 
 listed-requires : tie.Need-listed-requires
 listed-requires c κs = search needs
 
 returns-3 : tie.Need-returns-3
 returns-3 c =
-    let t = c .before .before .before .before .before .before .before in
+    let t = c .before .before .before .before .before .before .before .before in
     let a = sound t .before .before .args in
     feeds-joined (a .t1) (tested (sound t)) (a .u) (a .v) _ (t .before .edge-code .ensures) (t .if2 .left)
     (c .listed .ensures ∙ ap feedsOn (c .before .aligned-at .ensures))

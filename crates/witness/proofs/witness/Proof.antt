@@ -9,6 +9,7 @@ use Rattle.folding.specs.AlignedLaws.{EdgeOk}
 use Rattle.alignment.specs.Alignments.{Fair}
 use Rattle.alignment.specs.AlignmentLaws.{aligned-fair}
 use Rattle.alignment.specs.declared.Alignment.{Alignment}
+use Rattle.network.specs.SoundLaws.{sound-board}
 use Rattle.merging.specs.Lent.{edgeIn, Lent, Joined}
 use Rattle.merging.specs.LentLaws.{lent-of}
 use Rattle.merging.specs.EdgeLaws.{joined-ok}
@@ -62,24 +63,26 @@ joined c =
     apart-none (a .t1) (tested (sound c)) (a .u) (a .v) _ (c .before .edge-code .ensures) (c .if2 .left)
 
 aligned-at-requires : tie.Need-aligned-at-requires
-aligned-at-requires c κs = let t = c .before .before .before .before .before in (lent (sound t), joined t)
+aligned-at-requires c κs =
+    let t = c .before .before .before .before .before .before in
+    (lent (sound t), (joined t, sound-board _ (tested (sound t))))
 
 abbrev fed : tie.Else2 → Edge
 fed c =
     let a = sound c .before .before .args in
-    edgeIn (a .t1 .fanins) (a .t1 .thresholds) (a .t1 .signals) (a .t1 .weights) (a .t1 .inputs) (a .u) (a .v)
+    edgeIn (a .t1 .board) (a .t1 .fanins) (a .t1 .thresholds) (a .t1 .signals) (a .t1 .weights) (a .t1 .inputs) (a .u) (a .v)
 
 edge-ok : (c : tie.Else2) → EdgeOk (fed c)
-edge-ok c = joined-ok (lent (sound c)) (joined c)
+edge-ok c = joined-ok (lent (sound c)) (joined c) (sound-board _ (tested (sound c)))
 
 witness-of-requires : tie.Need-witness-of-requires
 witness-of-requires c κs =
-    let t = c .before .before .before .before .before .before in
+    let t = c .before .before .before .before .before .before .before in
     subst Fair (sym (c .aligned-at .ensures)) (aligned-fair (fed t) (edge-ok t))
 
 returns-3 : tie.Need-returns-3
 returns-3 c =
-    let t = c .before .before .before .before .before .before .before in
+    let t = c .before .before .before .before .before .before .before .before in
     let a = sound t .before .before .args in
     witness-joined (a .t1) (tested (sound t)) (a .u) (a .v) _ (t .before .edge-code .ensures) (t .if2 .left) (edge-ok t) (a .k) (a .l)
     (subst (λ (g : Alignment). WitnessOn g (a .k) (a .l) (c .witness-of .result)) (c .before .aligned-at .ensures) (c .witness-of .ensures))

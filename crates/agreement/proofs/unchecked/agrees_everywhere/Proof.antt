@@ -1,124 +1,27 @@
--- `agreement::unchecked::agrees_everywhere` meets its contract: the settings passed agree. Assumes nothing.
-use mathlib.Core.Path.{_≡_, sym, _∙_}
-use mathlib.Core.Bool.{Bool, true}
-use mathlib.Core.List.{List}
-use Prim.Native.Nat.{ℕ, _-_, _^_, _≤_, _<_}
-use native.Mathlib.Omega.{arith}
-use lib.IntN.{ℤ}
-use borrow.Author.Tests.{not-true, not-false}
-use Rattle.integers.specs.Lists.{below}
-use Rattle.integers.specs.TestLaws.{both-true}
-use Rattle.integers.specs.ListLaws.{below-none, below-more}
-use Rattle.folding.specs.Aligned.{sameBits}
-use Rattle.folding.specs.declared.Thresholds.{Thresholds}
+-- Agreement is clearing without margins. Assumes nothing.
+use mathlib.Core.Path.{sym, ap, _∙_, subst}
+use borrow.Author.Needs.{needs}
+use Rattle.folding.specs.Aligned.{clearsAll}
+use Rattle.alignment.specs.Alignments.{alignedIn, Searchable}
 use Rattle.alignment.specs.declared.Alignment.{Alignment}
-use Rattle.sums.specs.Tables.{Sums, sumFrom}
-use Rattle.sums.specs.SumLaws.{setting-low}
-use Rattle.agreement.specs.HalfLaws.{near-wider}
-use Rattle.agreement.specs.GateLaws.{tables-small, agrees-is, disagrees, agreed}
+use Rattle.agreement.specs.GateLaws.{plain-searchable, plain-all}
 use Rattle.agreement.proofs.unchecked.agrees_everywhere.Statement.{statement}
 use Rattle.agreement.proofs.unchecked.agrees_everywhere.Tie as tie
 
--- the two bits are equal on a setting
-abbrev agrees : Thresholds → ℕ → ℕ → List ℤ → List ℤ → ℕ → Bool
-agrees t k l tu tv s = sameBits t k l (sumFrom tu s) (sumFrom tv s)
+without-margins-requires : tie.Need-without-margins-requires
+without-margins-requires c κs = search needs
 
-abbrev Inv-loop : tie.InvT-loop
-Inv-loop k l sums-u sums-v thresholds n setting₀ setting = (setting ≤ n) × (below setting (agrees thresholds k l sums-u sums-v) ≡ true)
+clears-everywhere-requires : tie.Need-clears-everywhere-requires
+clears-everywhere-requires c κs =
+    let s = c .before in
+    (subst Searchable (sym (c .without-margins .ensures)) (plain-searchable (s .args .a) (s .pre .0)), s .pre .1)
 
-abbrev μ-loop : tie.MeasureT-loop
-μ-loop k l sums-u sums-v thresholds n setting₀ setting = n - setting
-
-table-requires : tie.Need-table-requires Inv-loop μ-loop
-table-requires c κs = c .before .before .pre .0 .fair .us-small
-
-table-requires-2 : tie.Need-table-requires-2 Inv-loop μ-loop
-table-requires-2 c κs = c .before .before .before .before .before .pre .0 .fair .vs-small
-
-settings-requires : tie.Need-settings-requires Inv-loop μ-loop
-settings-requires c κs = c .before .before .before .before .before .before .before .pre .0 .few
-
-loop-holds : tie.Need-loop-holds Inv-loop μ-loop
-loop-holds c =
-    let first = c .before .before .before .before .before in
-    let a = first .before .before .before .args in
-    (omega arith, below-none (agrees (a .t1 .thresholds) (a .k) (a .l) (first .table .result) (c .before .before .table2 .result)))
-
--- the test of a setting
-module _ (c : tie.After-settings Inv-loop μ-loop) where
-  abbrev start : tie.Start Inv-loop μ-loop
-  start = c .before .before .before .before .before .before .before .before
-
-  abbrev gates : Alignment
-  gates = start .args .t1
-
-  -- the tables
-  sums-u : Sums (gates .us) 256 (c .before .before .before .before .before .table .result)
-  sums-u = c .before .before .before .before .before .table .ensures
-
-  sums-v : Sums (gates .vs) 256 (c .before .before .table2 .result)
-  sums-v = c .before .before .table2 .ensures
-
-  -- the test of each setting
-  abbrev test : ℕ → Bool
-  test =
-      agrees (gates .thresholds) (start .args .k) (start .args .l) (c .before .before .before .before .before .table .result)
-      (c .before .before .table2 .result)
-
-inside : (c : tie.In-loop Inv-loop μ-loop) → c .before .loop .setting < 2 ^ gates (c .before .before) .count
-inside c = omega (arith, c .loop-test .taken, c .before .before .settings .ensures)
-
-agrees-at-requires : tie.Need-agrees-at-requires Inv-loop μ-loop
-agrees-at-requires c κs =
-    let d = c .before .before in
-    let s = d .before .before in
-    let p = start s .pre in
-    let near = near-wider (gates s .thresholds) (p .0 .fair .near) in
-    let low = setting-low (gates s .count) (d .before .loop .setting) (p .0 .few) (inside d) in
-    (tables-small (gates s) (p .0) (sums-u s) (sums-v s), (near, (p .1, low)))
-
-returns : tie.Need-returns Inv-loop μ-loop
+returns : tie.Need-returns
 returns c =
-    let d = c .before .before .before .before in
-    let s = d .before .before in
-    let a = start s .args in
-    sym (disagrees (gates s) (start s .pre .0) (a .k) (a .l) (d .before .loop .setting) (inside d)
-    (agrees-is (gates s) (start s .pre .0) (sums-u s) (sums-v s) (a .k) (a .l) (d .before .loop .setting) (inside d)
-    ∙ sym (c .before .agrees-at .ensures) ∙ not-true (c .before .agrees-at .result) (c .if1 .taken)))
-
-add-setting : tie.Need-add-setting Inv-loop μ-loop
-add-setting c = omega arith
-
-loop-less : tie.Need-loop-less Inv-loop μ-loop
-loop-less c = omega arith
-
-loop-again : tie.Need-loop-again Inv-loop μ-loop
-loop-again c =
-    let l = c .before .before .before .before .before .loop in
-    let p = test (c .before .before .before .before .before .before) in
-    let here = sym (c .before .agrees-at .ensures) ∙ not-false (c .before .agrees-at .result) (c .if1 .left) in
-    (omega arith, below-more p (l .setting) ∙ both-true (below (l .setting) p) (p (l .setting)) (l .inv .1) here)
-
-returns-2 : tie.Need-returns-2 Inv-loop μ-loop
-returns-2 c =
     let s = c .before .before in
-    let a = start s .args in
-    let e : c .before .loop .setting ≡ 2 ^ gates s .count = omega (arith, c .before .loop .inv .0, c .loop-test .left, s .settings .ensures) in
-    sym (agreed (gates s) (start s .pre .0) (a .k) (a .l) (sums-u s) (sums-v s) (rw e at (c .before .loop .inv .1)))
+    let k = s .args .k in
+    let l = s .args .l in
+    c .clears-everywhere .ensures ∙ ap (λ (a : Alignment). clearsAll (alignedIn a) k l) (c .before .without-margins .ensures) ∙ plain-all (s .args .a) k l
 
 pub agrees-everywhere-spec : {M : Type 1} → statement M
-agrees-everywhere-spec =
-    tie.close
-    (tie.spec
-    Inv-loop
-    μ-loop
-    table-requires
-    table-requires-2
-    settings-requires
-    loop-holds
-    agrees-at-requires
-    returns
-    add-setting
-    loop-less
-    loop-again
-    returns-2)
+agrees-everywhere-spec = tie.close (tie.spec without-margins-requires clears-everywhere-requires returns)

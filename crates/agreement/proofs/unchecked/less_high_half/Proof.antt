@@ -48,12 +48,12 @@ sub-off c = let s = c .before .before .before .before .before .before in subst (
 returns : tie.Need-returns
 unfolding reduced
 returns c =
-    let s = c .before .before .before .before .before .before in
+    let s = c .before .before .before .before .before .before .before in
     let made : ℤ → ℤ → ℤ = λ x y. toZ w32 (ofZ w32 (x -ℤ y)) in
     let own = ap₂ made (own-is s) (toZ-ofZ (s .fits .su)) ∙ toZ-ofZ (own-fits s) in
     let on = ap₂ made (on-is s) (toZ-ofZ (s .fits .sv)) ∙ toZ-ofZ (on-fits s) in
     let off = ap₂ made (off-is s) (toZ-ofZ (s .fits .sv)) ∙ toZ-ofZ (off-fits s) in
-    λ j. record { own = own j; on = on j; off = off j }
+    λ j. record { own = own j; on = on j; off = off j; board = s .args .thresholds .board }
 
 pub less-high-half-spec : {M : Type 1} → statement M
 less-high-half-spec = tie.close (tie.spec sub-own sub-on sub-off returns)

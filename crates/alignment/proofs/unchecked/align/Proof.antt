@@ -15,7 +15,7 @@ align-with-u-requires : tie.Need-align-with-u-requires
 align-with-u-requires c κs = c .pre
 
 abbrev edge : tie.Start → Edge
-edge c = edgeBetween (c .args .gate-u) (c .args .gate-v) (c .args .u) (c .args .v)
+edge c = edgeBetween (c .args .board) (c .args .gate-u) (c .args .gate-v) (c .args .u) (c .args .v)
 
 -- the sign of b, as it is tested
 tested : (c : tie.After-align-with-u) → let t = c .align-with-u .result .thresholds in leZ (toZ w32 (ofZ w32 (t .on))) (toZ w32 (ofZ w32 (t .off))) ≡ votesFor (edge (c .before))

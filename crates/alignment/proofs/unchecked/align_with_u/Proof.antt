@@ -14,21 +14,22 @@ use Rattle.folding.specs.Merge.{Edge, feedWeight, among}
 use Rattle.folding.specs.AlignedLaws.{fed-small, edge-rises}
 use Rattle.alignment.specs.Alignments.{edgeBetween, withU}
 use Rattle.alignment.proofs.Store.{fanin-is}
-use Rattle.alignment.proofs.Gather.{inU, inOther, table-at, other-at, among-is, other-is, Listed, listed-none, listed-few, listed-skip, listed-store, listed-full, listed-all}
+use Rattle.alignment.proofs.Gather.{inU, inOther, table-at, other-at, among-is, other-is, Listed, listed-none, listed-few, listed-skip}
+use Rattle.alignment.proofs.Gather.{listed-store, listed-full, listed-all}
 use borrow.Author.Needs.{needs}
 use Rattle.alignment.proofs.unchecked.align_with_u.Statement.{statement}
 use Rattle.alignment.proofs.unchecked.align_with_u.Tie as tie
 
 abbrev Inv-loop : tie.InvT-loop
-Inv-loop gate-u gate-v u v in-u in-v b signals₀ us₀ vs₀ count₀ s₀ signals us vs count s =
-    (s ≤ v) × Listed (edgeBetween gate-u gate-v u v) s count signals us vs
+Inv-loop board gate-u gate-v u v in-u in-v b signals₀ us₀ vs₀ count₀ s₀ signals us vs count s =
+    (s ≤ v) × Listed (edgeBetween board gate-u gate-v u v) s count signals us vs
 
 abbrev μ-loop : tie.MeasureT-loop
-μ-loop gate-u gate-v u v in-u in-v b signals₀ us₀ vs₀ count₀ s₀ signals us vs count s = v - s
+μ-loop board gate-u gate-v u v in-u in-v b signals₀ us₀ vs₀ count₀ s₀ signals us vs count s = v - s
 
 -- the edge, and the bounds of its signals
 abbrev edge : tie.Start Inv-loop μ-loop → Edge
-edge c = edgeBetween (c .args .gate-u) (c .args .gate-v) (c .args .u) (c .args .v)
+edge c = edgeBetween (c .args .board) (c .args .gate-u) (c .args .gate-v) (c .args .u) (c .args .v)
 
 u-low : (c : tie.Start Inv-loop μ-loop) → c .args .u < 256
 u-low c = omega (arith, edge-rises (edge c) (c .pre .ok), c .pre .low)
@@ -40,13 +41,20 @@ count-low : (c : tie.At-loop Inv-loop μ-loop) → c .loop .count ≤ c .loop .s
 count-low c = listed-few (edge (c .before .before .before .before)) (c .loop .s) (c .loop .count) (c .loop .inv .1)
 
 -- the two weights at s, and whether s is a distinct feed
-x-is : (c : tie.After-x Inv-loop μ-loop) → toZ w32 (ofZ w32 (getD (c .before .before .before .before .before .spread .result) (c .before .before .loop .s) (pos 0))) ≡ inU (edge (c .before .before .before .before .before .before)) (c .before .before .loop .s)
+x-is : (c : tie.After-x Inv-loop μ-loop)
+    → toZ w32 (ofZ w32 (getD (c .before .before .before .before .before .spread .result) (c .before .before .loop .s) (pos 0)))
+    ≡ inU (edge (c .before .before .before .before .before .before)) (c .before .before .loop .s)
 x-is c =
     let t = c .before .before .before .before .before .spread in
     let s = c .before .before .loop .s in
-    read-back w32 {r = getD (t .result) s (pos 0)} (c .x .given) (ap (λ l. getD l s (pos 0)) (t .ensures) ∙ table-at (edge (c .before .before .before .before .before .before) .gateU .feeds) s (s-low (c .before)))
+    read-back w32 {r = getD (t .result) s (pos 0)} (c .x .given)
+    (ap (λ l. getD l s (pos 0)) (t .ensures) ∙ table-at (edge (c .before .before .before .before .before .before) .gateU .feeds) s (s-low (c .before)))
 
-y-is : (c : tie.After-y Inv-loop μ-loop) → toZ w32 (ofZ w32 (getD (set (c .before .before .before .before .before .spread2 .result) (c .before .before .before .before .before .before .before .args .u) (pos 0)) (c .before .before .before .loop .s) (pos 0))) ≡ inOther (edge (c .before .before .before .before .before .before .before)) (c .before .before .before .loop .s)
+y-is : (c : tie.After-y Inv-loop μ-loop)
+    → toZ w32 (ofZ w32
+    (getD (set (c .before .before .before .before .before .spread2 .result) (c .before .before .before .before .before .before .before .args .u)
+    (pos 0)) (c .before .before .before .loop .s) (pos 0)))
+    ≡ inOther (edge (c .before .before .before .before .before .before .before)) (c .before .before .before .loop .s)
 y-is c =
     let t = c .before .before .before .before .before .spread2 in
     let a = c .before .before .before .before .before .before .before in
@@ -54,7 +62,8 @@ y-is c =
     read-back w32 {r = getD (set (t .result) (a .args .u) (pos 0)) s (pos 0)} (c .y .given)
     (ap (λ l. getD (set l (a .args .u) (pos 0)) s (pos 0)) (t .ensures) ∙ other-at (edge a) s (s-low (c .before .before)))
 
-test-is : (c : tie.After-either Inv-loop μ-loop) → c .either .result ≡ among (edge (c .before .before .before .before .before .before .before .before)) (c .before .before .before .before .loop .s)
+test-is : (c : tie.After-either Inv-loop μ-loop)
+    → c .either .result ≡ among (edge (c .before .before .before .before .before .before .before .before)) (c .before .before .before .before .loop .s)
 test-is c =
     let a = c .before .before .before .before .before .before .before .before in
     rw (x-is (c .before .before), y-is (c .before)) at (c .either .ensures) ∙ sym (among-is (edge a) (a .pre .ok) (c .before .before .before .before .loop .s))
@@ -143,7 +152,8 @@ loop-again c =
     )
 
 -- the numbers of which the thresholds are made, as the machine reads them back
-b-is : (c : tie.After-b Inv-loop μ-loop) → toZ w32 (ofZ w32 (getD (c .before .spread2 .result) (c .before .before .before .args .u) (pos 0))) ≡ feedWeight (edge (c .before .before .before))
+b-is : (c : tie.After-b Inv-loop μ-loop)
+    → toZ w32 (ofZ w32 (getD (c .before .spread2 .result) (c .before .before .before .args .u) (pos 0))) ≡ feedWeight (edge (c .before .before .before))
 b-is c =
     let a = c .before .before .before in
     read-back w32 {r = getD (c .before .spread2 .result) (a .args .u) (pos 0)} (c .b .given)
@@ -174,7 +184,13 @@ returns c =
     let a = n .before .before .before in
     let end : l .s ≡ a .args .v = omega (arith, l .inv .0, c .before .before .loop-test .left) in
     let on = ap₂ (λ (x y : ℤ). toZ w32 (ofZ w32 (x -ℤ y))) (off-is a) (b-is n) ∙ toZ-ofZ (on-fits a) in
-    (λ j. record { count = l .count; signals = l .signals; us = l .us; vs = l .vs; thresholds = record { own = own-is a j; on = on j; off = off-is a j } })
+    (λ j. record {
+      count = l .count;
+      signals = l .signals;
+      us = l .us;
+      vs = l .vs;
+      thresholds = record { own = own-is a j; on = on j; off = off-is a j; board = a .args .board };
+    })
     ∙ listed-all (edge a) (l .count) (l .signals) (l .us) (l .vs) (rw end at (l .inv .1))
 
 pub align-with-u-spec : {M : Type 1} → statement M

@@ -38,7 +38,7 @@ sub-own c = let s = c .before .before .before .before .before .before .before .b
 returns : tie.Need-returns
 unfolding complementIn
 returns c =
-    let n = c .before .before .before .before .before .before in
+    let n = c .before .before .before .before .before .before .before in
     let s = n .before .before .before .before in
     let own = ap (λ (z : ℤ). toZ w32 (ofZ w32 (pos 1 -ℤ z))) (own-is s) ∙ toZ-ofZ (other-fits s) in
     λ j. record {
@@ -46,7 +46,7 @@ returns c =
       signals = s .args .t1 .signals;
       us = n .negated .ensures j;
       vs = s .args .t1 .vs;
-      thresholds = record { own = own j; on = off-is s j; off = on-is s j };
+      thresholds = record { own = own j; on = off-is s j; off = on-is s j; board = s .args .t1 .thresholds .board };
     }
 
 pub complemented-spec : {M : Type 1} → statement M

@@ -10,8 +10,8 @@ Inv-loop script from end network₀ mark₀ at₀ network mark at = from ≤ at
 abbrev μ-loop : tie.MeasureT-loop
 μ-loop script from end network₀ mark₀ at₀ network mark at = end - at
 
-blank-requires : tie.Need-blank-requires Inv-loop μ-loop
-blank-requires c κs = search needs
+empty-requires : tie.Need-empty-requires Inv-loop μ-loop
+empty-requires c κs = search needs
 
 loop-holds : tie.Need-loop-holds Inv-loop μ-loop
 loop-holds c = search needs
@@ -43,7 +43,7 @@ described-spec =
     (tie.spec
     Inv-loop
     μ-loop
-    blank-requires
+    empty-requires
     loop-holds
     byte-at-requires
     mark-after-requires

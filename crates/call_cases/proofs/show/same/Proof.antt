@@ -13,6 +13,12 @@ abbrev μ-loop : tie.MeasureT-loop
 returns : tie.Need-returns Inv-loop μ-loop
 returns c = search needs
 
+same-board-requires : tie.Need-same-board-requires Inv-loop μ-loop
+same-board-requires c κs = search needs
+
+returns-2 : tie.Need-returns-2 Inv-loop μ-loop
+returns-2 c = search needs
+
 loop-holds : tie.Need-loop-holds Inv-loop μ-loop
 loop-holds c = search needs
 
@@ -25,8 +31,8 @@ held-at-requires-2 c κs = search needs
 same-held-requires : tie.Need-same-held-requires Inv-loop μ-loop
 same-held-requires c κs = search needs
 
-returns-2 : tie.Need-returns-2 Inv-loop μ-loop
-returns-2 c = search needs
+returns-3 : tie.Need-returns-3 Inv-loop μ-loop
+returns-3 c = search needs
 
 add-p : tie.Need-add-p Inv-loop μ-loop
 add-p c = search needs
@@ -37,8 +43,8 @@ loop-less c = search needs
 loop-again : tie.Need-loop-again Inv-loop μ-loop
 loop-again c = search needs
 
-returns-3 : tie.Need-returns-3 Inv-loop μ-loop
-returns-3 c = search needs
+returns-4 : tie.Need-returns-4 Inv-loop μ-loop
+returns-4 c = search needs
 
 pub same-spec : {M : Type 1} → statement M
 same-spec =
@@ -47,12 +53,14 @@ same-spec =
     Inv-loop
     μ-loop
     returns
+    same-board-requires
+    returns-2
     loop-holds
     held-at-requires
     held-at-requires-2
     same-held-requires
-    returns-2
+    returns-3
     add-p
     loop-less
     loop-again
-    returns-3)
+    returns-4)

@@ -14,24 +14,24 @@ use Rattle.collapse.proofs.unchecked.reader_pairs.Statement.{statement}
 use Rattle.collapse.proofs.unchecked.reader_pairs.Tie as tie
 
 abbrev Inv-loop : tie.InvT-loop
-Inv-loop fanins thresholds signals weights inputs gates u ks₀ ls₀ g₀ ks ls g =
-    (g ≤ gates) × Found (gateFrom fanins thresholds signals weights) inputs u g ks ls
+Inv-loop board fanins thresholds signals weights inputs gates u ks₀ ls₀ g₀ ks ls g =
+    (g ≤ gates) × Found board (gateFrom fanins thresholds signals weights) inputs u g ks ls
 
 abbrev μ-loop : tie.MeasureT-loop
-μ-loop fanins thresholds signals weights inputs gates u ks₀ ls₀ g₀ ks ls g = gates - g
+μ-loop board fanins thresholds signals weights inputs gates u ks₀ ls₀ g₀ ks ls g = gates - g
 
 loop-holds : tie.Need-loop-holds Inv-loop μ-loop
-loop-holds c = (omega arith, found-none _ _ _)
+loop-holds c = (omega arith, found-none _ _ _ _)
 
 reader-pair-requires : tie.Need-reader-pair-requires Inv-loop μ-loop
-reader-pair-requires c κs = let pre = c .before .before .pre in (pre .0, pre .1, c .loop-test .taken)
+reader-pair-requires c κs = let pre = c .before .before .pre in (pre .0, pre .1, c .loop-test .taken, pre .2)
 
 -- the lent gates, and gates u and g as they are tried
 abbrev gate : tie.In-loop Inv-loop μ-loop → ℕ → Gate
 gate c = let a = c .before .before .args in gateFrom (now (a .fanins)) (now (a .thresholds)) (now (a .signals)) (now (a .weights))
 
 abbrev tried : tie.In-loop Inv-loop μ-loop → Edge
-tried c = let a = c .before .before .args in edgeTo (gate c) (a .inputs) (a .u) (c .before .loop .g)
+tried c = let a = c .before .before .args in edgeTo (a .board) (gate c) (a .inputs) (a .u) (c .before .loop .g)
 
 returns : tie.Need-returns Inv-loop μ-loop
 returns c =

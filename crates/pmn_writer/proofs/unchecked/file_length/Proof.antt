@@ -1,22 +1,30 @@
--- The loop's invariant: the total is the length of the header and of the first g gates, at most 85 for each.
+-- The loop's invariant: the total is the length of the header, at most 10, and of the first g gates, at most 85 for each.
 use mathlib.Core.Path.{_≡_, ap}
 use Prim.Native.Nat.{_+_, _*_, _-_, _≤_, zero-le}
 use native.Mathlib.Omega.{arith}
 use borrow.Author.Needs.{needs}
 use Rattle.format.specs.Format.{headerLength}
+use Rattle.format.specs.BoardLaws.{header-long}
 use Rattle.pmn_writer.specs.Writing.{gatesLength}
 use Rattle.pmn_writer.specs.WritingLaws.{gatesLength-none, gatesLength-more}
 use Rattle.pmn_writer.proofs.unchecked.file_length.Statement.{statement}
 use Rattle.pmn_writer.proofs.unchecked.file_length.Tie as tie
 
 abbrev Inv-loop : tie.InvT-loop
-Inv-loop fanins gates outputs total₀ g₀ total g = (g ≤ gates) × (total ≡ headerLength + gatesLength fanins g) × (total ≤ headerLength + 85 * g)
+Inv-loop fanins gates outputs total₀ g₀ total g = (g ≤ gates) × (total ≡ total₀ + gatesLength fanins g) × (total ≤ 10 + 85 * g)
 
 abbrev μ-loop : tie.MeasureT-loop
 μ-loop fanins gates outputs total₀ g₀ total g = gates - g
 
+header-length-requires : tie.Need-header-length-requires Inv-loop μ-loop
+header-length-requires c κs = search needs
+
 loop-holds : tie.Need-loop-holds Inv-loop μ-loop
-loop-holds c = let e = gatesLength-none (c .args .fanins .now) in (zero-le, omega arith, omega arith)
+loop-holds c =
+    let a = c .before .args in
+    let e = gatesLength-none (a .fanins .now) in
+    let f : c .header-length .result ≡ headerLength (a .board) = c .header-length .ensures in
+    (zero-le, omega arith, omega (arith, header-long (a .board)))
 
 element-copy-out-wide : tie.Need-element-copy-out-wide Inv-loop μ-loop
 element-copy-out-wide c = search needs
@@ -42,7 +50,7 @@ loop-less c = search needs
 loop-again : tie.Need-loop-again Inv-loop μ-loop
 loop-again c =
     let l = c .before .before .before .loop in
-    let start = c .before .before .before .before in
+    let start = c .before .before .before .before .before in
     let e = gatesLength-more (start .args .fanins .now) (l .g) in
     let m = start .pre .0 .few-feeds (l .g) (omega arith) in
     (omega arith, omega arith, omega arith)
@@ -53,9 +61,11 @@ add-result c = search needs
 returns : tie.Need-returns Inv-loop μ-loop
 returns c =
     let l = c .before .loop in
-    let start = c .before .before in
+    let at-header = c .before .before in
+    let start = at-header .before in
     let e : l .g ≡ start .args .gates = omega arith in
     let f = ap (gatesLength (start .args .fanins .now)) e in
+    let h : at-header .header-length .result ≡ headerLength (start .args .board) = at-header .header-length .ensures in
     omega arith
 
 pub file-length-spec : {M : Type 1} → statement M
@@ -64,6 +74,7 @@ file-length-spec =
     (tie.spec
     Inv-loop
     μ-loop
+    header-length-requires
     loop-holds
     element-copy-out-wide
     wide-requires

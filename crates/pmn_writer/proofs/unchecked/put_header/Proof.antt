@@ -1,65 +1,72 @@
--- Eight stores are the list of eight bytes at the front.
+-- The mark and the board are put first, and the counts into the part after them.
+use mathlib.Core.Path.{refl, sym}
+use mathlib.Core.List.{[], _∷_}
+use Prim.Native.Nat.{_+_, _≤_}
+use lib.ListN.{length}
 use native.Mathlib.Omega.{arith}
-use lib.ListN.{length-set}
-use lib.Seq.{sets-eq}
 use borrow.Author.Needs.{needs}
-use Rattle.pmn_writer.specs.Writing.{header}
+use Rattle.integers.specs.WriteLaws.{tail-length, write-on}
+use Rattle.format.specs.BoardLaws.{header-long}
+use Rattle.pmn_writer.specs.Writing.{marked}
+use Rattle.pmn_writer.specs.WritingLaws.{marked-length}
 use Rattle.pmn_writer.proofs.unchecked.put_header.Statement.{statement}
 use Rattle.pmn_writer.proofs.unchecked.put_header.Tie as tie
 
-slice-write-out : tie.Need-slice-write-out
-slice-write-out c = search needs
+put-board-requires : tie.Need-put-board-requires
+put-board-requires c κs = omega (arith, marked-length (c .before .before .args .board))
 
-slice-write-out-2 : tie.Need-slice-write-out-2
-slice-write-out-2 c = simp length-set (omega arith)
+-- the counts have room
+room : (c : tie.After-put-board) → c .put-board .result + 3 ≤ length (c .put-board .last .0)
+room c = omega (arith, c .put-board .ensures .0, c .put-board .kept .0, marked-length (c .before .before .before .args .board))
 
-slice-write-out-3 : tie.Need-slice-write-out-3
-slice-write-out-3 c = simp length-set (omega arith)
+sub-put-counts : tie.Need-sub-put-counts
+sub-put-counts c = omega (arith, room (c .before .before))
 
-slice-write-out-4 : tie.Need-slice-write-out-4
-slice-write-out-4 c = simp length-set (omega arith)
+part-put-counts-start : tie.Need-part-put-counts-start
+part-put-counts-start c = omega (arith, room (c .before .before))
 
-slice-write-out-5 : tie.Need-slice-write-out-5
-slice-write-out-5 c = simp length-set (omega arith)
+part-put-counts-end : tie.Need-part-put-counts-end
+part-put-counts-end c = search needs
 
-cast-out : tie.Need-cast-out
-cast-out c = search needs
+put-counts-requires : tie.Need-put-counts-requires
+put-counts-requires c κs =
+    let put = c .before .before .before in
+    let start = put .before .before .before in
+    let t = tail-length (put .put-board .result) (put .put-board .last .0) in
+    (start .pre .0, omega (arith, room put))
 
-slice-write-out-6 : tie.Need-slice-write-out-6
-slice-write-out-6 c = simp length-set (omega arith)
-
-cast-out-2 : tie.Need-cast-out-2
-cast-out-2 c = search needs
-
-slice-write-out-7 : tie.Need-slice-write-out-7
-slice-write-out-7 c = simp length-set (omega arith)
-
-cast-out-3 : tie.Need-cast-out-3
-cast-out-3 c = search needs
-
-slice-write-out-8 : tie.Need-slice-write-out-8
-slice-write-out-8 c = simp length-set (omega arith)
+add-result : tie.Need-add-result
+add-result c =
+    let put = c .before .before .before .before .before .before in
+    let b = put .before .before .before .args .board in
+    omega (arith, put .put-board .ensures .0, marked-length b, header-long b)
 
 same-length : tie.Need-same-length
 same-length c = search needs
 
 returns : tie.Need-returns
-returns c = sets-eq (header (c .args .inputs) (c .args .gates) (c .args .outputs)) (c .args .out .now) 0 (c .pre .1)
+returns c =
+    let counts = c .before .before in
+    let put = counts .before .before .before .before in
+    let start = put .before .before .before in
+    let a = start .args in
+    let at = put .put-board .result in
+    let e = put .put-board .ensures .0 in
+    let l = marked-length (a .board) in (
+      omega arith,
+      write-on (a .out .now) (put .put-board .last .0) (counts .put-counts .last .0) (marked (a .board)) (a .inputs ∷ a .gates ∷ a .outputs ∷ []) at 3
+          (put .put-board .ensures .1) (sym (put .put-board .ensures .0)) refl (omega arith) (counts .put-counts .ensures),
+    )
 
 pub put-header-spec : {M : Type 1} → statement M
 put-header-spec =
     tie.close
     (tie.spec
-    slice-write-out
-    slice-write-out-2
-    slice-write-out-3
-    slice-write-out-4
-    slice-write-out-5
-    cast-out
-    slice-write-out-6
-    cast-out-2
-    slice-write-out-7
-    cast-out-3
-    slice-write-out-8
+    put-board-requires
+    sub-put-counts
+    part-put-counts-start
+    part-put-counts-end
+    put-counts-requires
+    add-result
     same-length
     returns)

@@ -1,6 +1,6 @@
 -- A sound record's counts are within the limits. The header, the gates and the outputs, each put into the part where its
 -- predecessor ended, are the file.
-use mathlib.Core.Path.{_≡_, refl, sym, ap, _∙_}
+use mathlib.Core.Path.{_≡_, sym, ap, ap₂, _∙_}
 use mathlib.Core.List.{List, _++_, append-assoc}
 use Prim.Native.Nat.{ℕ, _+_, _-_, _≤_}
 use native.Mathlib.Omega.{arith}
@@ -11,7 +11,7 @@ use Rattle.integers.specs.WriteLaws.{tail-length, write-on}
 use Rattle.network.specs.Record.{netOf}
 use Rattle.format.specs.Format.{headerLength, fileBytes}
 use Rattle.pmn_writer.specs.Writing.{header, firstGates, gatesLength, firstOutputs}
-use Rattle.pmn_writer.specs.WritingLaws.{firstGates-length, firstOutputs-length, file-parts, file-length}
+use Rattle.pmn_writer.specs.WritingLaws.{firstGates-length, firstOutputs-length, header-length, file-parts, file-length}
 use Rattle.pmn_writer.specs.WriteAnswerLaws.{Bounded, sound-bounded, write-short, write-whole, written-refused, written-whole}
 use Rattle.pmn_writer.proofs.unchecked.write_sound.Statement.{statement}
 use Rattle.pmn_writer.proofs.unchecked.write_sound.Tie as tie
@@ -21,46 +21,58 @@ bounded : (c : tie.Start) → Bounded (c .args .t1)
 bounded c = sound-bounded (c .args .t1) (c .pre)
 
 -- the length found is the file's
-length-is : (c : tie.After-file-length) → c .file-length .result ≡ length (fileBytes (netOf (c .before .before .before .before .args .t1)))
-length-is c = c .file-length .ensures ∙ sym (file-length (c .before .before .before .before .args .t1))
+length-is : (c : tie.After-file-length) → c .file-length .result ≡ length (fileBytes (netOf (c .before .before .before .before .before .args .t1)))
+length-is c = c .file-length .ensures ∙ sym (file-length (c .before .before .before .before .before .args .t1))
+
+-- where the header is put, the record, and the header's length
+abbrev start-of : tie.After-put-header → tie.Start
+start-of c = c .before .before .before .before .before .before .before .before
+
+abbrev headed : tie.After-put-gates → tie.After-put-header
+headed c = c .before .before .before .before .before .before .before .before .before
 
 -- the lent bytes after the gates: the header, the gates, and what stood after them
 abbrev body : tie.After-put-gates → List ℕ
 body c =
-    let xs = c .before .before .before .before .before .before .before .before .before .put-header .last .0 in
-    putMid headerLength (length xs - headerLength) xs (c .put-gates .last .0)
+    let put = headed c .put-header in
+    putMid (put .result) (length (put .last .0) - put .result) (put .last .0) (c .put-gates .last .0)
 
-body-is : (c : tie.After-put-gates)
-    → let start = c .before .before .before .before .before .before .before .before .before .before .before .before .before .before .before .before in
+body-is : (c : tie.After-put-gates) → let start = start-of (headed c) in
     let r = start .args .t1 in
-    body c ≡ (header (r .inputs) (r .gates) (r .outputs) ++ firstGates (r .fanins) (r .thresholds) (r .signals) (r .weights) (r .gates)) ++ drop (headerLength + c .put-gates .result) (start .args .out .now)
+    body c
+    ≡ (header (r .board) (r .inputs) (r .gates) (r .outputs) ++ firstGates (r .fanins) (r .thresholds) (r .signals) (r .weights) (r .gates))
+    ++ drop (headed c .put-header .result + c .put-gates .result) (start .args .out .now)
 body-is c =
-    let put = c .before .before .before .before .before .before .before .before .before in
-    let start = put .before .before .before .before .before .before .before in
+    let put = headed c in
+    let start = start-of put in
     let r = start .args .t1 in
-    write-on (start .args .out .now) (put .put-header .last .0) (c .put-gates .last .0) (header (r .inputs) (r .gates) (r .outputs))
-    (firstGates (r .fanins) (r .thresholds) (r .signals) (r .weights) (r .gates)) headerLength (c .put-gates .result)
-    (put .put-header .ensures) refl (firstGates-length (r .fanins) (r .thresholds) (r .signals) (r .weights) (r .gates) ∙ sym (c .put-gates .ensures .0)) (omega arith) (c .put-gates .ensures .1)
+    let e : put .put-header .result ≡ headerLength (r .board) = put .put-header .ensures .0 in
+    let n = put .before .before .before .file-length .ensures in
+    let h = put .before .before .if1 .left in
+    write-on (start .args .out .now) (put .put-header .last .0) (c .put-gates .last .0) (header (r .board) (r .inputs) (r .gates) (r .outputs))
+    (firstGates (r .fanins) (r .thresholds) (r .signals) (r .weights) (r .gates)) (put .put-header .result) (c .put-gates .result)
+    (put .put-header .ensures .1) (header-length (r .board) (r .inputs) (r .gates) (r .outputs) ∙ sym e)
+    (firstGates-length (r .fanins) (r .thresholds) (r .signals) (r .weights) (r .gates) ∙ sym (c .put-gates .ensures .0))
+    (omega (arith, e, n, h, c .put-gates .ensures .0)) (c .put-gates .ensures .1)
 
 -- the outputs end where the length found says, and that is in the lent bytes
-ends : (c : tie.After-put-gates)
-    → let start = c .before .before .before .before .before .before .before .before .before .before .before .before .before .before .before .before in
-    (headerLength + c .put-gates .result + start .args .t1 .outputs ≡ c .before .before .before .before .before .before .before .before .before .before .before .before .file-length .result)
-    × (headerLength + c .put-gates .result + start .args .t1 .outputs ≤ length (start .args .out .now))
+ends : (c : tie.After-put-gates) → let put = headed c in
+    let end = put .put-header .result + c .put-gates .result + start-of put .args .t1 .outputs in
+    (end ≡ put .before .before .before .file-length .result) × (end ≤ length (start-of put .args .out .now))
 ends c =
-    let put = c .before .before .before .before .before .before .before .before .before in
-    let first = put .before .before .before in
+    let put = headed c in
+    let e : put .put-header .result ≡ headerLength (start-of put .args .t1 .board) = put .put-header .ensures .0 in
     let m = c .put-gates .ensures .0 in
-    let n = first .file-length .ensures in
+    let n = put .before .before .before .file-length .ensures in
     let h = put .before .before .if1 .left in
-    (omega arith, omega arith)
+    (omega (arith, e, m, n), omega (arith, e, m, n, h))
 
 file-length-requires : tie.Need-file-length-requires
-file-length-requires c κs = let b = bounded (c .before .before .before) in (b .counted, b .few-outputs)
+file-length-requires c κs = let b = bounded (c .before .before .before .before) in (b .counted, b .few-outputs)
 
 returns : tie.Need-returns
 returns c =
-    let start = c .before .before .before .before .before in
+    let start = c .before .before .before .before .before .before in
     let r = start .args .t1 in
     let x₀ = start .args .out .now in
     let n = length-is (c .before) in
@@ -68,15 +80,21 @@ returns c =
 
 put-header-requires : tie.Need-put-header-requires
 put-header-requires c κs =
-    let b = bounded (c .before .before .before .before .before .before) in
+    let b = bounded (c .before .before .before .before .before .before .before) in
     let h = b .counted .few-gates in
     ((omega arith, omega arith, omega arith), omega arith)
 
+-- the gates have room after the header
+room : (c : tie.After-put-header) → let r = start-of c .args .t1 in c .put-header .result + gatesLength (r .fanins) (r .gates) ≤ length (c .put-header .last .0)
+room c =
+    let e : c .put-header .result ≡ headerLength (start-of c .args .t1 .board) = c .put-header .ensures .0 in
+    omega (arith, e, c .put-header .kept .0, c .before .before .before .file-length .ensures, c .before .before .if1 .left)
+
 sub-put-gates : tie.Need-sub-put-gates
-sub-put-gates c = search needs
+sub-put-gates c = omega (arith, room (c .before .before))
 
 part-put-gates-start : tie.Need-part-put-gates-start
-part-put-gates-start c = search needs
+part-put-gates-start c = omega (arith, room (c .before .before))
 
 part-put-gates-end : tie.Need-part-put-gates-end
 part-put-gates-end c = search needs
@@ -84,9 +102,8 @@ part-put-gates-end c = search needs
 put-gates-requires : tie.Need-put-gates-requires
 put-gates-requires c κs =
     let put = c .before .before .before .before .before .before .before .before in
-    let start = put .before .before .before .before .before .before .before in
-    let t = tail-length headerLength (put .put-header .last .0) in
-    (bounded start .counted, omega arith)
+    let t = tail-length (put .put-header .result) (put .put-header .last .0) in
+    (bounded (start-of put) .counted, omega (arith, t, room put))
 
 add-at : tie.Need-add-at
 add-at c = search needs
@@ -103,13 +120,12 @@ part-put-outputs-end c = search needs
 put-outputs-requires : tie.Need-put-outputs-requires
 put-outputs-requires c κs =
     let gates = c .before .before .before .before .before in
-    let start = gates .before .before .before .before .before .before .before .before .before .before .before .before .before .before .before .before in
-    let at = headerLength + gates .put-gates .result in
-    let t = tail-length at (body gates) in
+    let put = headed gates in
+    let t = tail-length (put .put-header .result + gates .put-gates .result) (body gates) in
     let l = c .before .before .before .before .out2 .given .1 in
-    let k = gates .before .before .before .before .before .before .before .before .before .put-header .kept .0 in
+    let k = put .put-header .kept .0 in
     let e = ends gates .1 in
-    (bounded start .few-outputs, omega (arith, t, l, k, e))
+    (bounded (start-of put) .few-outputs, omega (arith, t, l, k, e))
 
 same-length : tie.Need-same-length
 same-length c = search needs
@@ -118,24 +134,28 @@ returns-2 : tie.Need-returns-2
 returns-2 c =
     let out = c .before .before in
     let gates = out .before .before .before .before .before .before in
-    let first = gates .before .before .before .before .before .before .before .before .before .before .before .before in
-    let start = first .before .before .before .before in
+    let put = headed gates in
+    let first = put .before .before .before in
+    let start = start-of put in
     let r = start .args .t1 in
     let x₀ = start .args .out .now in
-    let H = header (r .inputs) (r .gates) (r .outputs) in
+    let H = header (r .board) (r .inputs) (r .gates) (r .outputs) in
     let G = firstGates (r .fanins) (r .thresholds) (r .signals) (r .weights) (r .gates) in
     let O = firstOutputs (r .drivers) (r .outputs) in
+    let a = put .put-header .result in
     let m = gates .put-gates .result in
+    let ea : a ≡ headerLength (r .board) = put .put-header .ensures .0 in
     let em : m ≡ gatesLength (r .fanins) (r .gates) = gates .put-gates .ensures .0 in
+    let lH = header-length (r .board) (r .inputs) (r .gates) (r .outputs) in
     let lG = firstGates-length (r .fanins) (r .thresholds) (r .signals) (r .weights) (r .gates) in
     let lO = firstOutputs-length (r .drivers) (r .outputs) in
-    let lp : length (H ++ G) ≡ headerLength + m = length-append H G ∙ ap (λ (k : ℕ). headerLength + k) (lG ∙ sym em) in
+    let lp : length (H ++ G) ≡ a + m = length-append H G ∙ ap₂ _+_ (lH ∙ sym ea) (lG ∙ sym em) in
     let n = first .file-length .result in
     let e = ends gates in
     let el = length-is first in
     let w = written-whole r n x₀ (write-whole r (length x₀) (start .pre) (omega (arith, e .0, e .1, el))) el in (
       w .0,
-      write-on x₀ (body gates) (out .put-outputs .last .0) (H ++ G) O (headerLength + m) (r .outputs) (body-is gates) lp lO (e .1) (out .put-outputs .ensures)
+      write-on x₀ (body gates) (out .put-outputs .last .0) (H ++ G) O (a + m) (r .outputs) (body-is gates) lp lO (e .1) (out .put-outputs .ensures)
           ∙ ap (λ (k : ℕ). ((H ++ G) ++ O) ++ drop k x₀) (e .0)
           ∙ ap (λ (l : List ℕ). l ++ drop n x₀) (append-assoc H G O ∙ sym (file-parts r))
           ∙ w .1,

@@ -5,7 +5,7 @@ use mathlib.Core.Path.{_≡_, sym, ap, _∙_, subst}
 use Prim.Native.Nat.{ℕ, _+_, _-_, _*_, _^_, _≤_, _<_}
 use native.Mathlib.Omega.{arith}
 use Rattle.sums.specs.SumLaws.{setting-low}
-use Rattle.folding.specs.Aligned.{agreesOn, qualifiesOn}
+use Rattle.folding.specs.Aligned.{clearsOn, qualifiesOn}
 use Rattle.alignment.specs.Alignments.{alignedIn, Near, Dial}
 use Rattle.agreement.specs.Agreement.{SumTables}
 use Rattle.agreement.specs.HalfLaws.{Halved, halved, halves-all, half-few, high-few, near-wider, reduced-near}
@@ -18,14 +18,14 @@ use Rattle.search.proofs.unchecked.scan.Tie as tie
 
 abbrev Inv-loop3 : tie.InvT-loop3
 Inv-loop3 a sums-u sums-v thresholds count high-count highs lows last earlier sum k₀ l likely high left low₀ k low =
-    AtLow (agreesOn (alignedIn a) k₀ l) lows high k₀ k low
+    AtLow (clearsOn (alignedIn a) k₀ l) lows high k₀ k low
 
 abbrev μ-loop3 : tie.MeasureT-loop3
 μ-loop3 a sums-u sums-v thresholds count high-count highs lows last earlier sum k₀ l likely high left low₀ k low = lows - low
 
 abbrev Inv-loop2 : tie.InvT-loop2
 Inv-loop2 a sums-u sums-v thresholds count high-count highs lows last earlier sum k₀ l likely high₀ k high =
-    AtHigh (agreesOn (alignedIn a) k₀ l) highs lows k₀ k high
+    AtHigh (clearsOn (alignedIn a) k₀ l) highs lows k₀ k high
 
 abbrev μ-loop2 : tie.MeasureT-loop2
 μ-loop2 a sums-u sums-v thresholds count high-count highs lows last earlier sum k₀ l likely high₀ k high = highs - high
@@ -152,8 +152,8 @@ dial e = record { k-high = here e .candidate-test .taken; l-high = e .if2 .left 
 low : (e : Tried) (s : ℕ) → s < 2 ^ count (halves (here e)) → s < 65536
 low e s h = setting-low (count (halves (here e))) s (few (halves (here e))) h
 
-agrees-at-requires : tie.Need-agrees-at-requires Inv-loop3 μ-loop3 Inv-loop2 μ-loop2 Inv-candidate μ-candidate Inv-loop μ-loop
-agrees-at-requires c κs =
+clears-at-requires : tie.Need-clears-at-requires Inv-loop3 μ-loop3 Inv-loop2 μ-loop2 Inv-candidate μ-candidate Inv-loop μ-loop
+clears-at-requires c κs =
     let h = halves (here c) in
     (tables h, (near h, (dial c, low c (here c .before .candidate .last) (here c .before .candidate .inv .last-in))))
 
@@ -170,10 +170,10 @@ candidate-again-3 c =
     let a = here e .before .candidate .inv in
     let s = here e .before .candidate .last in
     differs (p .0) s a (here e .candidate-test .taken) (e .before .if1 .left) (a .last-in) (a .last-in) (a .earlier-in)
-    (tested (p .0) (p .1 .0) (p .1 .1) (k (here e)) (l (here e)) s (a .last-in) (c .before .agrees-at .ensures)) (c .if3 .taken)
+    (tested (p .0) (p .1 .0) (p .1 .1) (k (here e)) (l (here e)) s (a .last-in) (c .before .clears-at .ensures)) (c .if3 .taken)
 
-agrees-at-requires-2 : tie.Need-agrees-at-requires-2 Inv-loop3 μ-loop3 Inv-loop2 μ-loop2 Inv-candidate μ-candidate Inv-loop μ-loop
-agrees-at-requires-2 c κs =
+clears-at-requires-2 : tie.Need-clears-at-requires-2 Inv-loop3 μ-loop3 Inv-loop2 μ-loop2 Inv-candidate μ-candidate Inv-loop μ-loop
+clears-at-requires-2 c κs =
     let e = c .before .before in
     let h = halves (here e) in
     (tables h, (near h, (dial e, low e (here e .before .candidate .earlier) (here e .before .candidate .inv .earlier-in))))
@@ -191,7 +191,7 @@ candidate-again-4 c =
     let a = here e .before .candidate .inv in
     let s = here e .before .candidate .earlier in
     differs (p .0) s a (here e .candidate-test .taken) (e .before .if1 .left) (a .earlier-in) (a .last-in) (a .earlier-in)
-    (tested (p .0) (p .1 .0) (p .1 .1) (k (here e)) (l (here e)) s (a .earlier-in) (c .before .agrees-at2 .ensures)) (c .if4 .taken)
+    (tested (p .0) (p .1 .0) (p .1 .1) (k (here e)) (l (here e)) s (a .earlier-in) (c .before .clears-at2 .ensures)) (c .if4 .taken)
 
 scale-fits-requires : tie.Need-scale-fits-requires Inv-loop3 μ-loop3 Inv-loop2 μ-loop2 Inv-candidate μ-candidate Inv-loop μ-loop
 scale-fits-requires c κs =
@@ -223,8 +223,8 @@ likely-difference-requires c κs =
     let h = halves (here e) in
     (tables h, (start h .pre .0 .fair .near, (dial e, (few h, here e .before .candidate .inv .last-in))))
 
-agrees-at-requires-3 : tie.Need-agrees-at-requires-3 Inv-loop3 μ-loop3 Inv-loop2 μ-loop2 Inv-candidate μ-candidate Inv-loop μ-loop
-agrees-at-requires-3 c κs =
+clears-at-requires-3 : tie.Need-clears-at-requires-3 Inv-loop3 μ-loop3 Inv-loop2 μ-loop2 Inv-candidate μ-candidate Inv-loop μ-loop
+clears-at-requires-3 c κs =
     let e = tried c in
     let h = halves (here e) in
     (tables h, (near h, (dial e, low e (c .likely-difference .result) (c .likely-difference .ensures))))
@@ -252,7 +252,7 @@ candidate-again-6 c =
     let kept : c .beside .result < 2 ^ count (halves (here e)) =
     ⊎-elim (λ z. omega (arith, a .last-in)) (λ z. omega (arith, a .earlier-in)) (c .beside .ensures) in
     let in-n = d .likely-difference .ensures in
-    let test = tested (p .0) (p .1 .0) (p .1 .1) (k (here e)) (l (here e)) s in-n (c .before .before .agrees-at3 .ensures) in
+    let test = tested (p .0) (p .1 .0) (p .1 .1) (k (here e)) (l (here e)) s in-n (c .before .before .clears-at3 .ensures) in
     differs (p .0) s a (here e .candidate-test .taken) (e .before .if1 .left) in-n in-n kept test (c .before .if6 .taken)
 
 loop2-holds : tie.Need-loop2-holds Inv-loop3 μ-loop3 Inv-loop2 μ-loop2 Inv-candidate μ-candidate Inv-loop μ-loop
@@ -306,8 +306,8 @@ setting d =
     halved (count h) (highs h) (lows h) (high d .before .loop2 .high) (d .before .loop3 .low)
     (few h) (highs-is h) (lows-is h) (high d .loop2-test .taken) (d .loop3-test .taken)
 
-agrees-low-requires : tie.Need-agrees-low-requires Inv-loop3 μ-loop3 Inv-loop2 μ-loop2 Inv-candidate μ-candidate Inv-loop μ-loop
-agrees-low-requires c κs =
+clears-low-requires : tie.Need-clears-low-requires Inv-loop3 μ-loop3 Inv-loop2 μ-loop2 Inv-candidate μ-candidate Inv-loop μ-loop
+clears-low-requires c κs =
     let h = whole (high c) in
     let s = start h in
     let x = high c .before .loop2 .high in
@@ -322,9 +322,9 @@ candidate-less-7 : tie.Need-candidate-less-7 Inv-loop3 μ-loop3 Inv-loop2 μ-loo
 candidate-less-7 c = let d = c .before .before in omega (arith, kept d, here (tried (scaled (high d))) .candidate-test .taken)
 
 -- what the test of a setting says
-agreed : (c : tie.After-agrees-low Inv-loop3 μ-loop3 Inv-loop2 μ-loop2 Inv-candidate μ-candidate Inv-loop μ-loop)
+agreed : (c : tie.After-clears-low Inv-loop3 μ-loop3 Inv-loop2 μ-loop2 Inv-candidate μ-candidate Inv-loop μ-loop)
     → let d = c .before in let a = start (whole (high d)) .args .a in
-    c .agrees-low .result ≡ agreesOn (alignedIn a) (d .before .loop3 .k) (l (here (tried (scaled (high d))))) (number d)
+    c .clears-low .result ≡ clearsOn (alignedIn a) (d .before .loop3 .k) (l (here (tried (scaled (high d))))) (number d)
 agreed c =
     let d = c .before in
     let e = tried (scaled (high d)) in
@@ -332,7 +332,7 @@ agreed c =
     let p = start h .pre in
     tested-low (p .0) (p .1 .0) (p .1 .1) (d .before .loop3 .k) (l (here e)) (lows h) (high d .before .loop2 .high) (d .before .loop3 .low)
     (setting d)
-    (rw (d .before .before .low-thresholds .ensures) at (c .agrees-low .ensures))
+    (rw (d .before .before .low-thresholds .ensures) at (c .clears-low .ensures))
 
 candidate-again-7 : tie.Need-candidate-again-7 Inv-loop3 μ-loop3 Inv-loop2 μ-loop2 Inv-candidate μ-candidate Inv-loop μ-loop
 candidate-again-7 c =
@@ -422,11 +422,11 @@ scan-spec =
     add-k-2
     candidate-less-2
     candidate-again-2
-    agrees-at-requires
+    clears-at-requires
     add-k-3
     candidate-less-3
     candidate-again-3
-    agrees-at-requires-2
+    clears-at-requires-2
     add-k-4
     candidate-less-4
     candidate-again-4
@@ -435,7 +435,7 @@ scan-spec =
     candidate-less-5
     candidate-again-5
     likely-difference-requires
-    agrees-at-requires-3
+    clears-at-requires-3
     beside-requires
     add-k-6
     candidate-less-6
@@ -443,7 +443,7 @@ scan-spec =
     loop2-holds
     low-thresholds-requires
     loop3-holds
-    agrees-low-requires
+    clears-low-requires
     add-k-7
     candidate-less-7
     candidate-again-7

@@ -7,7 +7,7 @@ use native.Mathlib.Omega.{arith}
 use lib.Dec.{ltb}
 use Rattle.integers.specs.TestLaws.{T-is}
 use Rattle.network.specs.Record.{netOf, soundRecord}
-use Rattle.network.specs.SoundLaws.{sized-of}
+use Rattle.network.specs.SoundLaws.{sized-of, sound-board}
 use Rattle.folding.specs.Sweep.{readers, sweepFrom, sweepOnce}
 use Rattle.integers.specs.Refusals.{Refused}
 use Rattle.merging.specs.Readers.{occurs}
@@ -18,37 +18,37 @@ use Rattle.sweeping.proofs.unchecked.lowest_foldable.Statement.{stateme
 use Rattle.sweeping.proofs.unchecked.lowest_foldable.Tie as tie
 
 abbrev Inv-loop : tie.InvT-loop
-Inv-loop b hints₀ network inputs gates outputs g₀ hints g =
+Inv-loop b hints₀ network board inputs gates outputs g₀ hints g =
     (g ≤ gates) × (sweepFrom (netOf network) b (inputs + g) (gates - g) ≡ sweepOnce (netOf network) b)
 
 abbrev μ-loop : tie.MeasureT-loop
-μ-loop b hints₀ network inputs gates outputs g₀ hints g = gates - g
+μ-loop b hints₀ network board inputs gates outputs g₀ hints g = gates - g
 
 loop-holds : tie.Need-loop-holds Inv-loop μ-loop
-loop-holds c = (omega arith, sweep-start (c .args .t1) (c .args .b))
+loop-holds c = (omega arith, sweep-start (c .before .args .t1) (c .before .args .b))
 
 add-u : tie.Need-add-u Inv-loop μ-loop
-add-u c = let z = sized-of _ (c .before .before .pre) in omega (arith, z .few-inputs, z .few-gates)
+add-u c = let z = sized-of _ (c .before .before .before .pre) in omega (arith, z .few-inputs, z .few-gates)
 
 count-readers-requires : tie.Need-count-readers-requires Inv-loop μ-loop
-count-readers-requires c κs = lent-counted (lent-of _ (T-is (soundRecord _) (c .before .before .before .before .before .pre)))
+count-readers-requires c κs = lent-counted (lent-of _ (T-is (soundRecord _) (c .before .before .before .before .before .before .pre)))
 
 is-output-requires : tie.Need-is-output-requires Inv-loop μ-loop
-is-output-requires c κs = sized-of _ (c .before .before .before .before .before .before .before .before .pre) .few-outputs
+is-output-requires c κs = sized-of _ (c .before .before .before .before .before .before .before .before .before .pre) .few-outputs
 
 -- every place of the hints fits
 under : (c : tie.In-loop Inv-loop μ-loop) → c .before .loop .g < 128
-under c = omega (arith, c .loop-test .taken, sized-of _ (c .before .before .pre) .few-gates)
+under c = omega (arith, c .loop-test .taken, sized-of _ (c .before .before .before .pre) .few-gates)
 
 -- the first test, of the network
 test : (c : tie.After-is-output Inv-loop μ-loop) → let turn = c .before .before .before .before .before .before .before in
-    let a = turn .before .before .args in
+    let a = turn .before .before .before .args in
     let u = a .t1 .inputs + turn .before .loop .g in
     ltb (a .b) (c .before .before .before .count-readers .result) || c .is-output .result
     ≡ ltb (a .b) (readers (netOf (a .t1)) u) || occurs (a .t1 .drivers) 0 (a .t1 .outputs) u
 unfolding readers netOf
 test c =
-    let r = c .before .before .before .before .before .before .before .before .before .args .t1 in
+    let r = c .before .before .before .before .before .before .before .before .before .before .args .t1 in
     rw (c .before .before .before .count-readers .ensures (r .thresholds) (r .weights), c .is-output .ensures)
 
 add-g : tie.Need-add-g Inv-loop μ-loop
@@ -60,7 +60,7 @@ loop-less c = omega (arith, c .before .before .before .before .before .before .b
 loop-again : tie.Need-loop-again Inv-loop μ-loop
 loop-again c =
     let turn = c .before .before .before .before .before .before .before .before in
-    let start = turn .before .before in
+    let start = turn .before .before .before in
     let loop = turn .before .loop in (
       omega (arith, turn .loop-test .taken),
       sym (pass-barred (start .args .t1) (start .args .b) (loop .g) (start .pre) (turn .loop-test .taken) (sym (test (c .before)) ∙ c .if1 .taken)) ∙ loop .inv .1,
@@ -75,14 +75,14 @@ wide-requires c κs = search needs
 hinted-pairs-requires : tie.Need-hinted-pairs-requires Inv-loop μ-loop
 hinted-pairs-requires c κs =
     let turn = c .before .before .before .before .before .before .before .before .before .before .before .before .before .before .before in
-    let lent = lent-of _ (T-is (soundRecord _) (turn .before .before .pre)) in
-    (lent, record { low = omega arith; high = omega (arith, turn .loop-test .taken) })
+    let lent = lent-of _ (T-is (soundRecord _) (turn .before .before .before .pre)) in
+    (lent, record { low = omega arith; high = omega (arith, turn .loop-test .taken) }, sound-board _ (turn .before .before .before .pre))
 
 returns : tie.Need-returns Inv-loop μ-loop
 returns c =
     let else = c .before .before .before .before .before .before .before .before .before in
     let turn = else .before .before .before .before .before .before .before .before in
-    let start = turn .before .before in
+    let start = turn .before .before .before in
     let loop = turn .before .loop in
     record {
       next = λ t. taken (start .args .t1) (start .args .b) (loop .g) (start .pre) (turn .loop-test .taken) (sym (test (else .before)) ∙ else .if1 .left)
@@ -93,7 +93,7 @@ returns c =
 cast-hints : tie.Need-cast-hints Inv-loop μ-loop
 cast-hints c =
     let turn = c .before .before .before .before .before .before .before .before .before .before .before .before .before .before .before .before .before in
-    omega (arith, c .before .hinted-pairs .ensures .refuses (c .if2 .left) .within, sized-of _ (turn .before .before .pre) .few-gates)
+    omega (arith, c .before .hinted-pairs .ensures .refuses (c .if2 .left) .within, sized-of _ (turn .before .before .before .pre) .few-gates)
 
 element-write-hints : tie.Need-element-write-hints Inv-loop μ-loop
 element-write-hints c = under (c .before .before .before .before .before .before .before .before .before .before .before .before .before .before .before .before .before)
@@ -108,11 +108,11 @@ loop-again-2 : tie.Need-loop-again-2 Inv-loop μ-loop
 loop-again-2 c =
     let else = c .before .before .before .before .before .before .before .before .before in
     let turn = else .before .before .before .before .before .before .before .before in
-    let start = turn .before .before in
+    let start = turn .before .before .before in
     let loop = turn .before .loop in (
       omega (arith, turn .loop-test .taken),
       sym (pass-refused (start .args .t1) (start .args .b) (loop .g) (start .pre) (turn .loop-test .taken) (sym (test (else .before)) ∙ else .if1 .left)
-          (tried-refused _ _ _ _ _ (c .before .hinted-pairs .ensures) (c .if2 .left))) ∙ loop .inv .1,
+          (tried-refused _ _ _ _ _ _ (c .before .hinted-pairs .ensures) (c .if2 .left))) ∙ loop .inv .1,
     )
 
 no-pairs-requires : tie.Need-no-pairs-requires Inv-loop μ-loop
@@ -120,7 +120,7 @@ no-pairs-requires c κs = search needs
 
 returns-2 : tie.Need-returns-2 Inv-loop μ-loop
 returns-2 c =
-    let start = c .before .before .before in
+    let start = c .before .before .before .before in
     let loop = c .before .before .loop in
     record {
       next = λ t. absurd (false≢true t);

@@ -5,7 +5,7 @@ use Prim.Native.Nat.{ℕ, _+_, _-_, _*_, _^_, _≤_, _<_}
 use native.Mathlib.Omega.{arith}
 use lib.Count.{ones, ones-le}
 use lib.Pow.{pow-mono}
-use Rattle.folding.specs.Aligned.{agreesOn}
+use Rattle.folding.specs.Aligned.{clearsOn}
 use Rattle.sums.specs.SumLaws.{setting-low}
 use Rattle.alignment.specs.Alignments.{alignedIn, Near}
 use Rattle.agreement.specs.Agreement.{SumTables}
@@ -19,14 +19,14 @@ use Rattle.witness.proofs.unchecked.fewest.Tie as tie
 
 abbrev Inv-loop2 : tie.InvT-loop2
 Inv-loop2 a sums-u sums-v k l count high-count highs lows least₀ shown₀ high lit reach low₀ least shown low =
-    Passing (agreesOn (alignedIn a) k l) (2 ^ a .count) least shown (high * lows + low) × (low ≤ lows)
+    Passing (clearsOn (alignedIn a) k l) (2 ^ a .count) least shown (high * lows + low) × (low ≤ lows)
 
 abbrev μ-loop2 : tie.MeasureT-loop2
 μ-loop2 a sums-u sums-v k l count high-count highs lows least₀ shown₀ high lit reach low₀ least shown low = lows - low
 
 abbrev Inv-loop : tie.InvT-loop
 Inv-loop a sums-u sums-v k l count high-count highs lows least₀ shown₀ high₀ least shown high =
-    Passing (agreesOn (alignedIn a) k l) (2 ^ a .count) least shown (high * lows) × (high ≤ highs)
+    Passing (clearsOn (alignedIn a) k l) (2 ^ a .count) least shown (high * lows) × (high ≤ highs)
 
 abbrev μ-loop : tie.MeasureT-loop
 μ-loop a sums-u sums-v k l count high-count highs lows least₀ shown₀ high₀ least shown high = highs - high
@@ -165,8 +165,8 @@ loop2-again c =
     λ j h. let e : number d + j ≡ number d = omega (arith, h) in rw e (omega (arith, lit d, c .if2 .taken)) in
     (placed _ (onward d) (many-lit 1 (d .before .loop2 .inv .0) over), omega arith)
 
-agrees-low-requires : tie.Need-agrees-low-requires Inv-loop2 μ-loop2 Inv-loop μ-loop
-agrees-low-requires c κs =
+clears-low-requires : tie.Need-clears-low-requires Inv-loop2 μ-loop2 Inv-loop μ-loop
+clears-low-requires c κs =
     let d = c .before in
     let h = whole d in
     let s = start h in
@@ -176,14 +176,14 @@ agrees-low-requires c κs =
     (tables h, (reached, (s .pre .0 .dial, low-low d)))
 
 -- what its test says
-agreed : (c : tie.After-agrees-low Inv-loop2 μ-loop2 Inv-loop μ-loop) → let d = c .before .before in let s = start (whole d) .args in
-    c .agrees-low .result ≡ agreesOn (alignedIn (s .a)) (s .k) (s .l) (number d)
+agreed : (c : tie.After-clears-low Inv-loop2 μ-loop2 Inv-loop μ-loop) → let d = c .before .before in let s = start (whole d) .args in
+    c .clears-low .result ≡ clearsOn (alignedIn (s .a)) (s .k) (s .l) (number d)
 agreed c =
     let d = c .before .before in
     let h = whole d in
     let p = start h .pre in
     tested-low (p .0 .searchable) (p .1 .0) (p .1 .1) (start h .args .k) (start h .args .l) (lows h) (high (of d)) (low d) (setting d)
-    (rw (d .before .before .low-thresholds .ensures) at (c .agrees-low .ensures))
+    (rw (d .before .before .low-thresholds .ensures) at (c .clears-low .ensures))
 
 add-low-2 : tie.Need-add-low-2 Inv-loop2 μ-loop2 Inv-loop μ-loop
 add-low-2 c = record { fits = omega (arith, low-low (c .before .before .before)) }
@@ -274,7 +274,7 @@ fewest-spec =
     add-low
     loop2-less
     loop2-again
-    agrees-low-requires
+    clears-low-requires
     add-low-2
     loop2-less-2
     loop2-again-2

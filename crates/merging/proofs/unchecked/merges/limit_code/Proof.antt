@@ -1,8 +1,10 @@
--- The three tests in their order. Assumes nothing.
+-- The four tests in their order. Assumes nothing.
 use mathlib.Core.Path.{_≡_, sym, _∙_}
 use mathlib.Core.Bool.{true, _&&_}
 use borrow.Author.Tests.{not-true, not-false, le-leb, lt-leb}
 use Rattle.integers.specs.TestLaws.{T-is, T-and}
+use Rattle.folding.specs.Aligned.{scaleFits}
+use Rattle.alignment.specs.Alignments.{alignedIn, Dial}
 use Rattle.folding.specs.Merge.{onDial}
 use Rattle.folding.specs.PairLaws.{dial-of}
 use Rattle.merging.specs.Codes.{firstFailing, limitTestsOn}
@@ -43,11 +45,31 @@ returns-3 c =
     let e = c .before .before in
     rw (within (e .before), le-leb _ 16 (e .if2 .left), sym (c .before .scale-fits .ensures) ∙ not-true _ (c .if3 .taken))
 
+-- past the third test the merged gate is on the scale
+scaled : (c : tie.Else3) → let a = c .before .before .before .before .before .before .args in scaleFits (alignedIn (a .a)) (a .k) (a .l) ≡ true
+scaled c = sym (c .before .scale-fits .ensures) ∙ not-false _ (c .if3 .left)
+
+merge-keeps-requires : tie.Need-merge-keeps-requires
+merge-keeps-requires c κs =
+    let e = c .before .before in
+    let s = e .before .before .before .before in
+    let d = T-and (onDial (s .args .k)) (onDial (s .args .l)) (T-is _ (within (e .before))) in
+    let dial : Dial (s .args .k) (s .args .l) = record { k-high = dial-of (s .args .k) (d .0) .1; l-high = dial-of (s .args .l) (d .1) .1 } in
+    (record { searchable = record { few = e .if2 .left; fair = s .pre }; dial = dial }, T-is _ (scaled c))
+
 returns-4 : tie.Need-returns-4
 unfolding firstFailing limitTestsOn
 returns-4 c =
-    let e = c .before .before in
-    rw (within (e .before), le-leb _ 16 (e .if2 .left), sym (c .before .scale-fits .ensures) ∙ not-false _ (c .if3 .left))
+    let t = c .before .before in
+    let e = t .before .before in
+    rw (within (e .before), le-leb _ 16 (e .if2 .left), scaled t, sym (c .before .merge-keeps .ensures) ∙ not-true _ (c .if4 .taken))
+
+returns-5 : tie.Need-returns-5
+unfolding firstFailing limitTestsOn
+returns-5 c =
+    let t = c .before .before in
+    let e = t .before .before in
+    rw (within (e .before), le-leb _ 16 (e .if2 .left), scaled t, sym (c .before .merge-keeps .ensures) ∙ not-false _ (c .if4 .left))
 
 pub limit-code-spec : {M : Type 1} → statement M
 limit-code-spec =
@@ -59,4 +81,6 @@ limit-code-spec =
     returns-2
     scale-fits-requires
     returns-3
-    returns-4)
+    merge-keeps-requires
+    returns-4
+    returns-5)

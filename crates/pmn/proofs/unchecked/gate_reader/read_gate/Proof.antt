@@ -4,7 +4,6 @@ use borrow.Author.Tests.{not-true, not-false}
 use native.Mathlib.Omega.{arith}
 use mathlib.Core.Path.{_≡_, sym, ap, _∙_, subst}
 use mathlib.Core.Bool.{Bool}
-use mathlib.Core.List.{List, []}
 use Prim.Native.Nat.{_+_}
 use lib.IntN.{ℤ}
 use lib.ListN.{getD, drop}
@@ -12,13 +11,14 @@ use mir.Syntax.{w32}
 use mir.Val.{toZ, ofZ}
 use mir.Facts.{toZ-ofZ}
 use Rattle.integers.specs.Word.{intAt}
-use Rattle.network.specs.Threshold.{Feed}
+use Rattle.integers.specs.TestLaws.{T-is}
+use Rattle.network.specs.Threshold.{Gate}
 use Rattle.network.specs.Limits.{inScale}
 use Rattle.network.specs.Record.{gateRecord}
-use Rattle.format.specs.Format.{check, parseFeeds, parseGate}
-use Rattle.format.specs.AtLaws.{gate-end, gate-wide, gate-short, gate-whole}
-use Rattle.pmn.specs.Seen.{Seen, mapped, rowOf}
-use Rattle.pmn.proofs.SeenLaws.{seen-refused, seen-through}
+use Rattle.format.specs.Format.{Read, check, parseGate}
+use Rattle.format.specs.AtLaws.{parseKept, gate-end, gate-wide, gate-short, gate-whole}
+use Rattle.pmn.specs.Seen.{Seen}
+use Rattle.pmn.proofs.SeenLaws.{seen-refused, seen-same}
 use Rattle.pmn.proofs.unchecked.gate_reader.read_gate.Statement.{statement}
 use Rattle.pmn.proofs.unchecked.gate_reader.read_gate.Tie as tie
 
@@ -29,11 +29,12 @@ threshold-is c = toZ-ofZ (record { sfits = c .get-int .ok }) ∙ c .get-int .ens
 
 -- the whole gate, by what the test of its threshold says
 whole : (c : tie.After-in-scale) {b : Bool} → c .in-scale .result ≡ b → let a = c .before .before .before .before .before .before .before .args in
-    parseGate (a .own) (drop (a .at) (a .file .now))
-    ≡ check b 6 (mapped (λ fs. record { feeds = fs; threshold = intAt (a .file .now) (a .at + 1) }) (parseFeeds (a .own) (getD (a .file .now) (a .at) 0) 0 [] (drop (a .at + 5) (a .file .now))))
+    let s = a .file .now in
+    parseGate (a .board) (a .own) (drop (a .at) s)
+    ≡ check b 6 (parseKept (a .board) (a .own) (getD s (a .at) 0) (intAt s (a .at + 1)) (drop (a .at + 5) s))
 whole c e =
     let a = c .before .before .before .before .before .before .before .args in
-    gate-whole (a .own) (a .at) (a .file .now) (omega arith) (omega arith) (sym (c .in-scale .ensures ∙ ap inScale (threshold-is (c .before))) ∙ e)
+    gate-whole (a .board) (a .own) (a .at) (a .file .now) (omega arith) (omega arith) (sym (c .in-scale .ensures ∙ ap inScale (threshold-is (c .before))) ∙ e)
 
 no-gate-requires : tie.Need-no-gate-requires
 no-gate-requires c κs = search needs
@@ -41,7 +42,7 @@ no-gate-requires c κs = search needs
 returns : tie.Need-returns
 returns c =
     let a = c .before .before .before .args in
-    seen-refused 4 (omega arith) (c .no-gate .ensures) (gate-end (a .own) (a .at) (a .file .now) (omega arith))
+    seen-refused 4 (omega arith) (c .no-gate .ensures) (gate-end (a .board) (a .own) (a .at) (a .file .now) (omega arith))
 
 shared-slice-read-fanin : tie.Need-shared-slice-read-fanin
 shared-slice-read-fanin c = search needs
@@ -52,7 +53,7 @@ no-gate-requires-2 c κs = search needs
 returns-2 : tie.Need-returns-2
 returns-2 c =
     let a = c .before .before .before .before .before .args in
-    seen-refused 7 (omega arith) (c .no-gate2 .ensures) (gate-wide (a .own) (a .at) (a .file .now) (omega arith) (omega arith))
+    seen-refused 7 (omega arith) (c .no-gate2 .ensures) (gate-wide (a .board) (a .own) (a .at) (a .file .now) (omega arith) (omega arith))
 
 sub-if3 : tie.Need-sub-if3
 sub-if3 c = search needs
@@ -63,7 +64,7 @@ no-gate-requires-3 c κs = search needs
 returns-3 : tie.Need-returns-3
 returns-3 c =
     let a = c .before .before .before .before .before .before .args in
-    seen-refused 4 (omega arith) (c .no-gate3 .ensures) (gate-short (a .own) (a .at) (a .file .now) (omega arith) (omega arith) (omega arith))
+    seen-refused 4 (omega arith) (c .no-gate3 .ensures) (gate-short (a .board) (a .own) (a .at) (a .file .now) (omega arith) (omega arith) (omega arith))
 
 add-get-int : tie.Need-add-get-int
 add-get-int c = search needs
@@ -80,20 +81,25 @@ no-gate-requires-4 c κs = search needs
 returns-4 : tie.Need-returns-4
 returns-4 c = seen-refused 6 (omega arith) (c .no-gate4 .ensures) (whole (c .before .before) (not-true _ (c .before .if4 .taken)))
 
-add-read-feeds : tie.Need-add-read-feeds
-add-read-feeds c = search needs
+add-read-kept : tie.Need-add-read-kept
+add-read-kept c = search needs
 
-read-feeds-requires : tie.Need-read-feeds-requires
-read-feeds-requires c κs = search needs
+read-kept-requires : tie.Need-read-kept-requires
+read-kept-requires c κs =
+    let at-scale = c .before in (
+      omega arith,
+      omega arith,
+      T-is (inScale (toZ w32 (ofZ w32 (at-scale .before .get-int .result)))) (sym (at-scale .in-scale .ensures) ∙ not-false _ (c .if4 .left)),
+    )
 
 returns-5 : tie.Need-returns-5
 returns-5 c =
     let a = c .before .before .before .before .before .before .before .before .before .args in
-    let r = c .read-feeds .result in
-    let xs = a .file .now in
-    seen-through (λ (fs : List Feed). record { feeds = fs; threshold = intAt xs (a .at + 1) }) gateRecord
-    (subst (λ (z : ℤ). Seen (rowOf z) xs (parseFeeds (a .own) (getD xs (a .at) 0) 0 [] (drop (a .at + 5) xs)) (r .code) (r .next) (r .gate)) (threshold-is (c .before .before .before)) (c .read-feeds .ensures))
-    (whole (c .before .before) (not-false _ (c .before .if4 .left)))
+    let s = a .file .now in
+    let r = c .read-kept .result in
+    let kept : ℤ → Read Gate = λ z. parseKept (a .board) (a .own) (getD s (a .at) 0) z (drop (a .at + 5) s) in
+    seen-same (whole (c .before .before) (not-false _ (c .before .if4 .left)))
+    (subst (λ (z : ℤ). Seen gateRecord s (kept z) (r .code) (r .next) (r .gate)) (threshold-is (c .before .before .before)) (c .read-kept .ensures))
 
 pub read-gate-spec : {M : Type 1} → statement M
 read-gate-spec =
@@ -112,6 +118,6 @@ read-gate-spec =
     in-scale-requires
     no-gate-requires-4
     returns-4
-    add-read-feeds
-    read-feeds-requires
+    add-read-kept
+    read-kept-requires
     returns-5)

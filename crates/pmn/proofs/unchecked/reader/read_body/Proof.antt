@@ -12,7 +12,10 @@ refuse-requires : tie.Need-refuse-requires
 refuse-requires c κs = search needs
 
 returns : tie.Need-returns
-returns c = let a = c .before .before .before .before .args in c .refuse .ensures ∙ gates-failed (a .inputs) (a .gates) (a .outputs) (c .before .before .read-gates .ensures) (c .before .if1 .taken)
+returns c =
+    let at-gates = c .before .before in
+    let h = at-gates .before .before .before .args .head in
+    c .refuse .ensures ∙ gates-failed (h .board) (h .inputs) (h .gates) (h .outputs) (h .next) (at-gates .read-gates .ensures) (c .before .if1 .taken)
 
 add-read-outputs : tie.Need-add-read-outputs
 add-read-outputs c = search needs
@@ -25,26 +28,38 @@ refuse-requires-2 c κs = search needs
 
 returns-2 : tie.Need-returns-2
 returns-2 c =
-    let at-gates = c .before .before .before in
-    let a = at-gates .before .before .before .args in
-    c .refuse2 .ensures ∙ outputs-failed (a .inputs) (a .gates) (a .outputs) (at-gates .before .read-gates .ensures) (at-gates .if1 .left) (c .before .before .read-outputs .ensures) (c .before .if2 .taken)
+    let at-outputs = c .before .before in
+    let at-else = at-outputs .before in
+    let at-gates = at-else .before in
+    let h = at-gates .before .before .before .args .head in
+    c .refuse2 .ensures
+    ∙ outputs-failed (h .board) (h .inputs) (h .gates) (h .outputs) (h .next) (at-gates .read-gates .ensures) (at-else .if1 .left)
+    (at-outputs .read-outputs .ensures) (c .before .if2 .taken)
 
 refuse-requires-3 : tie.Need-refuse-requires-3
 refuse-requires-3 c κs = search needs
 
 returns-3 : tie.Need-returns-3
 returns-3 c =
-    let at-outputs = c .before .before .before in
-    let at-gates = at-outputs .before .before in
-    let a = at-gates .before .before .before .args in
-    c .refuse3 .ensures ∙ tail-left (a .inputs) (a .gates) (a .outputs) (at-gates .before .read-gates .ensures) (at-gates .if1 .left) (at-outputs .before .read-outputs .ensures) (at-outputs .if2 .left) (c .before .if3 .taken)
+    let at-read = c .before .before .before in
+    let at-outputs = at-read .before in
+    let at-else = at-outputs .before in
+    let at-gates = at-else .before in
+    let h = at-gates .before .before .before .args .head in
+    c .refuse3 .ensures
+    ∙ tail-left (h .board) (h .inputs) (h .gates) (h .outputs) (h .next) (at-gates .read-gates .ensures) (at-else .if1 .left)
+    (at-outputs .read-outputs .ensures) (at-read .if2 .left) (c .before .if3 .taken)
 
 returns-4 : tie.Need-returns-4
 returns-4 c =
-    let at-outputs = c .before .before .before .before in
-    let at-gates = at-outputs .before .before in
-    let a = at-gates .before .before .before .args in
-    body-read (a .inputs) (a .gates) (a .outputs) (at-gates .before .read-gates .ensures) (at-gates .if1 .left) (at-outputs .before .read-outputs .ensures) (at-outputs .if2 .left) (c .before .before .if3 .left)
+    let at-end = c .before .before in
+    let at-read = at-end .before .before in
+    let at-outputs = at-read .before in
+    let at-else = at-outputs .before in
+    let at-gates = at-else .before in
+    let h = at-gates .before .before .before .args .head in
+    body-read (h .board) (h .inputs) (h .gates) (h .outputs) (h .next) (at-gates .read-gates .ensures) (at-else .if1 .left)
+    (at-outputs .read-outputs .ensures) (at-read .if2 .left) (at-end .if3 .left)
 
 pub read-body-spec : {M : Type 1} → statement M
 read-body-spec =

@@ -8,15 +8,15 @@ use Rattle.pmn.proofs.unchecked.reader.read_gates.Statement.{statement}
 use Rattle.pmn.proofs.unchecked.reader.read_gates.Tie as tie
 
 abbrev Inv-loop : tie.InvT-loop
-Inv-loop file start inputs gates fanins₀ signals₀ weights₀ thresholds₀ at₀ g₀ fanins signals weights thresholds at g =
-    GatesSoFar file start inputs gates fanins signals weights thresholds at g
+Inv-loop file start board inputs gates fanins₀ signals₀ weights₀ thresholds₀ at₀ g₀ fanins signals weights thresholds at g =
+    GatesSoFar file board start inputs gates fanins signals weights thresholds at g
 
 abbrev μ-loop : tie.MeasureT-loop
-μ-loop file start inputs gates fanins₀ signals₀ weights₀ thresholds₀ at₀ g₀ fanins signals weights thresholds at g =
+μ-loop file start board inputs gates fanins₀ signals₀ weights₀ thresholds₀ at₀ g₀ fanins signals weights thresholds at g =
     gates - g
 
 loop-holds : tie.Need-loop-holds Inv-loop μ-loop
-loop-holds c = let a = c .before .args in gates-start (a .file .now) (a .start) (a .inputs) (a .gates) (c .before .pre .0)
+loop-holds c = let a = c .before .args in gates-start (a .file .now) (a .board) (a .start) (a .inputs) (a .gates) (c .before .pre .0)
 
 add-read-gate : tie.Need-add-read-gate Inv-loop μ-loop
 add-read-gate c = search needs

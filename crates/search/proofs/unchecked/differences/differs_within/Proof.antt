@@ -1,4 +1,4 @@
--- `search::unchecked::differences::differs_within` is safe: the places are there. It promises nothing. Assumes nothing.
+-- The places are there; the function promises nothing. Assumes nothing.
 use Prim.Native.Nat.{_-_, _≤_}
 use native.Mathlib.Omega.{arith}
 use borrow.Author.Needs.{needs}
@@ -6,19 +6,13 @@ use Rattle.search.proofs.unchecked.differences.differs_within.Statement
 use Rattle.search.proofs.unchecked.differences.differs_within.Tie as tie
 
 abbrev Inv-loop : tie.InvT-loop
-Inv-loop sums-u sums-v mixes thresholds bar lows differs₀ low₀ differs low = low ≤ lows
+Inv-loop sums-u sums-v mixes thresholds upper lower lows differs₀ low₀ differs low = low ≤ lows
 
 abbrev μ-loop : tie.MeasureT-loop
-μ-loop sums-u sums-v mixes thresholds bar lows differs₀ low₀ differs low = lows - low
+μ-loop sums-u sums-v mixes thresholds upper lower lows differs₀ low₀ differs low = lows - low
 
 loop-holds : tie.Need-loop-holds Inv-loop μ-loop
 loop-holds c = omega arith
-
-mul-differs : tie.Need-mul-differs Inv-loop μ-loop
-mul-differs c = search needs
-
-element-copy-out-differs : tie.Need-element-copy-out-differs Inv-loop μ-loop
-element-copy-out-differs c = search needs
 
 mul-composed-bit : tie.Need-mul-composed-bit Inv-loop μ-loop
 mul-composed-bit c = search needs
@@ -34,6 +28,12 @@ element-copy-out-composed-bit-2 c = search needs
 
 composed-bit-requires : tie.Need-composed-bit-requires Inv-loop μ-loop
 composed-bit-requires c κs = search needs
+
+mul-sum : tie.Need-mul-sum Inv-loop μ-loop
+mul-sum c = search needs
+
+element-copy-out-sum : tie.Need-element-copy-out-sum Inv-loop μ-loop
+element-copy-out-sum c = search needs
 
 add-low : tie.Need-add-low Inv-loop μ-loop
 add-low c = search needs
@@ -54,13 +54,13 @@ differs-within-spec =
     Inv-loop
     μ-loop
     loop-holds
-    mul-differs
-    element-copy-out-differs
     mul-composed-bit
     element-copy-out-composed-bit
     mul-composed-bit-2
     element-copy-out-composed-bit-2
     composed-bit-requires
+    mul-sum
+    element-copy-out-sum
     add-low
     loop-less
     loop-again

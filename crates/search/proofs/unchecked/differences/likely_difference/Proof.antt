@@ -54,14 +54,14 @@ module _ (c : tie.In-loop Inv-loop μ-loop) where
   low-setting : setting < 65536
   low-setting = setting-low (start .args .count) setting (start .pre .1 .1 .1 .0) inside
 
-mul-agrees-at : tie.Need-mul-agrees-at Inv-loop μ-loop
-mul-agrees-at c = record { fits = omega (arith, low-setting c) }
+mul-clears-at : tie.Need-mul-clears-at Inv-loop μ-loop
+mul-clears-at c = record { fits = omega (arith, low-setting c) }
 
-add-agrees-at : tie.Need-add-agrees-at Inv-loop μ-loop
-add-agrees-at c = record { fits = omega (arith, low-setting c) }
+add-clears-at : tie.Need-add-clears-at Inv-loop μ-loop
+add-clears-at c = record { fits = omega (arith, low-setting c) }
 
-agrees-at-requires : tie.Need-agrees-at-requires Inv-loop μ-loop
-agrees-at-requires c κs = let p = start c .pre in (p .0, (near-wider (start c .args .thresholds) (p .1 .0), (p .1 .1 .0, low-setting c)))
+clears-at-requires : tie.Need-clears-at-requires Inv-loop μ-loop
+clears-at-requires c κs = let p = start c .pre in (p .0, (near-wider (start c .args .thresholds) (p .1 .0), (p .1 .1 .0, low-setting c)))
 
 mul-result : tie.Need-mul-result Inv-loop μ-loop
 mul-result c = record { fits = omega (arith, low-setting (c .before .before)) }
@@ -95,9 +95,9 @@ likely-difference-spec =
     sub-settings
     settings-requires
     loop-holds
-    mul-agrees-at
-    add-agrees-at
-    agrees-at-requires
+    mul-clears-at
+    add-clears-at
+    clears-at-requires
     mul-result
     add-result
     returns

@@ -72,19 +72,26 @@ module _ (c : tie.In-loop Inv-loop μ-loop) where
 low-thresholds-requires : tie.Need-low-thresholds-requires Inv-loop μ-loop
 low-thresholds-requires c κs = let p = start (halves c) .pre in (p .0, (p .1 .0, low-high c))
 
-merged-threshold-requires : tie.Need-merged-threshold-requires Inv-loop μ-loop
-merged-threshold-requires c κs =
+-- what is left for the low half
+near : (c : tie.After-low-thresholds Inv-loop μ-loop) → Near 10000000 (c .low-thresholds .result)
+near c =
     let d = c .before in
     let s = start (halves d) in
     let at = 256 + high d in
-    let near = reduced-near (s .args .thresholds) _ _ (s .pre .1 .0) (s .pre .0 .u-small at) (s .pre .0 .v-small at) in
-    (subst (Near 10000000) (sym (c .low-thresholds .ensures)) near, s .pre .1 .1 .0)
+    subst (Near 10000000) (sym (c .low-thresholds .ensures))
+    (reduced-near (s .args .thresholds) _ _ (s .pre .1 .0) (s .pre .0 .u-small at) (s .pre .0 .v-small at))
+
+upper-threshold-requires : tie.Need-upper-threshold-requires Inv-loop μ-loop
+upper-threshold-requires c κs = (near c, start (halves (c .before)) .pre .1 .1 .0)
+
+lower-threshold-requires : tie.Need-lower-threshold-requires Inv-loop μ-loop
+lower-threshold-requires c κs = (near (c .before), start (halves (c .before .before)) .pre .1 .1 .0)
 
 differs-within-requires : tie.Need-differs-within-requires Inv-loop μ-loop
-differs-within-requires c κs = lows-few (halves (c .before .before .before))
+differs-within-requires c κs = lows-few (halves (c .before .before .before .before))
 
 returns : tie.Need-returns Inv-loop μ-loop
-returns c = let d = c .before .before .before .before .before in omega (arith, inside d, highs-is (halves d))
+returns c = let d = c .before .before .before .before .before .before in omega (arith, inside d, highs-is (halves d))
 
 add-step : tie.Need-add-step Inv-loop μ-loop
 add-step c = search needs
@@ -111,7 +118,8 @@ likely-high-half-spec =
     mixed-sums-requires
     loop-holds
     low-thresholds-requires
-    merged-threshold-requires
+    upper-threshold-requires
+    lower-threshold-requires
     differs-within-requires
     returns
     add-step

@@ -1,0 +1,16 @@
+-- What is claimed of the converter. Nothing is proved here.
+use mathlib.Core.Path.{_≡_}
+use mathlib.Core.List.{List}
+use Prim.Native.Nat.{ℕ, _≤_}
+use lib.ListN.{length}
+use Rattle.integers.specs.Refusals.{accepted}
+use Rattle.format.specs.Format.{Bytes}
+use Rattle.converting.specs.Conversion.{conversionOf}
+
+-- a file that is converted, into so many lent bytes, gives bytes; these, converted into lent bytes that have room for the file, give the
+-- file back, byte for byte
+unfoldable pub ThereAndBack : Type 0
+ThereAndBack =
+    (file : List ℕ) → Bytes file
+    → (room : ℕ) (bytes : List ℕ) → conversionOf file room ≡ accepted bytes
+    → (back : ℕ) → length file ≤ back → conversionOf bytes back ≡ accepted file

@@ -1,0 +1,5 @@
+pub mod Conversion
+pub mod Claims
+pub mod ConversionLaws
+pub mod FileLaws
+pub mod ClaimLaws

@@ -1,0 +1,24 @@
+-- The margins of version 1 are kept by every gate. Assumes nothing.
+use mathlib.Core.Path.{sym}
+use lib.Dec.{eqb, eqb→eq}
+use borrow.Author.Needs.{needs}
+use Rattle.integers.specs.TestLaws.{T-is, T-and}
+use Rattle.network.specs.MarginLaws.{places-plain}
+use Rattle.network.proofs.unchecked.gates_keep.Statement.{statement}
+use Rattle.network.proofs.unchecked.gates_keep.Tie as tie
+
+returns : tie.Need-returns
+returns c =
+    let a = c .before .before .before .args in
+    let b = a .board in
+    let t = T-and (eqb (b .on) 0) (eqb (b .off) 1) (T-is _ (c .if1 .taken)) in
+    sym (places-plain b (a .fanins .now) (a .thresholds .now) (a .weights .now) (a .gates) (eqb→eq (b .on) 0 (t .0)) (eqb→eq (b .off) 1 (t .1)))
+
+each-keeps-requires : tie.Need-each-keeps-requires
+each-keeps-requires c κs = search needs
+
+returns-2 : tie.Need-returns-2
+returns-2 c = search needs
+
+pub gates-keep-spec : {M : Type 1} → statement M
+gates-keep-spec = tie.close (tie.spec returns each-keeps-requires returns-2)
