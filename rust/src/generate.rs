@@ -300,7 +300,7 @@ pub fn tolerant(r: &mut Random, net: &Net) -> Net {
     out
 }
 
-/// The network, or now and then the same gates with margins.
+/// The network, or in a quarter of the cases one like it with margins.
 pub fn on_some_board(r: &mut Random, net: Net) -> Net {
     if r.below(4) == 0 {
         tolerant(r, &net)

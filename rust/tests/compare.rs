@@ -700,8 +700,8 @@ fn after_calls(file: &[u8], calls: &[[u64; 5]]) -> (u64, Vec<u8>) {
 }
 
 /// A gate and its complement with the opposite votes: the library answers the same for both, and a merge or a collapse leaves the same.
-/// With margins too where both keep them, which are as wide above as below a half less than T: the complement's sums that reach its
-/// threshold are as far above that as the gate's others are below its own, less 1.
+/// With margins too, where the off margin is one more than the on margin: the complement keeps an on and an off margin exactly where the
+/// gate keeps the off margin less 1 and the on margin plus 1 in their places, so that such margins are kept by both or by neither.
 #[test]
 fn mirrored_networks() {
     let mut r = Random::new(5);
