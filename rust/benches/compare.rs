@@ -103,7 +103,7 @@ fn file_rows() {
     row("read of the largest file", read, read_too);
     row("write of it (the call less the read)", write.saturating_sub(read), write_too);
     row("frame on a full network (the call less the read)", frame.saturating_sub(read), frame_too);
-    row("soundness and frame on a full network (read and frame)", frame, read_too + frame_too);
+    row("read and frame on a full network", frame, read_too + frame_too);
 }
 
 /// The rows of a preview and of the collapse that it shows with one report after it, and how many times the latter the former is.
@@ -276,7 +276,21 @@ fn margins_row(name: &str, ours: [Duration; 2], theirs: [Duration; 2]) {
     println!("| {name} | {} | {} | {} | {} | {} |", text(ours[0]), text(ours[1]), ratio(ours[0], ours[1]), cells[0], cells[1]);
 }
 
-/// Full files: the read, a frame and a report with their reads, each of which tests that its record is sound.
+/// How long the test takes that a record is sound: a list of sweeps, each refused with 14 right after that test, less the empty list.
+fn soundness(net: &Net) -> Duration {
+    let file = reference::write(net);
+    let calls = [3, 129, 0, 0, 0].repeat(16);
+    let (mut answers, mut out) = ([0u64; 65], vec![0u8; library::LONGEST_FILE]);
+    let (mut length, mut other) = ([0u64; 1], vec![0u8; library::LONGEST_FILE]);
+    let [tested, empty] = times([
+        &mut || assert_eq!(library::run(black_box(&file), &calls, &mut answers, &mut out), 0),
+        &mut || assert_eq!(library::run(black_box(&file), &[], &mut length, &mut other), 0),
+    ]);
+    assert!(answers[1..].chunks(4).all(|answer| answer == [14, 0, 0, 0]));
+    tested.saturating_sub(empty) / 16
+}
+
+/// Full files: the read, the test of the record, a frame and a report with their reads.
 fn full_margins_rows() {
     let nets = both_versions(&largest_tolerant(&mut Random::new(7)));
     let taken = nets.each_ref().map(|net| {
@@ -294,8 +308,10 @@ fn full_margins_rows() {
     });
     let with_read = |i: usize| taken.map(|times| times[3] + times[i]);
     margins_row("read of the largest file", taken.map(|times| times[0]), taken.map(|times| times[3]));
-    margins_row("soundness and frame on it (read and frame)", taken.map(|times| times[1]), with_read(4));
-    margins_row("soundness and report of it (read and report)", taken.map(|times| times[2]), with_read(5));
+    let [first, second] = nets.each_ref().map(soundness);
+    println!("| soundness of its record | {} | {} | {} | – | – | – | – |", text(first), text(second), ratio(first, second));
+    margins_row("read of it and frame", taken.map(|times| times[1]), with_read(4));
+    margins_row("read of it and report", taken.map(|times| times[2]), with_read(5));
 }
 
 /// Pairs of the two gates of a network, less the read, against the exact method: its form for any margins in version 2.
