@@ -1,13 +1,16 @@
 /* The folder's functions for C: threshold networks in PMN files (libcapi.a).
  *
  * Every function takes whole files, of version 1 or 2, and numbers, and answers 0 or the number of a refusal (the table of codes in
- * document 01; 24, 25 and 26 are from document 02). The number 13 is never given.
+ * document 01; 22, 24, 25 and 26 are from document 02). The numbers 13 and 23 are never given.
  * A slice is a pointer and then a length, in bytes for uint8_t and in numbers for uint64_t and int64_t. A slice that is written overlaps
  * no other slice of the same call. A pointer is not null, even where the length is 0.
  *
  * Every function but pmn_three_feeds, which is given no file, reads its file first: the refusal is the read's ("as read", 1 to 9 or 24),
  * before any other. On a refusal everything that was lent is left as it was; where the answer is 0, places and bytes after those named
- * are left as they were. pmn_witness alone writes where its answer is not 0: with 15, and only then. */
+ * are left as they were. pmn_witness alone writes where its answer is not 0: with 15, and only then.
+ *
+ * pmn_run takes at most 336 KB of stack,
+ * every other function at most 164 KB of stack. */
 #ifndef PMN_H
 #define PMN_H
 
@@ -98,11 +101,15 @@ uint8_t pmn_line(const uint8_t *first, size_t first_length,
  *     2, s            collapse of s
  *     3, B            sweep with reader limit B
  *     4, s            preview of the collapse of s, which leaves the network as it was
+ *     5               undo of the latest step
  * Each call gets the network that the call before it left; a refused call leaves it as it was, and the list goes on.
+ * The list keeps a journal of its last 64 accepted steps, which begins empty, since no file carries one. A merge is a step, and so is a drop;
+ * a collapse enters its merges in rising order of the readers and then its drop, a sweep the steps of its collapses. An undo takes the latest
+ * step back: the network is as it was before that step, signals included. It is no step itself; 22 where the journal is empty.
  * answers[0]: the length of the file in out. Then four numbers for each call: its code, 0 where it is accepted, and three numbers: of a
  * sweep the number of collapses, 0 and 0; of a preview gates, cost and levels after the collapse; of every other call, and where the code
  * is not 0, 0, 0 and 0.
- * Codes in order: as read, 14 where calls_length is no multiple of 5 or a kind is above 4, 18 where answers has fewer places than
+ * Codes in order: as read, 14 where calls_length is no multiple of 5 or a kind is above 5, 18 where answers has fewer places than
  * 1 and 4 for each call, or out is shorter than the file. With 10,906 bytes or more in out, which hold any file, the list is run
  * once; with fewer it is run twice. */
 uint8_t pmn_run(const uint8_t *file, size_t file_length,

@@ -1,6 +1,6 @@
 //! Times of the proved library on the same inputs as the independent implementation, which tries everything, and as the exact method, which
 //! finds a pair by one pass over its settings: in one process, and their ratios. All rows, or those of the kinds named on the command line:
-//! file, preview, frames, witness, pair, sweep, margins, alley.
+//! file, preview, frames, witness, pair, sweep, margins, alley, merge, undo.
 use std::env;
 use std::fs::{self, File};
 use std::hint::black_box;
@@ -10,10 +10,10 @@ use yovrenik_tests as library;
 use yovrenik_tests::direct;
 use yovrenik_tests::exact;
 use yovrenik_tests::generate::{
-    folding_chain, full_folding, full_standing, heavier, largest, largest_tolerant, last_setting_only, lit_from, mirrored, mixed_chain,
-    most_passes, narrow, network, ratio_31_32, standing_chain, Random,
+    fan, folding_chain, full_folding, full_standing, heavier, largest, largest_tolerant, last_setting_only, lit_from, mirrored,
+    mixed_chain, most_passes, narrow, network, ratio_31_32, standing_chain, Random,
 };
-use yovrenik_tests::reference::{self, Board, Net};
+use yovrenik_tests::reference::{self, Board, Net, Record};
 
 /// The least mean time of one call over many short runs, so that other work of the machine counts little; a call that takes long is made
 /// once.
@@ -399,6 +399,50 @@ fn alley_rows() {
     alley_row("65,535 lanes without a file", &alley(&[vec![]], 65_535));
 }
 
+/// The row of a list of calls that are accepted, by one run less that of the empty list, and by the independent implementation, which finds
+/// pairs by the exact method.
+fn list_row(name: &str, net: &Net, calls: &[[u64; 5]]) {
+    let (file, numbers, read) = (reference::write(net), calls.concat(), Record::just_read(net.clone()));
+    let one = |record: Record, call: &[u64; 5]| reference::call_by(&record, call, exact::pair).unwrap().1;
+    let all = || calls.iter().fold(black_box(&read).clone(), one);
+    let (mut answers, mut out) = (vec![0u64; 1 + 4 * calls.len()], vec![0u8; library::LONGEST_FILE]);
+    let (mut length, mut other) = ([0u64; 1], vec![0u8; library::LONGEST_FILE]);
+    let [ours, empty, theirs] = times([
+        &mut || assert_eq!(library::run(black_box(&file), &numbers, &mut answers, &mut out), 0),
+        &mut || assert_eq!(library::run(black_box(&file), &[], &mut length, &mut other), 0),
+        &mut || drop(black_box(all())),
+    ]);
+    let after = reference::write(&all().net);
+    assert!(answers[1..].iter().all(|&a| a == 0) && out[..answers[0] as usize] == after);
+    row(&format!("{name} (the list less the read and the write)"), ours.saturating_sub(empty), theirs);
+}
+
+/// Calls that fold the first gate of a network, and how many undos the journal then has for them: all, or 64 of 128 steps.
+fn folds() -> [(&'static str, Net, [u64; 5], usize); 6] {
+    let (full, chain) = (full_folding(), folding_chain(128));
+    let [some, many] = [63, 127].map(|readers| fan(&mut Random::new(9), readers));
+    let collapse = |net: &Net| [2, net.inputs as u64, 0, 0, 0];
+    [
+        ("merge on a full network, 16 distinct feeds", full.clone(), [0, 16, 17, 1, 1], 1),
+        ("merge in a chain of 128 gates", chain.clone(), [0, 16, 17, 1, 1], 1),
+        ("collapse of a gate of a full network", full.clone(), collapse(&full), 2),
+        ("collapse of a gate of a chain of 128 gates", chain.clone(), collapse(&chain), 2),
+        ("collapse of a gate with 63 readers", some.clone(), collapse(&some), 64),
+        ("collapse of a gate with 127 readers", many.clone(), collapse(&many), 64),
+    ]
+}
+
+fn merge_rows() {
+    folds().iter().for_each(|(name, net, call, _)| list_row(name, net, &[*call]));
+}
+
+fn undo_rows() {
+    for (name, net, call, undos) in folds() {
+        let back = vec![[5, 0, 0, 0, 0]; undos];
+        list_row(&format!("{name}, then {undos} undo{}", if undos == 1 { "" } else { "s" }), &net, &[&[call], &back[..]].concat());
+    }
+}
+
 /// A table of the kinds of rows that are named on the command line, or of all where none is.
 fn table(head: &str, kinds: &[(&str, fn())]) {
     let words: Vec<String> = env::args().skip(1).filter(|word| !word.starts_with('-')).collect();
@@ -422,4 +466,5 @@ fn main() {
     let head = "| margins | version 1 | version 2 | to version 1 | independent, version 1 | ratio | independent, version 2 | ratio |";
     table(head, &[("margins", margins_rows)]);
     table("| alley | program | independent | ratio | one pass | ratio |", &[("alley", alley_rows)]);
+    table("| lists | library | independent | ratio |", &[("merge", merge_rows), ("undo", undo_rows)]);
 }

@@ -216,6 +216,27 @@ pub fn wide(r: &mut Random) -> Net {
     Net { board: Board::VERSION_1, inputs, gates, outputs: vec![inputs + 1] }
 }
 
+/// A gate with so many readers, and a pair for each: it asks for all or for one of two inputs, and a reader, which it votes for or against,
+/// for all or for one of its feeds, which are other inputs and now and then the reader before it.
+pub fn fan(r: &mut Random, readers: usize) -> Net {
+    let inputs = 8;
+    let mut net = Net { board: Board::VERSION_1, inputs, gates: vec![], outputs: vec![] };
+    for own in inputs..=inputs + readers {
+        let mut signals = vec![0, 1];
+        if own > inputs {
+            signals = (0..r.below(3)).map(|_| 2 + r.below(6) as usize).chain([inputs]).collect();
+            if own > inputs + 1 && r.below(3) == 0 {
+                signals.push(own - 1);
+            }
+        }
+        let feeds = with_weights(r, signals, |r| vote(r, 1, 2));
+        let (low, high) = ends(&feeds);
+        net.gates.push(Gate { threshold: if r.below(2) == 0 { high } else { low + 1 }, feeds });
+    }
+    net.outputs = (0..1 + r.below(16)).map(|_| inputs + 1 + r.below(readers as u64) as usize).collect();
+    net
+}
+
 /// The network said the other way round: gate u, which is no output, replaced by its complement, and each vote of it by the opposite one,
 /// so that all other gates are as they were. None where a number would leave the scale.
 pub fn mirrored(net: &Net, u: usize) -> Option<Net> {

@@ -475,6 +475,154 @@ pub fn preview_by(net: &Net, s: u64, find: Find) -> Answer<[u64; 3]> {
     Ok(report(&copy))
 }
 
+// ---- the journal, undo, and lists of calls
+
+/// How many steps a journal holds.
+pub const JOURNAL: usize = 64;
+
+/// A step of the journal: the merge into a gate, by its signal, with the gate that stood there; or the drop of a gate, by the signal that
+/// it had, with that gate.
+#[derive(Clone, PartialEq, Eq, Debug)]
+pub enum Step {
+    Merge(usize, Gate),
+    Drop(usize, Gate),
+}
+
+/// A network and its journal, the newest step last.
+#[derive(Clone, PartialEq, Eq, Debug)]
+pub struct Record {
+    pub net: Net,
+    pub journal: Vec<Step>,
+}
+
+impl Record {
+    /// "A read empties the journal."
+    pub fn just_read(net: Net) -> Record {
+        Record { net, journal: vec![] }
+    }
+
+    /// The record once these steps were accepted and left this network: "the oldest step goes when it is full".
+    fn stepped(&self, steps: Vec<Step>, net: Net) -> Record {
+        let mut journal = self.journal.clone();
+        for step in steps {
+            if journal.len() == JOURNAL {
+                journal.remove(0);
+            }
+            journal.push(step);
+        }
+        Record { net, journal }
+    }
+}
+
+/// The steps of a collapse of u that a network's own call accepts: its merges, in rising order of the readers, then its drop.
+pub fn steps_of_collapse(net: &Net, u: usize) -> Vec<Step> {
+    let merges = net.readers(u).into_iter().map(|v| Step::Merge(v, net.gate(v).clone()));
+    merges.chain([Step::Drop(u, net.gate(u).clone())]).collect()
+}
+
+/// The network with a gate put in at a signal: signals at or above it rise by one, and the gate's own feeds are below it.
+fn with_gate_put_in(net: &Net, s: usize, gate: Gate) -> Net {
+    let raise = |t: usize| if t >= s { t + 1 } else { t };
+    let mut out = net.clone();
+    for gate in &mut out.gates {
+        for feed in &mut gate.feeds {
+            feed.0 = raise(feed.0);
+        }
+    }
+    for t in &mut out.outputs {
+        *t = raise(*t);
+    }
+    out.gates.insert(s - net.inputs, gate);
+    out
+}
+
+/// Whether a file describes the network.
+fn described(net: &Net) -> bool {
+    read(&write(net)).as_ref() == Ok(net)
+}
+
+/// The network before a step that left this one. None where the step has no place in it.
+fn before(net: &Net, step: Step) -> Option<Net> {
+    match step {
+        Step::Merge(v, gate) => net.is_gate(v).then(|| with_gate(net, v, gate)),
+        Step::Drop(s, gate) => (s == net.inputs + net.gates.len() || net.is_gate(s)).then(|| with_gate_put_in(net, s, gate)),
+    }
+}
+
+/// The record before its latest step, which is in its journal no more. An undo is no step itself.
+pub fn undo(record: &Record) -> Answer<Record> {
+    if !described(&record.net) || record.journal.len() > JOURNAL {
+        return Err(20);
+    }
+    let mut journal = record.journal.clone();
+    let step = journal.pop().ok_or(22)?;
+    let net = before(&record.net, step).filter(described).ok_or(23)?;
+    Ok(Record { net, journal })
+}
+
+/// One call of a list, a kind and four numbers: its three numbers, and the record that it leaves.
+pub fn call(record: &Record, call: &[u64]) -> Answer<([u64; 3], Record)> {
+    call_by(record, call, pair)
+}
+
+/// The same with the pairs found another way.
+pub fn call_by(record: &Record, call: &[u64], find: Find) -> Answer<([u64; 3], Record)> {
+    let net = &record.net;
+    let s = call[1];
+    let mut numbers = [0; 3];
+    let next = match call[0] {
+        0 => {
+            let (v, next) = (call[2] as usize, merge(net, s, call[2], call[3], call[4])?);
+            record.stepped(vec![Step::Merge(v, net.gate(v).clone())], next)
+        }
+        1 => {
+            let next = drop_gate(net, s)?;
+            record.stepped(vec![Step::Drop(s as usize, net.gate(s as usize).clone())], next)
+        }
+        2 => {
+            let next = collapse_by(net, s, find)?;
+            record.stepped(steps_of_collapse(net, s as usize), next)
+        }
+        3 => {
+            let (next, collapses) = sweep_by(net, s, find)?;
+            numbers[0] = collapses.len() as u64;
+            record.stepped(collapses.iter().flat_map(|(net, u)| steps_of_collapse(net, *u as usize)).collect(), next)
+        }
+        4 => {
+            numbers = preview_by(net, s, find)?;
+            record.clone()
+        }
+        _ => undo(record)?,
+    };
+    Ok((numbers, next))
+}
+
+/// A list of calls on a file, with so many places for the answers and so much room: the answers, the file's length first, and the file
+/// after the list.
+pub fn run(file: &[u8], calls: &[u64], places: usize, room: usize) -> Answer<(Vec<u64>, Vec<u8>)> {
+    let mut record = Record::just_read(read(file)?);
+    if calls.len() % 5 != 0 || calls.chunks(5).any(|call| call[0] > 5) {
+        return Err(14);
+    }
+    let mut answers = vec![0];
+    for one in calls.chunks(5) {
+        match call(&record, one) {
+            Ok((numbers, next)) => {
+                answers.push(0);
+                answers.extend(numbers);
+                record = next;
+            }
+            Err(code) => answers.extend([code as u64, 0, 0, 0]),
+        }
+    }
+    let after = write(&record.net);
+    if places < answers.len() || room < after.len() {
+        return Err(18);
+    }
+    answers[0] = after.len() as u64;
+    Ok((answers, after))
+}
+
 // ---- the question
 
 fn line(terms: &[(i64, usize)], right: i64) -> String {
@@ -586,20 +734,24 @@ mod tests {
         assert_eq!(levels_of(&[&[0], &[], &[1, 2]]), 2);
     }
 
+    /// Signal 1 is merged into [ ;0] and [x −1; 0], signals 2 and 4, which the output reads; signal 3 has no reader.
+    fn two_readers() -> Net {
+        let gate = |feeds: &[(usize, i64)], threshold| Gate { feeds: feeds.to_vec(), threshold };
+        Net {
+            board: Board::VERSION_1,
+            inputs: 1,
+            gates: vec![gate(&[(0, 1)], 1), gate(&[(0, -1), (1, 1)], 0), gate(&[(0, 7)], 5), gate(&[(1, -1)], 0), gate(&[(2, 1), (4, 1)], 2)],
+            outputs: vec![5],
+        }
+    }
+
     #[test]
     fn before_you_fold() {
         let f = read(F).unwrap();
         assert_eq!(report(&f), [2, 18, 2]);
         assert_eq!(preview(&f, 3), Ok([1, 18, 1]));
         assert_eq!((preview(&f, 2), preview(&f, 4), preview(&f, 5), preview(&f, 259)), (Err(11), Err(17), Err(11), Err(11)));
-        let gate = |feeds: &[(usize, i64)], threshold| Gate { feeds: feeds.to_vec(), threshold };
-        // signal 1 is merged into [ ;0] and [x −1; 0], which the output reads; signal 3 has no reader
-        let net = Net {
-            board: Board::VERSION_1,
-            inputs: 1,
-            gates: vec![gate(&[(0, 1)], 1), gate(&[(0, -1), (1, 1)], 0), gate(&[(0, 7)], 5), gate(&[(1, -1)], 0), gate(&[(2, 1), (4, 1)], 2)],
-            outputs: vec![5],
-        };
+        let net = two_readers();
         assert_eq!(report(&net), [5, 21, 3]);
         assert_eq!(preview(&net, 3), Ok([4, 9, 3]));
         assert_eq!(preview(&net, 1), Ok([4, 17, 2]));
@@ -679,6 +831,52 @@ mod tests {
         assert_eq!((convert(&F[..9], 0), convert(&write(&Net { board: Board::version_2(1, 4), ..net.clone() }), 0)), (Err(4), Err(24)));
         assert_eq!(read(&convert(F, F.len() + 2).unwrap()), Ok(Net { board: Board::version_2(0, 1), ..read(F).unwrap() }));
         assert_eq!(convert(&convert(F, 100).unwrap(), F.len()), Ok(F.to_vec()));
+    }
+
+    /// A collapse and its single steps taken back by hand; a full journal; and the three refusals.
+    #[test]
+    fn take_a_fold_back() {
+        let gate = |feeds: &[(usize, i64)], threshold| Gate { feeds: feeds.to_vec(), threshold };
+        let f = read(F).unwrap();
+        let folded = call(&Record::just_read(f.clone()), &[2, 3, 0, 0, 0]).unwrap().1;
+        let (u, v, merged) = (gate(&[(0, 4), (1, 3)], 5), gate(&[(2, 1), (3, 2)], 3), gate(&[(0, 4), (1, 3), (2, 3)], 8));
+        assert_eq!((&folded.net.gates, &folded.net.outputs), (&vec![merged.clone()], &vec![3]));
+        assert_eq!(folded.journal, [Step::Merge(4, v.clone()), Step::Drop(3, u.clone())]);
+        let once = undo(&folded).unwrap();
+        assert_eq!((&once.net.gates, &once.net.outputs), (&vec![u.clone(), merged.clone()], &vec![4]));
+        assert_eq!(once.journal, [Step::Merge(4, v)]);
+        let twice = undo(&once).unwrap();
+        assert_eq!((&twice, undo(&twice)), (&Record::just_read(f.clone()), Err(22)));
+        // the gates above one that comes back are raised, with what reads them
+        let net = two_readers();
+        let list = [[1, 3], [2, 1], [4, 1], [2, 9], [5, 0], [5, 0]].map(|[kind, s]| [kind, s, 0, 0, 0]).concat();
+        let (answers, after) = run(&write(&net), &list, 25, 100).unwrap();
+        let codes: Vec<u64> = answers[1..].chunks(4).map(|answer| answer[0]).collect();
+        assert_eq!(codes, [0, 0, 0, 11, 0, 0]);
+        let left = read(&after).unwrap();
+        assert_eq!(left.gates, [gate(&[(0, 1)], 1), gate(&[], 0), gate(&[(1, -1)], 0), gate(&[(2, 1), (3, 1)], 2)]);
+        let (_, after) = run(&write(&net), &[&list[..], &[5; 10]].concat(), 33, 100).unwrap();
+        assert_eq!(read(&after), Ok(net));
+        // kinds, places and room
+        assert_eq!((run(F, &[6, 0, 0, 0, 0], 0, 0), run(F, &[5; 4], 0, 0), run(F, &[5; 5], 4, 100)), (Err(14), Err(14), Err(18)));
+        assert_eq!(run(F, &[5; 5], 5, F.len() - 1), Err(18));
+        assert_eq!(run(F, &[5; 5], 5, F.len()), Ok((vec![F.len() as u64, 22, 0, 0, 0], F.to_vec())));
+        // the oldest step goes: after 62, 63 and 64 more steps both of the collapse's are left, the drop alone, and neither
+        let first = Step::Merge(4, f.gate(4).clone());
+        let later = |count: usize| folded.stepped(vec![first.clone(); count], f.clone()).journal;
+        assert_eq!((&later(62)[..2], later(62).len()), (&folded.journal[..], JOURNAL));
+        assert_eq!((later(63).remove(0), later(63).len()), (Step::Drop(3, u.clone()), JOURNAL));
+        assert_eq!(later(64), vec![first.clone(); JOURNAL]);
+        // a journal of 65 steps, a network that no file describes, and steps that leave none that a file describes
+        let with = |net: &Net, journal: Vec<Step>| undo(&Record { net: net.clone(), journal });
+        assert_eq!((with(&f, vec![first.clone(); JOURNAL + 1]), with(&f, vec![])), (Err(20), Err(22)));
+        assert_eq!(with(&Net { outputs: vec![2], ..f.clone() }, vec![]), Err(20));
+        let crossed = gate(&[(3, 1)], 1);
+        for step in [Step::Merge(2, u.clone()), Step::Merge(5, u.clone()), Step::Merge(3, crossed.clone()), Step::Drop(3, crossed)] {
+            assert_eq!(with(&f, vec![first.clone(), step]), Err(23));
+        }
+        assert_eq!((with(&f, vec![Step::Drop(2, u.clone())]), with(&f, vec![Step::Drop(6, u.clone())])), (Err(23), Err(23)));
+        assert_eq!(with(&f, vec![Step::Drop(5, u.clone())]).unwrap().net.gates[2], u);
     }
 
     #[test]

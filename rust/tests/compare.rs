@@ -568,7 +568,7 @@ fn refusals_touch_nothing(file: &[u8], calls: &[u64], places: usize, length: usi
     wrong.push(0);
     untouched(14, &wrong, places + 4, length);
     wrong.extend([0, 0, 0, 0]);
-    for kind in [5, 4 + (1 << 32), u64::MAX] {
+    for kind in [6, 4 + (1 << 32), 5 + (1 << 32), u64::MAX] {
         wrong[calls.len()] = kind;
         untouched(14, &wrong, places + 4, length);
         untouched(14, &wrong, 0, 0);

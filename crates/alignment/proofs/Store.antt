@@ -1,15 +1,14 @@
 -- The weights of a gate stored by signal, the last feed first. Assumes nothing.
-use mathlib.Core.Path.{_≡_, refl, sym, _∙_}
+use mathlib.Core.Path.{_≡_, refl, sym}
 use mathlib.Core.List.{List, [], _∷_}
 use Prim.Native.Nat.{ℕ, zero, suc, _-_, _≤_, _<_}
 use native.Mathlib.Omega.{arith}
 use lib.IntN.{ℤ, pos}
-use lib.ListN.{length, getD, set, replicate, length-map}
+use lib.ListN.{getD, set, replicate}
 use Rattle.integers.specs.Lists.{range}
-use Rattle.integers.specs.ListLaws.{length-range, tab-replicate}
+use Rattle.integers.specs.ListLaws.{tab-replicate}
 use Rattle.network.specs.Threshold.{Feed}
-use Rattle.network.specs.Record.{feedsFrom, feedAt, gateIn}
-use Rattle.network.specs.declared.GateRecord.{GateRecord}
+use Rattle.network.specs.Record.{feedsFrom, feedAt}
 use Rattle.folding.specs.Merge.{weightOf}
 use Rattle.alignment.specs.Alignments.{weightTable}
 use Rattle.integers.specs.PlaceLaws.{set-tab}
@@ -46,8 +45,3 @@ module _ (signals : List ℕ) (weights : List ℤ) where
     let e : n - i ≡ suc (n - suc i) = omega arith in e,
     feeds-first i (n - suc i),
   ) (table-first (feedAt signals weights i) (feedsFrom signals weights (suc i) (n - suc i)))
-
--- a gate record has as many feeds as it says
-pub fanin-is : (g : GateRecord) → length (gateIn g .feeds) ≡ g .fanin
-unfolding gateIn feedsFrom
-fanin-is g = length-map (range 0 (g .fanin)) (feedAt (g .signals) (g .weights)) ∙ length-range 0 (g .fanin)

@@ -4,29 +4,42 @@ use crate::show::end;
 use crate::show::left;
 use crate::show::number;
 use crate::show::signals;
-use folding::Call;
-use folding::Figures;
+use crate::show::text;
+use crate::steps::every_step;
+use crate::steps::steps;
+use history::Call;
+use history::Figures;
 use integers::wide;
-use lists::CallAnswer;
-use merging::Changed;
+use journal::CallAnswer;
+use journal::Record;
+use journal::just_read;
 use merging::PairFound;
-use network::Network;
 use report::SizeReport;
-use sweeping::Outcome;
 use witness::DistinctFeeds;
 use witness::Witnessed;
 
 // The answer of a merge, a drop or a collapse.
-fn changed(before: Network, r: Changed) {
+fn changed(before: Record, r: CallAnswer) {
     number(wide(r.code));
-    left(r.code, before, r.network);
+    left(r.code, before, r.after);
+    end();
 }
 
 // The answer of a sweep: the number is that of the collapses.
-fn counted(before: Network, r: Outcome) {
+fn counted(before: Record, r: CallAnswer) {
+    let figures: Figures = r.figures;
     number(wide(r.code));
-    number(r.collapses);
-    left(r.code, before, r.network);
+    number(figures.first as usize);
+    left(r.code, before, r.after);
+    end();
+}
+
+// The answer of an undo, with the number of steps that it left.
+fn undone(before: Record, r: CallAnswer) {
+    number(wide(r.code));
+    left(r.code, before, r.after);
+    steps(r.after.journal);
+    end();
 }
 
 // The answer of a preview: the numbers are gates, cost and levels.
@@ -38,14 +51,13 @@ fn previewed(r: SizeReport) {
     end();
 }
 
-// The answer of a call of a list, with its three numbers.
-fn answered(before: Network, r: CallAnswer) {
+// The code of a call of a list, and its three numbers.
+fn answered(r: CallAnswer) {
     let figures: Figures = r.figures;
     number(wide(r.code));
     number(figures.first as usize);
     number(figures.second as usize);
     number(figures.third as usize);
-    left(r.code, before, r.network);
 }
 
 // The answer of a pair: the numbers are k and l.
@@ -72,20 +84,53 @@ fn listed_feeds(r: DistinctFeeds) {
     end();
 }
 
+// The journal: the number of its steps, and each of them.
+fn shown(held: Record) {
+    let journal = held.journal;
+    steps(journal);
+    every_step(journal);
+    end();
+}
+
+// The code of line 0 of a question.
+fn question(first: Record, second: Record) {
+    let mut out = [0u8; 254];
+    number(wide(folder::line(first, second, 0, &mut out).code));
+}
+
+// The codes of the calls that only read: the report, a frame, a list of one frame, the file, and the question with the record as its first
+// and as its second.
+fn others(held: Record) {
+    let frames = [0u64; 1];
+    let mut answers = [0u64; 1];
+    let mut file = [0u8; 254];
+    let fresh = just_read(held.network);
+    number(wide(folder::report(held).code));
+    number(wide(folder::read_frame(held, 0).code));
+    number(wide(folder::read_frames(held, &frames, &mut answers)));
+    number(wide(folder::write(held, &mut file).code));
+    question(held, fresh);
+    question(fresh, held);
+    end();
+}
+
 // The call with a first letter and with numbers.
-pub fn call(letter: u8, network: Network, n: Numbers) {
+pub fn call(letter: u8, held: Record, n: Numbers) {
     match letter {
         b'm' => changed(
-            network,
-            merging::merge(network, n.first, n.second, n.third, n.fourth),
+            held,
+            folder::merge(held, n.first, n.second, n.third, n.fourth),
         ),
-        b'p' => found(merging::pair(network, n.first, n.second)),
-        b'w' => witnessed(witness::witness(network, n.first, n.second, n.third, n.fourth)),
-        b'f' => listed_feeds(witness::distinct_feeds(network, n.first, n.second)),
-        b'd' => changed(network, collapse::drop_gate(network, n.first)),
-        b'c' => changed(network, collapse::collapse(network, n.first)),
-        b's' => counted(network, sweeping::sweep(network, n.first)),
-        b'v' => previewed(preview::preview(network, n.first)),
+        b'p' => found(folder::pair(held, n.first, n.second)),
+        b'w' => witnessed(folder::witness(held, n.first, n.second, n.third, n.fourth)),
+        b'f' => listed_feeds(folder::distinct_feeds(held, n.first, n.second)),
+        b'd' => changed(held, folder::drop_gate(held, n.first)),
+        b'c' => changed(held, folder::collapse(held, n.first)),
+        b's' => counted(held, folder::sweep(held, n.first)),
+        b'v' => previewed(folder::preview(held, n.first)),
+        b'u' => undone(held, folder::undo(held)),
+        b'j' => shown(held),
+        b'o' => others(held),
         _ => end(),
     }
 }
@@ -102,13 +147,62 @@ fn listed(letter: u8, n: Numbers) -> Call {
         b'd' => Call::Drop { s: n.first },
         b'c' => Call::Collapse { s: n.first },
         b's' => Call::Sweep { b: n.first },
+        b'u' => Call::Undo,
         _ => Call::Preview { s: n.first },
     }
 }
 
-// A call of a list; the answer is the network that it leaves.
-pub fn apply(letter: u8, network: Network, n: Numbers) -> Network {
-    let r = lists::apply(network, listed(letter, n));
-    answered(network, r);
-    r.network
+// A call of a list; the answer is the record that it leaves. An undo shows the number of steps, too.
+pub fn apply(letter: u8, held: Record, n: Numbers) -> Record {
+    let r = folder::apply(held, listed(letter, n));
+    answered(r);
+    left(r.code, held, r.after);
+    if letter == b'u' {
+        steps(r.after.journal);
+    }
+    end();
+    r.after
+}
+
+// A record by its gates, cost and levels, and the number of its steps.
+fn measured(held: Record) {
+    let size = folder::report(held);
+    text(b" size");
+    number(size.gates);
+    number(size.cost as usize);
+    number(size.levels);
+    steps(held.journal);
+    end();
+}
+
+// A call of a list, with only the size of the record that it leaves, which is the answer.
+pub fn quietly(letter: u8, held: Record, n: Numbers) -> Record {
+    let r = folder::apply(held, listed(letter, n));
+    answered(r);
+    measured(r.after);
+    r.after
+}
+
+// A refusal after so many accepted calls on the way to a record.
+fn refused_after(accepted: usize, held: Record, r: CallAnswer) {
+    number(accepted);
+    number(wide(r.code));
+    left(r.code, held, r.after);
+    measured(r.after);
+}
+
+// A call of a list again and again until it is refused, 1,000 times at most; the answer is the record that it leaves.
+pub fn repeat(letter: u8, held: Record, n: Numbers) -> Record {
+    let mut now = held;
+    let mut accepted: usize = 0;
+    while accepted < 1000 {
+        let r = folder::apply(now, listed(letter, n));
+        if r.code != 0 {
+            refused_after(accepted, now, r);
+            return now;
+        }
+        now = r.after;
+        accepted = accepted + 1;
+    }
+    now
 }

@@ -1,5 +1,6 @@
 // The network that a line describes, in the notation in which networks are shown, after the number of its inputs:
 // inputs 3 gates 3 [ 0 +4 1 +3 ; +5 ] 4 [ 2 +1 3 +2 ; +3 ] outputs 4
+// The gate of a step is described as the only gate of a network.
 use crate::building::empty;
 use crate::building::feed;
 use crate::building::gate;

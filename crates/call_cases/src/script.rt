@@ -59,10 +59,10 @@ pub fn number_from(script: &[u8], from: usize) -> Number {
     Number { value, end: at }
 }
 
-// The same with its sign. No weight and no threshold is over 1,000,000 in size; a larger number goes round.
+// The same with its sign. A number that is too large for a weight's 32 bits goes round.
 pub fn signed_from(script: &[u8], from: usize) -> i32 {
     let space = find(script, from, b' ');
-    let size = (number_from(script, space).value % 1000001) as i32;
+    let size = (number_from(script, space).value % 2147483648) as i32;
     if byte_at(script, after(space)) == b'-' {
         return 0 - size;
     }

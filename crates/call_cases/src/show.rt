@@ -1,6 +1,8 @@
-// Numbers, gates, outputs and networks as text on standard output.
+// Numbers, gates, outputs and networks as text on standard output, and whether two records are the same.
+use crate::steps::same_steps;
 use integers::magnitude;
 use integers::wide;
+use journal::Record;
 use libc::STDOUT_FILENO;
 use network::Board;
 use network::Network;
@@ -21,7 +23,7 @@ pub fn part(bytes: &[u8], from: usize, end: usize) {
 }
 
 // A space and a byte.
-fn mark(byte: u8) {
+pub fn mark(byte: u8) {
     let bytes = [b' ', byte];
     text(&bytes);
 }
@@ -33,7 +35,7 @@ pub fn number(n: usize) {
 }
 
 // A space, a sign and a size.
-fn signed(z: i32) {
+pub fn signed(z: i32) {
     if z < 0 {
         mark(b'-');
     } else {
@@ -55,7 +57,7 @@ pub fn signals(places: [u8; 16]) {
     }
 }
 
-// What a record holds at a place of the feeds: a feed, the fan-in and the threshold of its gate, and an output. There are 16 places to
+// What a network holds at a place of the feeds: a feed, the fan-in and the threshold of its gate, and an output. There are 16 places to
 // a gate and 128 to an output, so that the 2,048 places reach every number of the arrays.
 struct Held {
     signal: u8,
@@ -136,14 +138,15 @@ fn board(board: Board) {
     number(wide(board.off));
 }
 
-// A network: its gates, its outputs, its board, and whether it is sound.
-fn network(network: Network) {
+// The network of a record: its gates, its outputs, its board, and whether the record is sound.
+fn network(held: Record) {
+    let network = held.network;
     text(b" gates");
     gates(network);
     text(b" outputs");
     outputs(network);
     board(network.board);
-    if network::soundness::is_sound(network) {
+    if folder::is_sound(held) {
         text(b" sound");
     }
 }
@@ -160,7 +163,7 @@ fn same_board(a: Board, b: Board) -> bool {
     (a.version == b.version) & (a.on == b.on) & (a.off == b.off)
 }
 
-// Whether two records have the same counts and boards, and the same numbers at every place.
+// Whether two networks have the same counts and boards, and the same numbers at every place.
 fn same(a: Network, b: Network) -> bool {
     if (a.inputs != b.inputs) | (a.gates != b.gates) | (a.outputs != b.outputs) {
         return false;
@@ -178,14 +181,18 @@ fn same(a: Network, b: Network) -> bool {
     true
 }
 
+// Whether two records have the same network and the same journal.
+fn same_records(a: Record, b: Record) -> bool {
+    same(a.network, b.network) & same_steps(a.journal, b.journal)
+}
+
 // What a call left: the network where it was accepted; else whether the record is the one that came in.
-pub fn left(code: u8, before: Network, after: Network) {
+pub fn left(code: u8, before: Record, after: Record) {
     if code == 0 {
         network(after);
-    } else if same(before, after) {
+    } else if same_records(before, after) {
         text(b" unchanged");
     } else {
         text(b" changed");
     }
-    end();
 }

@@ -18,14 +18,14 @@ use Rattle.network.specs.declared.Network.{Network}
 use Rattle.format.specs.Format.{fileBytes}
 use Rattle.pmn_writer.specs.Answers.{written, bytesAfter}
 use Rattle.pmn_writer.specs.declared.Written.{Written}
-use Rattle.folding.specs.Calls.{calls}
-use Rattle.folding.specs.declared.Call.{Call}
+use Rattle.history.specs.Steps.{opened}
+use Rattle.history.specs.declared.Call.{Call}
 use Rattle.opening.specs.Files.{room}
 use Rattle.opening.specs.Places.{answerOf}
 use Rattle.opening.specs.Opening.{FileOpen}
 use Rattle.opening.specs.OpeningLaws.{read-on}
 use Rattle.capi.specs.ExportLaws.{write-fits}
-use Rattle.runs.specs.Runs.{wellFormed, callsIn, answersOf, Ran, ran}
+use Rattle.runs.specs.Runs.{wellFormed, callsIn, answersOf, netAfter, Ran, ran}
 use Rattle.capi.specs.RunAnswers.{runAnswer, ranFile, ranNumbers}
 use Rattle.network.specs.Places.{Holds}
 use Rattle.runs.specs.RunLaws.{count-calls, after-sound, answers-length}
@@ -58,7 +58,7 @@ module _ {file : List ℕ} {r : Network} (a : FileOpen file 0 0 r) (ns answers o
   cs = callsIn ns
 
   abbrev last : Net → List Test
-  last N = (room (1 + 4 * length cs) answers && room (length (fileBytes (calls N cs))) out else 18) ∷ []
+  last N = (room (1 + 4 * length cs) answers && room (length (fileBytes (netAfter N cs))) out else 18) ∷ []
 
   run-on : runAnswer file ns answers out ≡ checks ((wellFormed ns else 14) ∷ last (netOf r)) (accepted (ran (netOf r) cs))
   unfolding runAnswer
@@ -79,7 +79,7 @@ module _ {file : List ℕ} {r : Network} (a : FileOpen file 0 0 r) (ns answers o
     places = 1 + 4 * length cs
 
     abbrev long : ℕ
-    long = length (fileBytes (calls (netOf r) cs))
+    long = length (fileBytes (netAfter (netOf r) cs))
 
     pub run-few : length answers < 4 * (length ns / 5) + 1 → runAnswer file ns answers out ≡ refused 18
     unfolding room
@@ -110,19 +110,20 @@ place-first (y ∷ l) xs x h =
 
 -- the calls' answers are stored, the file of the record after them is written, and its length goes into place 0
 pub run-left : {file : List ℕ} {r : Network} (a : FileOpen file 0 0 r) (ns answers out : List ℕ) → wellFormed ns ≡ true → 1 + 4 * length (callsIn ns) ≤ length answers
-    → leb (length (fileBytes (calls (netOf r) (callsIn ns)))) (length out) ≡ true
-    → {after : Network} → after ≡ layout (calls (netOf r) (callsIn ns)) → {put : List ℕ} → put ≡ paste answers 1 (answersOf (netOf r) (callsIn ns)) (4 * length (callsIn ns))
+    → leb (length (fileBytes (netAfter (netOf r) (callsIn ns)))) (length out) ≡ true
+    → {after : Network} → after ≡ layout (netAfter (netOf r) (callsIn ns))
+    → {put : List ℕ} → put ≡ paste answers 1 (answersOf (opened (netOf r)) (callsIn ns)) (4 * length (callsIn ns))
     → {w : Written} → w ≡ written after (length out) → {bytes : List ℕ} → bytes ≡ bytesAfter after out
     → RunLeft (runAnswer file ns answers out) (w .code) answers (stored (answerOf (w .code) (w .length ∷ [])) put) out bytes
 unfolding codeOf ranNumbers ranFile ran stored
 run-left {r = r} a ns answers out t h fits {after} e {put} p {w} d {bytes} b =
     let cs = callsIn ns in
-    let M = calls (netOf r) cs in
-    let xs = answersOf (netOf r) cs in
+    let M = netAfter (netOf r) cs in
+    let xs = answersOf (opened (netOf r)) cs in
     let n = length (fileBytes M) in
     let f = write-fits M (after-sound r (read-holds a) cs) out fits in
     let left : w ≡ record { code = 0; length = n } = d ∙ ap (λ (z : Network). written z (length out)) e ∙ f .0 in
-    let count = answers-length (netOf r) cs in
+    let count = answers-length (opened (netOf r)) cs in
     run-same (run-whole a ns answers out t h fits) (record {
       code = ap (λ (z : Written). z .code) left;
       places = (λ x. stored (answerOf (left x .code) (left x .length ∷ [])) (p x))

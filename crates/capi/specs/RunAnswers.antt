@@ -5,14 +5,15 @@ use Prim.Native.Nat.{ℕ, _+_, _*_}
 use lib.ListN.{length}
 use Rattle.integers.specs.Refusals.{Answer, accepted, refused, _else_, checks, bind}
 use Rattle.format.specs.Format.{fileBytes}
-use Rattle.folding.specs.Calls.{calls}
-use Rattle.runs.specs.Runs.{wellFormed, callsIn, Ran, ran}
+use Rattle.runs.specs.Runs.{wellFormed, callsIn, netAfter, Ran, ran}
 use Rattle.opening.specs.Files.{readNet, room}
 
 -- as read, 14, 18
 unfoldable pub runAnswer : List ℕ → List ℕ → List ℕ → List ℕ → Answer Ran
 runAnswer file numbers answers out = bind (readNet file) (λ N.
-    checks ((wellFormed numbers else 14) ∷ (room (1 + 4 * length (callsIn numbers)) answers && room (length (fileBytes (calls N (callsIn numbers)))) out else 18) ∷ [])
+    checks
+    ((wellFormed numbers else 14)
+    ∷ (room (1 + 4 * length (callsIn numbers)) answers && room (length (fileBytes (netAfter N (callsIn numbers)))) out else 18) ∷ [])
     (accepted (ran N (callsIn numbers))))
 
 unfoldable pub ranFile : Answer Ran → Answer (List ℕ)

@@ -9,7 +9,10 @@ use Rattle.network.specs.Threshold.{Net, frame, fitsFrame, outputBits, digit}
 use Rattle.network.specs.Record.{netOf, soundRecord}
 use Rattle.network.specs.RecordLaws.{sound-net}
 use Rattle.network.specs.declared.Network.{Network}
-use Rattle.folding.specs.declared.Call.{Call}
+use Rattle.history.specs.declared.Call.{Call}
+use Rattle.journal.specs.AnswerLaws.{whole-network}
+use Rattle.journal.specs.Records.{justRead}
+use Rattle.journal.specs.declared.Record.{Record}
 use Rattle.constraints.specs.Question.{alike}
 use Rattle.constraints.specs.Demand.{differs}
 use Rattle.constraints.specs.FrameLaws.{fits-below}
@@ -41,39 +44,40 @@ unfolding ways
 no-ways N M e = sum-none (2 ^ N .inputs) _ λ x h. rw (no-difference N M x (e x h))
 
 -- ---- two moments of one list of calls
-module _ (r : Network) (cs ds : List Call) (p : ListClaim r cs) (q : ListClaim r ds) where
+module _ (r : Record) (cs ds : List Call) (p : ListClaim r cs) (q : ListClaim r ds) where
   first : Net
-  first = netOf (callsOn r cs)
+  first = netOf (callsOn r cs .network)
 
   second : Net
-  second = netOf (callsOn r ds)
+  second = netOf (callsOn r ds .network)
 
   counts-kept : alike first second ≡ true
   unfolding first second
   counts-kept = alike-of first second
-      (sym (alike-inputs (netOf r) first (p .same-counts)) ∙ alike-inputs (netOf r) second (q .same-counts))
-      (sym (alike-outputs (netOf r) first (p .same-counts)) ∙ alike-outputs (netOf r) second (q .same-counts))
+      (sym (alike-inputs (netOf (r .network)) first (p .same-counts)) ∙ alike-inputs (netOf (r .network)) second (q .same-counts))
+      (sym (alike-outputs (netOf (r .network)) first (p .same-counts)) ∙ alike-outputs (netOf (r .network)) second (q .same-counts))
 
   -- every frame of the first is one of r's
-  fits : (x : ℕ) → x < 2 ^ first .inputs → fitsFrame (r .inputs) x ≡ true
+  fits : (x : ℕ) → x < 2 ^ first .inputs → fitsFrame (r .network .inputs) x ≡ true
   unfolding first
-  fits x h = is-true (fitsFrame (r .inputs) x) (fits-below (r .inputs) x .1 (rw inputs at h))
+  fits x h = is-true (fitsFrame (r .network .inputs) x) (fits-below (r .network .inputs) x .1 (rw inputs at h))
     where
-      inputs : netOf (callsOn r cs) .inputs ≡ r .inputs
-      inputs = sym (alike-inputs (netOf r) (netOf (callsOn r cs)) (p .same-counts)) ∙ inputs-of r
+      inputs : netOf (callsOn r cs .network) .inputs ≡ r .network .inputs
+      inputs = sym (alike-inputs (netOf (r .network)) (netOf (callsOn r cs .network)) (p .same-counts)) ∙ inputs-of (r .network)
 
   kept-claim : CountClaim first second
   unfolding first second
-  kept-claim = counts (callsOn r cs) (callsOn r ds) (p .sound-after) (q .sound-after) counts-kept
+  kept-claim = counts (callsOn r cs .network) (callsOn r ds .network)
+      (whole-network (callsOn r cs) (p .sound-after)) (whole-network (callsOn r ds) (q .sound-after)) counts-kept
 
   kept-ways : ways first second ≡ 0
   unfolding first second
   kept-ways = no-ways first second λ x h. p .same-bits x (fits x h) ∙ sym (q .same-bits x (fits x h))
 
-pub moment-claim : (file : List ℕ) → Bytes file → Accepted file → (cs : List Call) (k l : ℕ) → MomentClaim (loaded file .network) cs k l
+pub moment-claim : (file : List ℕ) → Bytes file → Accepted file → (cs : List Call) (k l : ℕ) → MomentClaim (justRead (loaded file .network)) cs k l
 unfolding first second
 moment-claim file bs e cs k l =
-    let r = loaded file .network in
+    let r = justRead (loaded file .network) in
     let p = accepted-claim file bs e (take k cs) in
     let q = accepted-claim file bs e (take l cs) in
     let claim = kept-claim r (take k cs) (take l cs) p q in

@@ -8,7 +8,8 @@ use lib.ListN.{take}
 use Rattle.network.specs.Threshold.{Net}
 use Rattle.network.specs.Record.{netOf, soundRecord}
 use Rattle.network.specs.declared.Network.{Network}
-use Rattle.folding.specs.declared.Call.{Call}
+use Rattle.history.specs.declared.Call.{Call}
+use Rattle.journal.specs.declared.Record.{Record}
 use Rattle.constraints.specs.Question.{alike}
 use Rattle.guarantees.specs.Lists.{callsOn}
 use Rattle.counting.specs.Counting.{solutions, ways, CountClaim}
@@ -18,11 +19,11 @@ abbrev pub Counts : Network → Network → Type 0
 Counts a b = soundRecord a ≡ true → soundRecord b ≡ true → alike (netOf a) (netOf b) ≡ true → CountClaim (netOf a) (netOf b)
 
 -- a moment of a list of calls from the record r on: the network after its first k calls, or after all of them where it has no more
-abbrev pub moment : Network → List Call → ℕ → Net
-moment r calls k = netOf (callsOn r (take k calls))
+abbrev pub moment : Record → List Call → ℕ → Net
+moment r calls k = netOf (callsOn r (take k calls) .network)
 
 -- "This also holds between any two moments of one list of calls, where the sum is 0", and so is the number of solutions
-pub record MomentClaim (r : Network) (calls : List Call) (k l : ℕ) : Type 0 where
+pub record MomentClaim (r : Record) (calls : List Call) (k l : ℕ) : Type 0 where
   pub same-counts : alike (moment r calls k) (moment r calls l) ≡ true
   pub claim : CountClaim (moment r calls k) (moment r calls l)
   pub no-way : ways (moment r calls k) (moment r calls l) ≡ 0

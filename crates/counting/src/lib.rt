@@ -5,7 +5,8 @@ ghost use mathlib.Core.List.{List};
 ghost use Prim.Native.Nat.{ℕ};
 ghost use Rattle.format.specs.Format.{Bytes};
 ghost use Rattle.pmn.specs.Answers.{loaded};
-ghost use Rattle.folding.specs.declared.Call.{Call};
+ghost use Rattle.history.specs.declared.Call.{Call};
+ghost use Rattle.journal.specs.Records.{justRead};
 ghost use Rattle.guarantees.specs.Files.{Accepted};
 ghost use Rattle.counting.specs.Claims.{Counts, MomentClaim};
 ghost use Rattle.counting.specs.Example.{ThreeWays};
@@ -20,7 +21,7 @@ pub fn solutions_are_counted(first: Network, second: Network)
 // From the record of any file that a read accepts, between the moments after the first k and after the first l calls of any list: the two
 // have equal counts, the same holds of them, and the sum and the number of solutions are 0.
 pub fn no_way_between_moments()
-    ensures { λ _. ⌜ ((file : List ℕ) → Bytes file → Accepted file → (calls : List Call) (k l : ℕ) → MomentClaim (loaded file .network) calls k l) ⌝ }
+    ensures { λ _. ⌜ ((file : List ℕ) → Bytes file → Accepted file → (calls : List Call) (k l : ℕ) → MomentClaim (justRead (loaded file .network)) calls k l) ⌝ }
 {}
 
 // An example by computing alone: two networks with one input and two outputs that name one gate, which both differ on one frame and agree on

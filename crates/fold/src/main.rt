@@ -2,9 +2,9 @@
 // number of collapses, and the question for before and after. A refused file prints only its number. The work is done by proved
 // libraries; this program reads, calls and writes.
 use format::LONGEST_FILE;
+use journal::Record;
 use libc::STDIN_FILENO;
 use libc::STDOUT_FILENO;
-use network::Network;
 
 // One byte more than the longest file has is enough to see that a file is longer.
 const INPUT_LENGTH: usize = LONGEST_FILE + 1;
@@ -31,9 +31,9 @@ fn figures(before: u64, after: u64) {
 }
 
 // The size of a network before and after.
-fn sizes(before: Network, after: Network) {
-    let first = report::report(before);
-    let second = report::report(after);
+fn sizes(before: Record, after: Record) {
+    let first = folder::report(before);
+    let second = folder::report(after);
     text(b"gates");
     figures(first.gates as u64, second.gates as u64);
     text(b"cost");
@@ -50,9 +50,9 @@ fn prefix(bytes: &[u8], n: usize) {
 }
 
 // Line n of the question, or false past the last.
-fn question_line(before: Network, after: Network, n: usize) -> bool {
+fn question_line(before: Record, after: Record, n: usize) -> bool {
     let mut line = [0u8; 254];
-    let written = question::line(before, after, n, &mut line);
+    let written = folder::line(before, after, n, &mut line);
     if written.code != 0 {
         return false;
     }
@@ -62,7 +62,7 @@ fn question_line(before: Network, after: Network, n: usize) -> bool {
 }
 
 // Every line of the question: two networks have at most 545.
-fn whole_question(before: Network, after: Network) {
+fn whole_question(before: Record, after: Record) {
     let mut n: usize = 0;
     while n < 1000 {
         if !question_line(before, after, n) {
@@ -79,17 +79,17 @@ fn refused(code: u8) {
 }
 
 fn fold(file: &[u8]) {
-    let loaded = pmn::read(file);
-    if loaded.code != 0 {
-        refused(loaded.code);
+    let opened = folder::read(file);
+    if opened.code != 0 {
+        refused(opened.code);
         return;
     }
-    let before = loaded.network;
-    let swept = sweeping::sweep(before, 128);
-    let after = swept.network;
+    let before = opened.held;
+    let swept = folder::sweep(before, 128);
+    let after = swept.after;
     sizes(before, after);
     text(b"folded");
-    number(swept.collapses as u64);
+    number(swept.figures.first);
     end();
     whole_question(before, after);
 }

@@ -1,5 +1,5 @@
--- The numbers that calls answer: a refusal of a pair or of a collapse is not 0, and no call answers 13, "against the grain", since where b is negative the
--- complement votes. Assumes nothing.
+-- The numbers that calls answer: a refusal of a merge, a pair, a drop or a collapse is not 0, and no call answers 13, "against the grain", since
+-- where b is negative the complement votes. Assumes nothing.
 use mathlib.Core.Bool.{Bool}
 use mathlib.Core.List.{List, [], _∷_}
 use mathlib.Core.Logic.{_≢_}
@@ -13,16 +13,19 @@ use Rattle.folding.specs.Merge.{Edge, edgeOf, edge, silent, merged, feed
 use Rattle.folding.specs.Pair.{pairs, qualifies, first, pairTests, pairOf, pair}
 use Rattle.folding.specs.Collapse.{drop, fuse, fuseAll, collapse}
 use Rattle.folding.specs.Sweep.{sweep}
-use Rattle.folding.specs.Calls.{answer}
 use Rattle.folding.specs.RefusalLaws.{NoneSays, NeverSays, checks-never, bind-never, Numbered}
-use Rattle.folding.specs.declared.Call.{Call}
-use Rattle.folding.specs.declared.Call.the-variants.{Merge, Drop, Collapse, Sweep, Preview}
 
 -- ---- merge
 pub merge-never : (N : Net) (u v k l : ℕ) → NeverSays 13 (merge N u v k l)
 unfolding merge limits
 merge-never N u v k l = checks-never 13 (limits N u v k l) _ (omega arith, (omega arith, (omega arith, (omega arith, (omega arith, (omega arith, tt))))))
     (checks-never 13 _ (accepted _) (omega arith, (omega arith, tt)) tt)
+
+pub merge-numbered : (N : Net) (u v k l : ℕ) → Numbered (merge N u v k l)
+unfolding merge limits
+merge-numbered N u v k l =
+    checks-never 0 (limits N u v k l) _ (omega arith, (omega arith, (omega arith, (omega arith, (omega arith, (omega arith, tt))))))
+    (checks-never 0 _ (accepted _) (omega arith, (omega arith, tt)) tt)
 
 -- ---- pair
 first-never : {A : Type 0} (p : A → Bool) (n : ℕ) (xs : List A) (c : ℕ) → c ≢ n → NeverSays n (first p xs c)
@@ -55,6 +58,10 @@ pub drop-never : (N : Net) (u : ℕ) → NeverSays 13 (drop N u)
 unfolding drop
 drop-never N u = checks-never 13 _ (accepted _) (omega arith, (omega arith, (omega arith, tt))) tt
 
+pub drop-numbered : (N : Net) (u : ℕ) → Numbered (drop N u)
+unfolding drop
+drop-numbered N u = checks-never 0 _ (accepted _) (omega arith, (omega arith, (omega arith, tt))) tt
+
 fuse-never : (n : ℕ) (e : Edge) → NeverSays n (pairOf e) → NeverSays n (fuse e)
 unfolding fuse
 fuse-never n e h =
@@ -81,12 +88,3 @@ collapse-numbered N u = fused-never 0 pairOf-numbered N u (omega arith) (omega a
 pub sweep-never : (N : Net) (B : ℕ) → NeverSays 13 (sweep N B)
 unfolding sweep
 sweep-never N B = checks-never 13 _ (accepted _) (omega arith, (omega arith, tt)) tt
-
--- one call of a list
-pub answer-never : (N : Net) (c : Call) → NeverSays 13 (answer N c)
-unfolding answer
-answer-never N (Merge u v k l) = bind-never 13 (merge N u v k l) _ (merge-never N u v k l) (λ M. tt)
-answer-never N (Drop u) = bind-never 13 (drop N u) _ (drop-never N u) (λ M. tt)
-answer-never N (Collapse u) = bind-never 13 (collapse N u) _ (collapse-never N u) (λ M. tt)
-answer-never N (Sweep B) = bind-never 13 (sweep N B) _ (sweep-never N B) (λ s. tt)
-answer-never N (Preview u) = bind-never 13 (collapse N u) _ (collapse-never N u) (λ M. tt)

@@ -131,14 +131,14 @@ fuse-fused e h ou ov m q = cond-case (λ x. x ≡ accepted h → Fused e h) (sil
     })) q
 
 -- the same of the gates from signal n on
-record FusedAll (b : Board) (u : ℕ) (gateU : Gate) (n : ℕ) (gs hs : List Gate) : Type 0 where
-  bits : (ρ : Assignment) → ρ u ≡ bit ρ gateU → map (bit ρ) hs ≡ map (bit ρ) gs
-  free : Each (Free u) hs
-  good : Gates n hs
-  keep : T (all (keeps b) hs)
-  size : length hs ≡ length gs
+pub record FusedAll (b : Board) (u : ℕ) (gateU : Gate) (n : ℕ) (gs hs : List Gate) : Type 0 where
+  pub bits : (ρ : Assignment) → ρ u ≡ bit ρ gateU → map (bit ρ) hs ≡ map (bit ρ) gs
+  pub free : Each (Free u) hs
+  pub good : Gates n hs
+  pub keep : T (all (keeps b) hs)
+  pub size : length hs ≡ length gs
 
-fuseAll-fused : (b : Board) (u : ℕ) (gateU : Gate) (n : ℕ) (gs hs : List Gate) → GateOk u gateU → Gates n gs → T (all (keeps b) gs)
+pub fuseAll-fused : (b : Board) (u : ℕ) (gateU : Gate) (n : ℕ) (gs hs : List Gate) → GateOk u gateU → Gates n gs → T (all (keeps b) gs)
     → fuseAll b u gateU n gs ≡ accepted hs → FusedAll b u gateU n gs hs
 unfolding fuseAll all
 fuseAll-fused b u gateU n [] hs ou os m q =

@@ -1,5 +1,6 @@
 // What a customer buys, each theorem as the promise of an empty public function: the check names it, and nothing can make it vanish.
 // The promises cite the definitions in specs/. "Every record" is a parameter; "every file" is every list of bytes.
+use journal::Record;
 use network::Network;
 ghost use mathlib.Core.Path.{_≡_};
 ghost use mathlib.Core.List.{List, map};
@@ -9,7 +10,8 @@ ghost use Rattle.format.specs.Format.{Bytes};
 ghost use Rattle.pmn.specs.Answers.{loaded};
 ghost use Rattle.folding.specs.Bench.{bench, reply};
 ghost use Rattle.folding.specs.Guarantee.{PairClaim};
-ghost use Rattle.folding.specs.declared.Call.{Call};
+ghost use Rattle.history.specs.declared.Call.{Call};
+ghost use Rattle.journal.specs.Records.{justRead};
 ghost use Rattle.witness.specs.declared.Witnessed.{Witnessed};
 ghost use Rattle.guarantees.specs.Files.{Accepted, SoundIsDescribed, WrittenIsRead, ReadIsWritten};
 ghost use Rattle.guarantees.specs.Questions.{Questions};
@@ -19,14 +21,15 @@ ghost use Rattle.guarantees.specs.Previews.{PreviewClaim};
 ghost use Rattle.guarantees.specs.Thirteen.{NeverThirteen};
 ghost use Rattle.guarantees.specs.Witnesses.{LightsFewest};
 
-// A record is sound exactly when some file's reading gives it.
-pub fn sound_is_described(network: Network)
-    ensures { λ _. ⌜ SoundIsDescribed network ⌝ }
+// A record is sound exactly when some file's reading gives it, without its journal, which no file carries, and the journal claims at most 64
+// steps.
+pub fn sound_is_described(held: Record)
+    ensures { λ _. ⌜ SoundIsDescribed held ⌝ }
 {}
 
-// Every sound record, written and read again, is that record.
-pub fn written_is_read(network: Network)
-    ensures { λ _. ⌜ WrittenIsRead network ⌝ }
+// Every sound record, written and read again, is that record, compared without the journal, which no file carries.
+pub fn written_is_read(held: Record)
+    ensures { λ _. ⌜ WrittenIsRead held ⌝ }
 {}
 
 // Every accepted file, read and written again, is those bytes; and every accepted read is sound.
@@ -42,14 +45,15 @@ pub fn question_decides(first: Network, second: Network)
     ensures { λ _. ⌜ Questions first second ⌝ }
 {}
 
-// Demand 3: from the record of any file that a read accepts, every list of merges, drops, collapses, sweeps and previews with any numbers,
+// Demand 3: from the record of any file that a read accepts, every list of merges, drops, collapses, sweeps, previews and undos with any numbers,
 // refused ones included. The record after it is read alike on every frame and has the same board; the two have equal input and output
-// counts, and the question written for them is as claimed above and has no 0/1 solution; each call leaves exactly the network and gives
-// exactly the answer that the definitions give; a merge within the limits is accepted exactly when it agrees and keeps the margins; a
+// counts, and the question written for them is as claimed above and has no 0/1 solution; each call leaves exactly the network and the journal
+// and gives exactly the answer that the definitions give; a merge within the limits is accepted exactly when it agrees and keeps the margins; a
 // collapse exactly when every reader has a pair; after an accepted sweep nothing within its reader limit is left to collapse; and a preview
-// changes nothing and shows what a collapse would leave.
+// changes nothing and shows what a collapse would leave. Document 02, No. 5: as many undos as a call entered steps, at most 64, give back the
+// network before it; no undo answers 23; and if at most 64 steps were accepted since the read, repeating undo until 22 gives the record read.
 pub fn lists_of_calls()
-    ensures { λ _. ⌜ ((file : List ℕ) → Bytes file → Accepted file → (calls : List Call) → ListClaim (loaded file .network) calls) ⌝ }
+    ensures { λ _. ⌜ ((file : List ℕ) → Bytes file → Accepted file → (calls : List Call) → ListClaim (justRead (loaded file .network)) calls) ⌝ }
 {}
 
 // The pair rule, for every network and any two numbers: the answer is the qualifying pair with the least k + l, then the least k, and its
@@ -60,13 +64,13 @@ pub fn pairs_are_least()
 
 // Document 02, No. 1, for every record and any number: a preview is the report of the record that a collapse leaves, or the collapse's
 // refusal; as a call of a list it hands its record back as it was, with the whole preview.
-pub fn previews_are_reports(network: Network)
-    ensures { λ _. ⌜ ((s : ℕ) → PreviewClaim network s) ⌝ }
+pub fn previews_are_reports(held: Record)
+    ensures { λ _. ⌜ ((s : ℕ) → PreviewClaim held s) ⌝ }
 {}
 
-// Document 02, No. 2: no merge, pair, drop, collapse, sweep, preview or call of a list answers 13, on any record and with any numbers.
-pub fn thirteen_is_never_given(network: Network)
-    ensures { λ _. ⌜ NeverThirteen network ⌝ }
+// Document 02, No. 2: no merge, pair, drop, collapse, sweep, preview or undo answers 13, on any record and with any numbers.
+pub fn thirteen_is_never_given(held: Record)
+    ensures { λ _. ⌜ NeverThirteen held ⌝ }
 {}
 
 // Document 02, No. 9: for every record and any numbers, whatever answer with 15 meets the promise of `witness` lights, counted signal by

@@ -12,7 +12,7 @@ use Rattle.network.specs.declared.GateRecord.{GateRecord}
 use Rattle.constraints.specs.Question.{most, least}
 use Rattle.constraints.specs.SizeLaws.{most-size, least-size}
 use Rattle.lines.specs.Lines.{InLimits}
-use Rattle.lines.specs.TermLaws.{feed-count}
+use Rattle.network.specs.PlaceLaws.{length-gateIn}
 use Rattle.lines.proofs.SumLaws.{small-back}
 
 module _ (gate : GateRecord) (s : InLimits gate) where
@@ -42,7 +42,7 @@ module _ (gate : GateRecord) (s : InLimits gate) where
   -- ---- M - T + 1
   module _ (z : ℤ) (e : toZ w32 (ofZ w32 z) ≡ M) where
     most-small : natAbs (M -ℤ T) ≤ 17000000
-    most-small = omega (arith, s .threshold-small, s .few, feed-count gate, most-size (gateIn gate .feeds) (s .sizes), size-sub M T)
+    most-small = omega (arith, s .threshold-small, s .few, length-gateIn gate, most-size (gateIn gate .feeds) (s .sizes), size-sub M T)
 
     less-fits : SFits w32 (M -ℤ T)
     less-fits = size-fits w32 (M -ℤ T) (omega (arith, most-small))
@@ -62,7 +62,7 @@ module _ (gate : GateRecord) (s : InLimits gate) where
   -- ---- m - T
   module _ (z : ℤ) (e : toZ w32 (ofZ w32 z) ≡ m) where
     own-fits : SFits w32 (m -ℤ T)
-    own-fits = size-fits w32 (m -ℤ T) (omega (arith, s .threshold-small, s .few, feed-count gate, least-size (gateIn gate .feeds) (s .sizes), size-sub m T))
+    own-fits = size-fits w32 (m -ℤ T) (omega (arith, s .threshold-small, s .few, length-gateIn gate, least-size (gateIn gate .feeds) (s .sizes), size-sub m T))
 
     pub lower-own-fits : SFits w32 (toZ w32 (ofZ w32 z) -ℤ toZ w32 (ofZ w32 T))
     lower-own-fits = rw (e, back) own-fits

@@ -14,7 +14,7 @@ use Rattle.integers.specs.PlaceLaws.{places-none, getD-places, placed-last}
 use Rattle.integers.specs.TableLaws.{getD-map}
 use Rattle.network.specs.Threshold.{Feed, negated, Gate}
 use Rattle.network.specs.Record.{feedAt, feedsFrom, gateIn, noFeed}
-use Rattle.network.specs.PlaceLaws.{length-feeds, feeds-at, feeds-back}
+use Rattle.network.specs.PlaceLaws.{length-feeds, length-gateIn, feeds-at, feeds-back}
 use Rattle.network.specs.declared.GateRecord.{GateRecord}
 use Rattle.constraints.specs.Question.{Line, term, most, least, upper, lower, overGate, someLine, notBothLine, lastLine}
 use Rattle.lines.specs.declared.LineRecord.{LineRecord}
@@ -120,11 +120,7 @@ unfolding gateIn feedAt
 scaled-at gate s i h = rw (feeds-at (gate .signals) (gate .weights) 0 (gate .fanin) i h, let e : 0 + i ≡ i = omega arith in e)
     at (each-getD (λ f. natAbs (f .weight) ≤ 1000000) (gateIn gate .feeds) noFeed (s .sizes) i (omega (arith, length-feeds (gate .signals) (gate .weights) 0 (gate .fanin))))
 
--- as many feeds as a gate counts, and as many terms
-pub feed-count : (gate : GateRecord) → length (gateIn gate .feeds) ≡ gate .fanin
-unfolding gateIn
-feed-count gate = length-feeds (gate .signals) (gate .weights) 0 (gate .fanin)
-
+-- as many terms as a gate has feeds
 term-count : (negative : Bool) (φ : ℕ → ℕ) (g : Gate) (z : ℤ) → length (feedTerms negative φ g z .terms) ≡ length (g .feeds)
 unfolding feedTerms
 term-count negative φ g z = length-map (g .feeds) (feedTerm negative φ)
@@ -132,7 +128,7 @@ term-count negative φ g z = length-map (g .feeds) (feedTerm negative φ)
 -- the feeds of a gate within the limits leave room for one term more
 pub feeds-extendable : {r : LineRecord} (negative : Bool) (φ : ℕ → ℕ) (gate : GateRecord) (z : ℤ) → InLimits gate
     → Stands r (feedTerms negative φ (gateIn gate) z) → Extendable r
-feeds-extendable negative φ gate z l s = stands-extendable s (omega (arith, l .few, feed-count gate, term-count negative φ (gateIn gate) z))
+feeds-extendable negative φ gate z l s = stands-extendable s (omega (arith, l .few, length-gateIn gate, term-count negative φ (gateIn gate) z))
 
 -- ---- M and m
 

@@ -1,33 +1,17 @@
--- What a call of a list on a record answers. Nothing is proved here.
+-- What a preview as a call of a list answers, and the answer of a call on the record of a state. Nothing is proved here.
 use Rattle.integers.specs.Refusals.{Answer, accepted, refused}
-use Rattle.network.specs.Record.{layout}
-use Rattle.network.specs.declared.Network.{Network}
 use Rattle.report.specs.declared.SizeReport.{SizeReport}
-use Rattle.folding.specs.Calls.{Given, noFigures, answer}
-use Rattle.folding.specs.declared.Call.{Call}
-use Rattle.merging.specs.Answers.{onRecord}
-use Rattle.merging.specs.declared.Changed.{Changed}
-use Rattle.sweeping.specs.declared.Outcome.{Outcome}
-use Rattle.lists.specs.declared.CallAnswer.{CallAnswer}
-
--- the answer as the call gives it; a refusal hands the record back, "with 0 for every other number"
-unfoldable pub asCallAnswer : Network → Answer Given → CallAnswer
-asCallAnswer r (accepted g) = record { code = 0; network = layout (g .net); figures = g .figures }
-asCallAnswer r (refused c) = record { code = c; network = r; figures = noFigures }
-
-unfoldable pub applied : Network → Call → CallAnswer
-applied r call = asCallAnswer r (onRecord r (λ N. answer N call))
-
--- ---- the answer of a call by itself as that of a call of a list
-
--- a merge, a drop or a collapse
-abbrev pub withPlain : Changed → CallAnswer
-withPlain c = record { code = c .code; network = c .network; figures = record { first = 0; second = 0; third = 0 } }
-
--- a sweep
-abbrev pub withCount : Outcome → CallAnswer
-withCount o = record { code = o .code; network = o .network; figures = record { first = o .collapses; second = 0; third = 0 } }
+use Rattle.history.specs.Steps.{State}
+use Rattle.history.specs.Calls.{Given, noFigures}
+use Rattle.journal.specs.Records.{recordOf}
+use Rattle.journal.specs.declared.CallAnswer.{CallAnswer}
+use Rattle.journal.specs.declared.Record.{Record}
 
 -- a preview at r
-abbrev pub withSize : Network → SizeReport → CallAnswer
-withSize r z = record { code = z .code; network = r; figures = record { first = z .gates; second = z .cost; third = z .levels } }
+abbrev pub withSize : Record → SizeReport → CallAnswer
+withSize r z = record { code = z .code; after = r; figures = record { first = z .gates; second = z .cost; third = z .levels } }
+
+-- an answer at q: the record of the state that is left
+unfoldable pub answerOn : State → Answer Given → CallAnswer
+answerOn q (accepted g) = record { code = 0; after = recordOf (g .state); figures = g .figures }
+answerOn q (refused c) = record { code = c; after = recordOf q; figures = noFigures }

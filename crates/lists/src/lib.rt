@@ -1,62 +1,24 @@
-// One call of a list on network records.
-use collapse::collapse;
-use collapse::drop_gate;
-use folding::Call;
-use folding::Figures;
-use merging::Changed;
-use merging::merge;
-use network::Network;
+// One call of a list on records.
+use history::Call;
+use history::Figures;
+use journal::CallAnswer;
+use journal::Record;
+use journal::refusal;
 use preview::preview;
+use recording::collapse;
+use recording::drop_gate;
+use recording::merge;
+use recording::sweep;
 use report::SizeReport;
-use sweeping::Outcome;
-use sweeping::sweep;
+use undoing::undo;
 ghost use mathlib.Core.Path.{_≡_};
-ghost use Rattle.lists.specs.Answers.{applied, withPlain, withCount, withSize};
+ghost use Rattle.history.specs.declared.Call.the-variants.{Preview};
+ghost use Rattle.journal.specs.Answers.{applied};
+ghost use Rattle.lists.specs.Answers.{withSize};
 
-// What a call of a list answers: 0 or the refusal, the network that it leaves, and its three numbers.
-pub struct CallAnswer {
-    pub code: u8,
-    pub network: Network,
-    pub figures: Figures,
-}
-
-// The answer of a merge, a drop or a collapse as that of a call of a list.
-fn plain(changed: Changed) -> CallAnswer
-    ensures { λ r. ⌜ r ≡ withPlain changed ⌝ }
-{
-    let network = changed.network;
-    let figures = Figures {
-        first: 0,
-        second: 0,
-        third: 0,
-    };
-    CallAnswer {
-        code: changed.code,
-        network,
-        figures,
-    }
-}
-
-// That of a sweep.
-fn counted(swept: Outcome) -> CallAnswer
-    ensures { λ r. ⌜ r ≡ withCount swept ⌝ }
-{
-    let network = swept.network;
-    let figures = Figures {
-        first: swept.collapses as u64,
-        second: 0,
-        third: 0,
-    };
-    CallAnswer {
-        code: swept.code,
-        network,
-        figures,
-    }
-}
-
-// That of a preview, at the network that it leaves as it was.
-fn shown(network: Network, size: SizeReport) -> CallAnswer
-    ensures { λ r. ⌜ r ≡ withSize network size ⌝ }
+// The answer of a preview as that of a call of a list, at the record that it leaves as it was.
+fn shown(held: Record, size: SizeReport) -> CallAnswer
+    ensures { λ r. ⌜ r ≡ withSize held size ⌝ }
 {
     let figures = Figures {
         first: size.gates as u64,
@@ -65,20 +27,34 @@ fn shown(network: Network, size: SizeReport) -> CallAnswer
     };
     CallAnswer {
         code: size.code,
-        network,
+        after: held,
         figures,
     }
 }
 
-// One call of a list: 0 or the refusal, the network that it leaves, and its three numbers.
-pub fn apply(network: Network, call: Call) -> CallAnswer
-    ensures { λ r. ⌜ r ≡ applied network call ⌝ }
+// A preview as a call of a list.
+fn foresee(held: Record, s: usize) -> CallAnswer
+    ensures { λ r. ⌜ r ≡ applied held (Preview s) ⌝ }
+{
+    let network = held.network;
+    let journal = held.journal;
+    let count = journal.count;
+    if 64 < count {
+        return refusal(20, held);
+    }
+    shown(held, preview(network, s))
+}
+
+// One call of a list: 0 or the refusal, the record that it leaves, and its three numbers.
+pub fn apply(held: Record, call: Call) -> CallAnswer
+    ensures { λ r. ⌜ r ≡ applied held call ⌝ }
 {
     match call {
-        Call::Merge { u, v, k, l } => plain(merge(network, u, v, k, l)),
-        Call::Drop { s } => plain(drop_gate(network, s)),
-        Call::Collapse { s } => plain(collapse(network, s)),
-        Call::Sweep { b } => counted(sweep(network, b)),
-        Call::Preview { s } => shown(network, preview(network, s)),
+        Call::Merge { u, v, k, l } => merge(held, u, v, k, l),
+        Call::Drop { s } => drop_gate(held, s),
+        Call::Collapse { s } => collapse(held, s),
+        Call::Sweep { b } => sweep(held, b),
+        Call::Preview { s } => foresee(held, s),
+        Call::Undo => undo(held),
     }
 }

@@ -10,14 +10,14 @@ use lib.IntN.{ℤ}
 use Rattle.integers.specs.Refusals.{_else_, Passed}
 use Rattle.integers.specs.TestLaws.{T-and}
 use Rattle.network.specs.Threshold.{Gate}
-use Rattle.network.specs.Limits.{boardOk, isGate}
+use Rattle.network.specs.Limits.{boardOk}
 use Rattle.network.specs.Sound.{GateOk}
 use Rattle.network.specs.Changes.{gateAt}
 use Rattle.network.specs.Record.{gateFrom, gateIn, netOf}
 use Rattle.network.specs.RecordTests.{gateSignal}
 use Rattle.network.specs.Places.{rowAt}
 use Rattle.network.specs.PlaceLaws.{gateIn-gateRecord}
-use Rattle.network.specs.RecordLaws.{count-gates, gate-within}
+use Rattle.network.specs.RecordLaws.{gate-signal, gate-within}
 use Rattle.network.specs.declared.Board.{Board}
 use Rattle.network.specs.declared.Network.{Network}
 use Rattle.network.specs.declared.GateRecord.{GateRecord}
@@ -79,10 +79,6 @@ joined-of fanins thresholds signals weights inputs gates u v p =
 
 module _ (r : Network) where
   -- its gates are those of its network
-  signal-is : (s : ℕ) → gateSignal (r .inputs) (r .gates) s ≡ isGate (netOf r) s
-  unfolding gateSignal isGate netOf
-  signal-is s = ap (λ (n : ℕ). leb (r .inputs) s && ltb s (r .inputs + n)) (sym (count-gates r))
-
   gate-is : (s : ℕ) → Within (r .inputs) (r .gates) s → gateFrom (r .fanins) (r .thresholds) (r .signals) (r .weights) (s - r .inputs) ≡ gateAt (netOf r) s
   unfolding gateAt netOf
   gate-is s w = sym (gate-within r (s - r .inputs) (w .high))
@@ -95,7 +91,7 @@ module _ (r : Network) where
   -- so are the tests: v's feeds are looked at only if v is a gate
   pub tests-are : (u v : ℕ) → firstFailing (edgeTestsIn (r .fanins) (r .thresholds) (r .signals) (r .weights) (r .inputs) (r .gates) u v) ≡ firstFailing (edgeTests (netOf r) u v)
   unfolding firstFailing edgeTestsIn edgeTests
-  tests-are u v = rw (← signal-is u, ← signal-is v)
+  tests-are u v = rw (gate-signal r u, gate-signal r v)
       (second (gateSignal (r .inputs) (r .gates) u && gateSignal (r .inputs) (r .gates) v)
       (λ t. ap (reads u) (gate-is v (within-of (r .inputs) (r .gates) v (T-and (gateSignal (r .inputs) (r .gates) u) (gateSignal (r .inputs) (r .gates) v) t .1)))))
     where

@@ -1,4 +1,5 @@
--- A network made from another: gates replaced, and a gate removed. Document 01, "It replaces v" and "Drop". Nothing is proved here.
+-- A network made from another: gates replaced, a gate removed, and a removed gate put back. Document 01, "It replaces v" and "Drop";
+-- document 02, No. 5, "restores the network as it was before it, signals included". Nothing is proved here.
 use mathlib.Core.Bool.{cond}
 use mathlib.Core.List.{List, [], _∷_, map}
 use Prim.Native.Nat.{ℕ, zero, suc, _-_}
@@ -42,3 +43,23 @@ removeAt (suc i) (x ∷ xs) = x ∷ removeAt i xs
 -- N without the gate with signal u
 unfoldable pub without : Net → ℕ → Net
 without N u = remade N (map (loweredGate u) (removeAt (u - N .inputs) (N .gates))) (map (lowered u) (N .outputs))
+
+-- signals at or above u rise by one
+unfoldable pub raised : ℕ → ℕ → ℕ
+raised u s = cond (ltb s u) s (suc s)
+
+unfoldable pub raisedFeed : ℕ → Feed → Feed
+raisedFeed u f = record { signal = raised u (f .signal); weight = f .weight }
+
+unfoldable pub raisedGate : ℕ → Gate → Gate
+raisedGate u g = record { feeds = map (raisedFeed u) (g .feeds); threshold = g .threshold }
+
+-- a list with x before its member i, or at its end
+unfoldable pub insertAt : {A : Type 0} → ℕ → A → List A → List A
+insertAt zero x xs = x ∷ xs
+insertAt (suc i) x [] = x ∷ []
+insertAt (suc i) x (y ∷ ys) = y ∷ insertAt i x ys
+
+-- N with the gate g at signal u, which nothing reads: the inverse of `without`
+unfoldable pub inserted : Net → ℕ → Gate → Net
+inserted N u g = remade N (insertAt (u - N .inputs) g (map (raisedGate u) (N .gates))) (map (raised u) (N .outputs))

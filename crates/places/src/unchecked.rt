@@ -162,8 +162,15 @@ fn signals_without(signals: &[u8; 2048], first: usize, u: usize) -> [u8; 2048]
     result
 }
 
+// The byte at a place; 0 past the end.
+pub fn byte_at(bytes: &[u8], p: usize) -> u8
+    ensures { λ r. ⌜ r ≡ getD (now (bytes .entry)) p 0 ⌝ }
+{
+    if p < bytes.len() { bytes[p] } else { 0 }
+}
+
 // The integer at a place; 0 past the end.
-fn integer_at(integers: &[i32], p: usize) -> i32
+pub fn integer_at(integers: &[i32], p: usize) -> i32
     ensures { λ r. ⌜ r ≡ getD (now (integers .entry)) p (pos 0) ⌝ }
 {
     if p < integers.len() { integers[p] } else { 0 }

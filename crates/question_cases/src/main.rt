@@ -1,7 +1,7 @@
 // The question for file F of the paper and for F folded, and its refusals. Each line names what was done and gives the numbers that the
 // call answered; then stands the text that it wrote. The whole output is kept in the file stdout.
+use journal::Record;
 use libc::STDOUT_FILENO;
-use network::Network;
 
 const F: [u8; 39] = [
     80,
@@ -70,9 +70,9 @@ fn prefix(bytes: &[u8], n: usize) {
 }
 
 // Line n, in a buffer that has room for every line.
-fn show_line(first: Network, second: Network, n: usize) {
+fn show_line(first: Record, second: Record, n: usize) {
     let mut out = [170u8; 254];
-    let written = question::line(first, second, n, &mut out);
+    let written = folder::line(first, second, n, &mut out);
     text(b"line");
     number(n as u64);
     number(written.code as u64);
@@ -83,7 +83,7 @@ fn show_line(first: Network, second: Network, n: usize) {
 }
 
 // The lines from 0 on, one past the last included.
-fn show_lines(first: Network, second: Network, count: usize) {
+fn show_lines(first: Record, second: Record, count: usize) {
     let mut n: usize = 0;
     while n < count {
         show_line(first, second, n);
@@ -92,9 +92,9 @@ fn show_lines(first: Network, second: Network, count: usize) {
 }
 
 // Line n in the first bytes of those lent: the answer.
-fn line_prefix(first: Network, second: Network, n: usize, out: &mut [u8], room: usize) {
+fn line_prefix(first: Record, second: Record, n: usize, out: &mut [u8], room: usize) {
     if room <= out.len() {
-        let written = question::line(first, second, n, &mut out[..room]);
+        let written = folder::line(first, second, n, &mut out[..room]);
         number(written.code as u64);
         number(written.length as u64);
     }
@@ -107,7 +107,7 @@ fn last_byte(bytes: &[u8; 64], at: usize) {
 }
 
 // Line n with so much room, each byte having been 170: the answer, and the bytes at the end of the room and after it.
-fn show_room(first: Network, second: Network, n: usize, room: usize) {
+fn show_room(first: Record, second: Record, n: usize, room: usize) {
     let mut out = [170u8; 64];
     text(b"room");
     number(n as u64);
@@ -123,15 +123,14 @@ fn show_room(first: Network, second: Network, n: usize, room: usize) {
 
 fn main() {
     let file = F;
-    let f = pmn::read(&file).network;
-    let swept = sweeping::sweep(f, 128);
-    let folded = swept.network;
+    let f = folder::read(&file).held;
+    let folded = folder::sweep(f, 128).after;
     text(b"F and F folded\n");
     show_lines(f, folded, 11);
     show_line(f, folded, 18446744073709551615);
     let mut changed = F;
     changed[24] = 2;
-    let other = pmn::read(&changed).network;
+    let other = folder::read(&changed).held;
     text(b"F and F with another threshold\n");
     show_lines(f, other, 13);
     text(b"the room for line 1\n");
@@ -141,11 +140,11 @@ fn main() {
     show_room(f, folded, 10, 0);
     text(b"unlike networks\n");
     let tiny = SMALL;
-    let small = pmn::read(&tiny).network;
+    let small = folder::read(&tiny).held;
     show_line(f, small, 0);
     show_line(small, f, 99);
     text(b"broken records\n");
-    let blank = network::blank();
+    let blank = journal::just_read(network::blank());
     show_line(blank, f, 0);
     show_line(f, blank, 99);
     show_line(small, blank, 0);

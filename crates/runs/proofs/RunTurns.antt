@@ -7,23 +7,26 @@ use native.Mathlib.Omega.{arith}
 use lib.ListN.{length, drop, set, length-set, drop-of-length-le}
 use lib.Seq.{drop-drop, sets, paste, paste-zero}
 use Rattle.network.specs.Record.{netOf, layout}
-use Rattle.network.specs.declared.Network.{Network}
-use Rattle.folding.specs.Calls.{answer, calls}
-use Rattle.lists.specs.declared.CallAnswer.{CallAnswer}
-use Rattle.runs.specs.Runs.{wellFormed, callsIn, fourOf, answersOf}
 use Rattle.network.specs.Places.{Holds}
-use Rattle.runs.specs.Running.{callAt, Stepped}
-use Rattle.runs.specs.RunLaws.{count-calls, next-holds, next-calls, next-answers, store-more}
+use Rattle.network.specs.declared.Network.{Network}
+use Rattle.history.specs.Steps.{State, opened}
+use Rattle.history.specs.Calls.{answer, calls}
+use Rattle.journal.specs.Records.{stateOf, recordOf, justRead}
+use Rattle.journal.specs.declared.CallAnswer.{CallAnswer}
+use Rattle.journal.specs.declared.Record.{Record}
+use Rattle.runs.specs.Runs.{wellFormed, callsIn, fourOf, answersOf}
+use Rattle.runs.specs.Running.{callAt, Came, Stepped}
+use Rattle.runs.specs.RunLaws.{count-calls, just-came, just-state, next-came, next-calls, next-answers, store-more}
 
--- r is the record before call i of a list that began with r₀
-pub record Reached (r₀ : Network) (ns : List ℕ) (i : ℕ) (r : Network) : Type 0 where
-  pub holds : Holds r
-  pub rest : calls (netOf r) (callsIn (drop (5 * i) ns)) ≡ calls (netOf r₀) (callsIn ns)
+-- r is the record before call i of a list that began at the state q
+pub record Reached (q : State) (ns : List ℕ) (i : ℕ) (r : Record) : Type 0 where
+  pub came : Came r
+  pub rest : calls (stateOf r) (callsIn (drop (5 * i) ns)) ≡ calls q (callsIn ns)
 
 -- the codes and numbers of the calls before it stand in the places from 1 on
-pub record Answered (r₀ : Network) (ns : List ℕ) (i : ℕ) (r : Network) (lent answers : List ℕ) : Type 0 where
-  pub places : answers ≡ paste lent 1 (answersOf (netOf r₀) (callsIn ns)) (4 * i)
-  pub rest : drop (4 * i) (answersOf (netOf r₀) (callsIn ns)) ≡ answersOf (netOf r) (callsIn (drop (5 * i) ns))
+pub record Answered (q : State) (ns : List ℕ) (i : ℕ) (r : Record) (lent answers : List ℕ) : Type 0 where
+  pub places : answers ≡ paste lent 1 (answersOf q (callsIn ns)) (4 * i)
+  pub rest : drop (4 * i) (answersOf q (callsIn ns)) ≡ answersOf (stateOf r) (callsIn (drop (5 * i) ns))
   pub long : length answers ≡ length lent
 
 -- storing keeps the length
@@ -31,38 +34,50 @@ sets-length : (l : List ℕ) (at : ℕ) (ys : List ℕ) → length (sets l at ys
 sets-length l at [] = refl
 sets-length l at (y ∷ ys) = sets-length (set l at y) (suc at) ys ∙ length-set l at y
 
-module _ (r₀ : Network) (ns : List ℕ) where
-  pub reached-none : Holds r₀ → Reached r₀ ns 0 r₀
-  reached-none h = record { holds = h; rest = refl }
+-- ---- before the first call
 
-  module _ (i : ℕ) {r : Network} (h : Reached r₀ ns i r) where
-    pub reached-next : 5 * i + 5 ≤ length ns → {o : CallAnswer} → Stepped (netOf r) (answer (netOf r) (callAt ns i)) o → Reached r₀ ns (i + 1) (o .network)
-    reached-next l {o} s = record { holds = next-holds r (h .holds) ns i l o s; rest = next-calls r (h .holds) ns i l o s ∙ h .rest }
+-- the record and the state of a network just read
+module _ (n : Network) (h : Holds n) {r : Record} (e : r ≡ justRead n) where
+  pub began-came : Came r
+  began-came = rw e (just-came n h)
 
-    -- after the last call
-    pub reached-end : wellFormed ns ≡ true → length ns / 5 ≤ i → r ≡ layout (calls (netOf r₀) (callsIn ns))
-    unfolding calls callsIn
-    reached-end w l =
-        let e : drop (5 * i) ns ≡ [] = drop-of-length-le ns {i = 5 * i} (omega (arith, count-calls ns w)) in
-        sym (h .holds .laid) ∙ ap layout (sym (ap (λ (m : List ℕ). calls (netOf r) (callsIn m)) e) ∙ h .rest)
+  pub began-state : stateOf r ≡ opened (netOf n)
+  began-state = ap stateOf e ∙ just-state n h
 
-    module _ {lent answers : List ℕ} (a : Answered r₀ ns i r lent answers) where
-      pub answered-next : 5 * i + 5 ≤ length ns → 4 * i + 4 < length lent → {o : CallAnswer} → Stepped (netOf r) (answer (netOf r) (callAt ns i)) o
-          → Answered r₀ ns (i + 1) (o .network) lent (sets answers (1 + 4 * i) (fourOf (o .code) (o .figures)))
-      answered-next l k {o} s =
-          let xs = answersOf (netOf r₀) (callsIn ns) in
-          let four = fourOf (o .code) (o .figures) in
-          let e = a .rest ∙ next-answers r (h .holds) ns i l o s in
-          let more : 4 * i + 4 ≡ 4 * (i + 1) = omega arith in
-          record {
-            places = ap (λ (m : List ℕ). sets m (1 + 4 * i) four) (a .places) ∙ store-more lent xs 1 (4 * i) four _ e (omega arith) ∙ ap (paste lent 1 xs) more;
-            rest = ap (λ (n : ℕ). drop n xs) (sym more) ∙ sym (drop-drop 4 (4 * i) xs) ∙ ap (drop 4) e;
-            long = sets-length answers (1 + 4 * i) four ∙ a .long;
-          }
+pub reached-none : (ns : List ℕ) {r : Record} → Came r → Reached (stateOf r) ns 0 r
+reached-none ns c = record { came = c; rest = refl }
 
-      pub answered-end : i ≡ length (callsIn ns) → answers ≡ paste lent 1 (answersOf (netOf r₀) (callsIn ns)) (4 * length (callsIn ns))
-      answered-end e = a .places ∙ ap (λ (n : ℕ). paste lent 1 (answersOf (netOf r₀) (callsIn ns)) (4 * n)) e
+-- nothing is stored
+pub answered-none : (ns : List ℕ) (r : Record) (lent : List ℕ) → Answered (stateOf r) ns 0 r lent lent
+answered-none ns r lent = record { places = paste-zero lent 1 (answersOf (stateOf r) (callsIn ns)); rest = refl; long = refl }
 
-  -- before the first call nothing is stored
-  pub answered-none : (lent : List ℕ) → Answered r₀ ns 0 r₀ lent lent
-  answered-none lent = record { places = paste-zero lent 1 (answersOf (netOf r₀) (callsIn ns)); rest = refl; long = refl }
+-- ---- from call to call
+
+module _ (q : State) (ns : List ℕ) (i : ℕ) {r : Record} (h : Reached q ns i r) where
+  pub reached-next : 5 * i + 5 ≤ length ns → {o : CallAnswer} → Stepped (stateOf r) (answer (stateOf r) (callAt ns i)) o → Reached q ns (i + 1) (o .after)
+  reached-next l {o} s = record { came = next-came r (h .came) ns i l o s; rest = next-calls r (h .came) ns i l o s ∙ h .rest }
+
+  -- after the last call
+  pub reached-end : wellFormed ns ≡ true → length ns / 5 ≤ i → r .network ≡ layout (calls q (callsIn ns) .net)
+  unfolding calls callsIn recordOf
+  reached-end w l =
+      let e : drop (5 * i) ns ≡ [] = drop-of-length-le ns {i = 5 * i} (omega (arith, count-calls ns w)) in
+      ap (λ (x : Record). x .network) (sym (h .came .laid))
+      ∙ ap (λ (p : State). layout (p .net)) (sym (ap (λ (m : List ℕ). calls (stateOf r) (callsIn m)) e) ∙ h .rest)
+
+  module _ {lent answers : List ℕ} (a : Answered q ns i r lent answers) where
+    pub answered-next : 5 * i + 5 ≤ length ns → 4 * i + 4 < length lent → {o : CallAnswer} → Stepped (stateOf r) (answer (stateOf r) (callAt ns i)) o
+        → Answered q ns (i + 1) (o .after) lent (sets answers (1 + 4 * i) (fourOf (o .code) (o .figures)))
+    answered-next l k {o} s =
+        let xs = answersOf q (callsIn ns) in
+        let four = fourOf (o .code) (o .figures) in
+        let e = a .rest ∙ next-answers r (h .came) ns i l o s in
+        let more : 4 * i + 4 ≡ 4 * (i + 1) = omega arith in
+        record {
+          places = ap (λ (m : List ℕ). sets m (1 + 4 * i) four) (a .places) ∙ store-more lent xs 1 (4 * i) four _ e (omega arith) ∙ ap (paste lent 1 xs) more;
+          rest = ap (λ (n : ℕ). drop n xs) (sym more) ∙ sym (drop-drop 4 (4 * i) xs) ∙ ap (drop 4) e;
+          long = sets-length answers (1 + 4 * i) four ∙ a .long;
+        }
+
+    pub answered-end : i ≡ length (callsIn ns) → answers ≡ paste lent 1 (answersOf q (callsIn ns)) (4 * length (callsIn ns))
+    answered-end e = a .places ∙ ap (λ (n : ℕ). paste lent 1 (answersOf q (callsIn ns)) (4 * n)) e

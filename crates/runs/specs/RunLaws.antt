@@ -13,24 +13,30 @@ use Rattle.integers.specs.Refusals.{Answer, accepted, refused, codeOf}
 use Rattle.integers.specs.TestLaws.{and-right}
 use Rattle.network.specs.Threshold.{Net}
 use Rattle.network.specs.Sound.{Sound}
-use Rattle.network.specs.Record.{netOf, layout}
+use Rattle.network.specs.Record.{netOf}
 use Rattle.network.specs.Places.{Holds}
-use Rattle.network.specs.RecordLaws.{netOf-layout, holds-layout, holds-sound}
+use Rattle.network.specs.RecordLaws.{holds-sound}
 use Rattle.network.specs.declared.Network.{Network}
 use Rattle.format.specs.Format.{fileBytes, longestFile}
 use Rattle.format.specs.LengthLaws.{longest}
 use Rattle.pmn_writer.specs.Answers.{asWritten, written}
 use Rattle.pmn_writer.specs.WriteAnswerLaws.{write-whole}
 use Rattle.pmn_writer.specs.declared.Written.{Written}
-use Rattle.folding.specs.Calls.{Given, answer, leaves, calls}
-use Rattle.folding.specs.GuaranteeLaws.{calls-kept, step-sound}
-use Rattle.folding.specs.declared.Call.{Call}
-use Rattle.folding.specs.declared.Call.the-variants.{Preview}
-use Rattle.lists.specs.Answers.{asCallAnswer, applied}
-use Rattle.lists.specs.ApplyLaws.{call-exact, call-record}
-use Rattle.lists.specs.declared.CallAnswer.{CallAnswer}
-use Rattle.runs.specs.Runs.{callOf, wellFormed, callsIn, figuresIn, fourOf, answersOf}
-use Rattle.runs.specs.Running.{callAt, Stepped}
+use Rattle.history.specs.Steps.{State, opened}
+use Rattle.history.specs.Calls.{Given, answer, leaves, calls}
+use Rattle.history.specs.TraceLaws.{Traced}
+use Rattle.history.specs.GuaranteeLaws.{opened-traced, call-traced, calls-traced}
+use Rattle.history.specs.declared.Call.{Call}
+use Rattle.history.specs.declared.Call.the-variants.{Undo}
+use Rattle.journal.specs.Records.{stateOf, recordOf, justRead}
+use Rattle.journal.specs.JournalLaws.{empty-journal}
+use Rattle.journal.specs.Answers.{applied}
+use Rattle.journal.specs.declared.CallAnswer.{CallAnswer}
+use Rattle.journal.specs.declared.Record.{Record}
+use Rattle.lists.specs.Answers.{answerOn}
+use Rattle.lists.specs.StateLaws.{state-record, applied-record}
+use Rattle.runs.specs.Runs.{callOf, wellFormed, callsIn, figuresIn, fourOf, answersOf, netAfter}
+use Rattle.runs.specs.Running.{callAt, Came, Stepped}
 
 -- ---- five numbers to a call
 
@@ -61,11 +67,11 @@ module _ (ns : List ℕ) (at : ℕ) (h : at + 5 ≤ length ns) where
   first-left = getD-drop at ns 0 0 ∙ ap (λ (k : ℕ). getD ns k 0) (add-zero at)
 
   -- the test of the next five
-  pub formed-next : wellFormed (drop at ns) ≡ leb (getD ns at 0) 4 && wellFormed (drop (at + 5) ns)
+  pub formed-next : wellFormed (drop at ns) ≡ leb (getD ns at 0) 5 && wellFormed (drop (at + 5) ns)
   unfolding wellFormed
   formed-next =
-      five (λ l. wellFormed l ≡ leb (getD l 0 0) 4 && wellFormed (drop 5 l)) (λ a b c d e l. refl) (drop at ns) five-left
-      ∙ (λ x. leb (first-left x) 4 && wellFormed (drop-drop 5 at ns x))
+      five (λ l. wellFormed l ≡ leb (getD l 0 0) 5 && wellFormed (drop 5 l)) (λ a b c d e l. refl) (drop at ns) five-left
+      ∙ (λ x. leb (first-left x) 5 && wellFormed (drop-drop 5 at ns x))
 
 -- the next call
 pub calls-next : (ns : List ℕ) (i : ℕ) → 5 * i + 5 ≤ length ns → callsIn (drop (5 * i) ns) ≡ callAt ns i ∷ callsIn (drop (5 * (i + 1)) ns)
@@ -85,68 +91,84 @@ count-calls (a ∷ []) h = absurd (false≢true h)
 count-calls (a ∷ b ∷ []) h = absurd (false≢true h)
 count-calls (a ∷ b ∷ c ∷ []) h = absurd (false≢true h)
 count-calls (a ∷ b ∷ c ∷ d ∷ []) h = absurd (false≢true h)
-count-calls (a ∷ b ∷ c ∷ d ∷ e ∷ ns) h = let k = count-calls ns (and-right (leb a 4) (wellFormed ns) h) in omega arith
+count-calls (a ∷ b ∷ c ∷ d ∷ e ∷ ns) h = let k = count-calls ns (and-right (leb a 5) (wellFormed ns) h) in omega arith
 
--- every kind that is not 0, 1, 2 or 3 is a preview
-pub preview-call : (n s v k l : ℕ) → (n ≡ 0 → ⊥) → (n ≡ 1 → ⊥) → (n ≡ 2 → ⊥) → (n ≡ 3 → ⊥) → callOf n s v k l ≡ Preview s
+-- every kind that is not 0, 1, 2, 3 or 4 is an undo
+pub undo-call : (n a b c d : ℕ) → (n ≡ 0 → ⊥) → (n ≡ 1 → ⊥) → (n ≡ 2 → ⊥) → (n ≡ 3 → ⊥) → (n ≡ 4 → ⊥) → callOf n a b c d ≡ Undo
 unfolding callOf
-preview-call zero s v k l x y z w = absurd (x refl)
-preview-call (suc zero) s v k l x y z w = absurd (y refl)
-preview-call (suc (suc zero)) s v k l x y z w = absurd (z refl)
-preview-call (suc (suc (suc zero))) s v k l x y z w = absurd (w refl)
-preview-call (suc (suc (suc (suc n)))) s v k l x y z w = refl
+undo-call zero a b c d x y z w t = absurd (x refl)
+undo-call (suc zero) a b c d x y z w t = absurd (y refl)
+undo-call (suc (suc zero)) a b c d x y z w t = absurd (z refl)
+undo-call (suc (suc (suc zero))) a b c d x y z w t = absurd (w refl)
+undo-call (suc (suc (suc (suc zero)))) a b c d x y z w t = absurd (t refl)
+undo-call (suc (suc (suc (suc (suc n))))) a b c d x y z w t = refl
 
 -- ---- one call on a record
 
 -- the network after a list is sound
-pub after-sound : (r : Network) → Holds r → (cs : List Call) → Sound (calls (netOf r) cs)
-after-sound r h cs = calls-kept (netOf r) cs (h .sound) .sound
+pub after-sound : (r : Network) → Holds r → (cs : List Call) → Sound (netAfter (netOf r) cs)
+after-sound r h cs = calls-traced (netOf r) (opened (netOf r)) cs (opened-traced (netOf r) (h .sound)) .kept .sound
 
-step-by : (r : Network) (a : Answer Given) → asCallAnswer r a .network ≡ layout (leaves (netOf r) a) → Stepped (netOf r) a (asCallAnswer r a)
-unfolding asCallAnswer codeOf figuresIn
-step-by r (accepted g) e = record { code = refl; figures = refl; network = e }
-step-by r (refused k) e = record { code = refl; figures = refl; network = e }
+-- the record of a state is that of a read and calls where the state is
+came-record : (R : Net) (q : State) → Traced R q → Came (recordOf q)
+came-record R q t = let e = state-record R q t in record { read = R; traced = subst (Traced R) (sym e) t; laid = ap recordOf e }
 
-pub step-done : (r : Network) → Holds r → (c : Call) {o : CallAnswer} → o ≡ applied r c → Stepped (netOf r) (answer (netOf r) c) o
+-- the record of a network just read
+just-record : (r : Network) → Holds r → justRead r ≡ recordOf (opened (netOf r))
+unfolding justRead recordOf opened
+just-record r h = λ x. record { network = sym (h .laid) x; journal = empty-journal x }
+
+pub just-came : (r : Network) → Holds r → Came (justRead r)
+just-came r h = subst Came (sym (just-record r h)) (came-record (netOf r) (opened (netOf r)) (opened-traced (netOf r) (h .sound)))
+
+pub just-state : (r : Network) → Holds r → stateOf (justRead r) ≡ opened (netOf r)
+just-state r h = ap stateOf (just-record r h) ∙ state-record (netOf r) (opened (netOf r)) (opened-traced (netOf r) (h .sound))
+
+answered : (q : State) (a : Answer Given) → Stepped q a (answerOn q a)
+unfolding answerOn codeOf figuresIn leaves
+answered q (accepted g) = record { code = refl; figures = refl; left = refl }
+answered q (refused k) = record { code = refl; figures = refl; left = refl }
+
+pub step-done : (r : Record) → Came r → (c : Call) {o : CallAnswer} → o ≡ applied r c → Stepped (stateOf r) (answer (stateOf r) c) o
 step-done r h c e =
-    let a = answer (netOf r) c in
-    let same = call-exact r c (holds-sound r h) in
-    subst (Stepped (netOf r) a) (sym (e ∙ same)) (step-by r a (ap (λ (x : CallAnswer). x .network) (sym same) ∙ call-record r c h))
+    let q = stateOf r in
+    let same = e ∙ ap (λ (x : Record). applied x c) (sym (h .laid)) ∙ applied-record (h .read) q (h .traced) c in
+    subst (Stepped q (answer q c)) (sym same) (answered q (answer q c))
 
 -- what is left of the list after call i
-module _ (r : Network) (h : Holds r) (ns : List ℕ) (i : ℕ) (l : 5 * i + 5 ≤ length ns) (o : CallAnswer)
-    (s : Stepped (netOf r) (answer (netOf r) (callAt ns i)) o) where
-  next : Net
-  next = leaves (netOf r) (answer (netOf r) (callAt ns i))
+module _ (r : Record) (h : Came r) (ns : List ℕ) (i : ℕ) (l : 5 * i + 5 ≤ length ns) (o : CallAnswer)
+    (s : Stepped (stateOf r) (answer (stateOf r) (callAt ns i)) o) where
+  next : State
+  next = leaves (stateOf r) (answer (stateOf r) (callAt ns i))
 
-  next-sound : Sound next
+  next-traced : Traced (h .read) next
   unfolding next
-  next-sound = step-sound (netOf r) (callAt ns i) (h .sound)
+  next-traced = call-traced (h .read) (stateOf r) (callAt ns i) (h .traced)
 
-  pub next-holds : Holds (o .network)
+  pub next-came : Came (o .after)
   unfolding next
-  next-holds = subst Holds (sym (s .network)) (holds-layout next next-sound)
+  next-came = subst Came (sym (s .left)) (came-record (h .read) next next-traced)
 
-  next-net : netOf (o .network) ≡ next
+  next-state : stateOf (o .after) ≡ next
   unfolding next
-  next-net = ap netOf (s .network) ∙ netOf-layout next next-sound
+  next-state = ap stateOf (s .left) ∙ state-record (h .read) next next-traced
 
-  pub next-calls : calls (netOf (o .network)) (callsIn (drop (5 * (i + 1)) ns)) ≡ calls (netOf r) (callsIn (drop (5 * i) ns))
+  pub next-calls : calls (stateOf (o .after)) (callsIn (drop (5 * (i + 1)) ns)) ≡ calls (stateOf r) (callsIn (drop (5 * i) ns))
   unfolding next calls
-  next-calls = ap (λ (N : Net). calls N (callsIn (drop (5 * (i + 1)) ns))) next-net ∙ sym (ap (calls (netOf r)) (calls-next ns i l))
+  next-calls = ap (λ (q : State). calls q (callsIn (drop (5 * (i + 1)) ns))) next-state ∙ sym (ap (calls (stateOf r)) (calls-next ns i l))
 
-  pub next-answers : answersOf (netOf r) (callsIn (drop (5 * i) ns))
-      ≡ fourOf (o .code) (o .figures) ++ answersOf (netOf (o .network)) (callsIn (drop (5 * (i + 1)) ns))
+  pub next-answers : answersOf (stateOf r) (callsIn (drop (5 * i) ns))
+      ≡ fourOf (o .code) (o .figures) ++ answersOf (stateOf (o .after)) (callsIn (drop (5 * (i + 1)) ns))
   unfolding next answersOf
   next-answers =
-      ap (answersOf (netOf r)) (calls-next ns i l)
-      ∙ sym (λ x. fourOf (s .code x) (s .figures x) ++ answersOf (next-net x) (callsIn (drop (5 * (i + 1)) ns)))
+      ap (answersOf (stateOf r)) (calls-next ns i l)
+      ∙ sym (λ x. fourOf (s .code x) (s .figures x) ++ answersOf (next-state x) (callsIn (drop (5 * (i + 1)) ns)))
 
 -- ---- the places of the answers, from 1 on
-pub answers-length : (N : Net) (cs : List Call) → length (answersOf N cs) ≡ 4 * length cs
+pub answers-length : (q : State) (cs : List Call) → length (answersOf q cs) ≡ 4 * length cs
 unfolding answersOf
-answers-length N [] = refl
-answers-length N (c ∷ cs) = let e = answers-length (leaves N (answer N c)) cs in omega arith
+answers-length q [] = refl
+answers-length q (c ∷ cs) = let e = answers-length (leaves q (answer q c)) cs in omega arith
 
 -- more of the numbers xs, stored after the j before them
 pub store-more : (lent xs : List ℕ) (at j : ℕ) (ys rest : List ℕ) → drop j xs ≡ ys ++ rest → at + j + length ys ≤ length lent

@@ -5,18 +5,27 @@ use Prim.Native.Nat.{ℕ, _+_, _*_}
 use lib.ListN.{getD}
 use Rattle.integers.specs.Refusals.{Answer, codeOf}
 use Rattle.network.specs.Threshold.{Net}
-use Rattle.network.specs.Record.{layout}
-use Rattle.folding.specs.Calls.{Given, leaves}
-use Rattle.folding.specs.declared.Call.{Call}
-use Rattle.lists.specs.declared.CallAnswer.{CallAnswer}
+use Rattle.history.specs.Steps.{State}
+use Rattle.history.specs.Calls.{Given, leaves}
+use Rattle.history.specs.TraceLaws.{Traced}
+use Rattle.history.specs.declared.Call.{Call}
+use Rattle.journal.specs.Records.{stateOf, recordOf}
+use Rattle.journal.specs.declared.CallAnswer.{CallAnswer}
+use Rattle.journal.specs.declared.Record.{Record}
 use Rattle.runs.specs.Runs.{callOf, figuresIn}
 
 -- call i of a list of numbers
 abbrev pub callAt : List ℕ → ℕ → Call
 callAt ns i = callOf (getD ns (5 * i) 0) (getD ns (5 * i + 1) 0) (getD ns (5 * i + 2) 0) (getD ns (5 * i + 3) 0) (getD ns (5 * i + 4) 0)
 
--- one call of a list, by its answer: the code, the three numbers, and the record of the network that it leaves
-pub record Stepped (N : Net) (a : Answer Given) (o : CallAnswer) : Type 0 where
+-- the record of a state that a read and calls lead to
+pub record Came (r : Record) : Type 0 where
+  pub read : Net
+  pub traced : Traced read (stateOf r)
+  pub laid : recordOf (stateOf r) ≡ r
+
+-- one call of a list, by its answer: the code, the three numbers, and the record of the state that it leaves
+pub record Stepped (q : State) (a : Answer Given) (o : CallAnswer) : Type 0 where
   pub code : o .code ≡ codeOf a
   pub figures : o .figures ≡ figuresIn a
-  pub network : o .network ≡ layout (leaves N a)
+  pub left : o .after ≡ recordOf (leaves q a)

@@ -1,5 +1,6 @@
--- A list of calls given as numbers, five to a call: kind (0 merge u v k l, 1 drop s, 2 collapse s, 3 sweep B, 4 preview s) and four numbers, of
--- which a kind passes over those that it does not use. The list is run as document 01, "A list of calls", has it. Nothing is proved here.
+-- A list of calls given as numbers, five to a call: kind (0 merge u v k l, 1 drop s, 2 collapse s, 3 sweep B, 4 preview s, 5 undo) and four
+-- numbers, of which a kind passes over those that it does not use. The list is run as document 01, "A list of calls", has it, from a network just
+-- read. Nothing is proved here.
 use mathlib.Core.Bool.{Bool, true, false, _&&_}
 use mathlib.Core.List.{List, [], _∷_, _++_}
 use Prim.Native.Nat.{ℕ, zero, suc}
@@ -8,27 +9,29 @@ use lib.ListN.{length}
 use Rattle.integers.specs.Refusals.{Answer, accepted, refused, codeOf}
 use Rattle.network.specs.Threshold.{Net}
 use Rattle.format.specs.Format.{fileBytes}
-use Rattle.folding.specs.Calls.{Given, noFigures, answer, leaves, calls}
-use Rattle.folding.specs.declared.Figures.{Figures}
-use Rattle.folding.specs.declared.Call.{Call}
-use Rattle.folding.specs.declared.Call.the-variants.{Merge, Drop, Collapse, Sweep, Preview}
+use Rattle.history.specs.Steps.{State, opened}
+use Rattle.history.specs.Calls.{Given, noFigures, answer, leaves, calls}
+use Rattle.history.specs.declared.Figures.{Figures}
+use Rattle.history.specs.declared.Call.{Call}
+use Rattle.history.specs.declared.Call.the-variants.{Merge, Drop, Collapse, Sweep, Preview, Undo}
 
--- the call of a kind from 0 to 4 and four numbers
+-- the call of a kind from 0 to 5 and four numbers
 unfoldable pub callOf : ℕ → ℕ → ℕ → ℕ → ℕ → Call
 callOf zero u v k l = Merge u v k l
 callOf (suc zero) s v k l = Drop s
 callOf (suc (suc zero)) s v k l = Collapse s
 callOf (suc (suc (suc zero))) b v k l = Sweep b
-callOf (suc (suc (suc (suc n)))) s v k l = Preview s
+callOf (suc (suc (suc (suc zero)))) s v k l = Preview s
+callOf (suc (suc (suc (suc (suc n))))) a b c d = Undo
 
--- "the length of `calls` is no multiple of 5 or a kind is above 4" does not apply
+-- "the length of `calls` is no multiple of 5 or a kind is above 5" does not apply
 unfoldable pub wellFormed : List ℕ → Bool
 wellFormed [] = true
 wellFormed (a ∷ []) = false
 wellFormed (a ∷ b ∷ []) = false
 wellFormed (a ∷ b ∷ c ∷ []) = false
 wellFormed (a ∷ b ∷ c ∷ d ∷ []) = false
-wellFormed (kind ∷ a ∷ b ∷ c ∷ d ∷ ns) = leb kind 4 && wellFormed ns
+wellFormed (kind ∷ a ∷ b ∷ c ∷ d ∷ ns) = leb kind 5 && wellFormed ns
 
 unfoldable pub callsIn : List ℕ → List Call
 callsIn [] = []
@@ -47,9 +50,13 @@ figuresIn (refused c) = noFigures
 abbrev pub fourOf : ℕ → Figures → List ℕ
 fourOf code f = code ∷ f .first ∷ f .second ∷ f .third ∷ []
 
-unfoldable pub answersOf : Net → List Call → List ℕ
-answersOf N [] = []
-answersOf N (c ∷ cs) = fourOf (codeOf (answer N c)) (figuresIn (answer N c)) ++ answersOf (leaves N (answer N c)) cs
+unfoldable pub answersOf : State → List Call → List ℕ
+answersOf q [] = []
+answersOf q (c ∷ cs) = fourOf (codeOf (answer q c)) (figuresIn (answer q c)) ++ answersOf (leaves q (answer q c)) cs
+
+-- the network after a list, from a read on
+abbrev pub netAfter : Net → List Call → Net
+netAfter N cs = calls (opened N) cs .net
 
 -- what a run leaves: the file of the network after the list, and the numbers of `answers`
 pub record Ran : Type 0 where
@@ -57,4 +64,4 @@ pub record Ran : Type 0 where
   pub numbers : List ℕ
 
 unfoldable pub ran : Net → List Call → Ran
-ran N cs = record { file = fileBytes (calls N cs); numbers = length (fileBytes (calls N cs)) ∷ answersOf N cs }
+ran N cs = record { file = fileBytes (netAfter N cs); numbers = length (fileBytes (netAfter N cs)) ∷ answersOf (opened N) cs }

@@ -1,2 +1,2 @@
-// A list of calls given as numbers, run on a record. Its calls ask for what `unchecked` says.
+// A list of calls given as numbers, run from a network just read. Its calls ask for what `unchecked` says.
 pub mod unchecked;

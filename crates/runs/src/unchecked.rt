@@ -1,8 +1,10 @@
-// A list of calls, given as numbers, five to a call, run on the record of a sound network.
-use folding::Call;
-use folding::Figures;
+// A list of calls, given as numbers, five to a call, run from the record of a network just read.
 use format::LONGEST_FILE;
-use lists::CallAnswer;
+use history::Call;
+use history::Figures;
+use journal::CallAnswer;
+use journal::Record;
+use journal::just_read;
 use network::Network;
 ghost use mathlib.Core.Path.{_≡_};
 ghost use mathlib.Core.Bool.{true};
@@ -13,11 +15,13 @@ ghost use lib.Seq.{sets, paste};
 ghost use Rattle.network.specs.Record.{netOf, layout};
 ghost use Rattle.network.specs.Places.{Holds};
 ghost use Rattle.format.specs.Format.{fileBytes};
-ghost use Rattle.folding.specs.Calls.{answer, calls};
-ghost use Rattle.runs.specs.Runs.{wellFormed, callsIn, fourOf, answersOf};
-ghost use Rattle.runs.specs.Running.{Stepped, callAt};
+ghost use Rattle.history.specs.Steps.{opened};
+ghost use Rattle.history.specs.Calls.{answer};
+ghost use Rattle.journal.specs.Records.{stateOf};
+ghost use Rattle.runs.specs.Runs.{wellFormed, callsIn, fourOf, answersOf, netAfter};
+ghost use Rattle.runs.specs.Running.{Came, Stepped, callAt};
 
-// Whether every call has five numbers and a kind from 0 to 4.
+// Whether every call has five numbers and a kind from 0 to 5.
 pub fn is_well_formed(numbers: &[u64]) -> bool
     ensures { λ r. ⌜ r ≡ wellFormed (now (numbers .entry)) ⌝ }
 {
@@ -26,7 +30,7 @@ pub fn is_well_formed(numbers: &[u64]) -> bool
         if numbers.len() - at < 5 {
             return false;
         }
-        if numbers[at] > 4 {
+        if numbers[at] > 5 {
             return false;
         }
         at += 5;
@@ -55,34 +59,35 @@ fn call_at(numbers: &[u64], i: usize) -> Call
         1 => Call::Drop { s: a as usize },
         2 => Call::Collapse { s: a as usize },
         3 => Call::Sweep { b: a as usize },
-        _ => Call::Preview { s: a as usize },
+        4 => Call::Preview { s: a as usize },
+        _ => Call::Undo,
     }
 }
 
 // Call i on a record.
-fn step(network: Network, numbers: &[u64], i: usize) -> CallAnswer
-    requires { ⌜ Holds network ⌝ }
+fn step(held: Record, numbers: &[u64], i: usize) -> CallAnswer
+    requires { ⌜ Came held ⌝ }
     requires { ⌜ 5 * i + 5 ≤ length (now numbers) ⌝ }
-    ensures { λ r. ⌜ Stepped (netOf network) (answer (netOf network) (callAt (now (numbers .entry)) i)) r ⌝ }
+    ensures { λ r. ⌜ Stepped (stateOf held) (answer (stateOf held) (callAt (now (numbers .entry)) i)) r ⌝ }
 {
-    lists::apply(network, call_at(numbers, i))
+    lists::apply(held, call_at(numbers, i))
 }
 
-// The record after the whole list.
+// The network after the whole list.
 fn run(network: Network, numbers: &[u64]) -> Network
     requires { ⌜ Holds network ⌝ }
     requires { ⌜ wellFormed (now numbers) ≡ true ⌝ }
-    ensures { λ r. ⌜ r ≡ layout (calls (netOf network) (callsIn (now (numbers .entry)))) ⌝ }
+    ensures { λ r. ⌜ r ≡ layout (netAfter (netOf network) (callsIn (now (numbers .entry)))) ⌝ }
 {
-    let mut after = network;
+    let mut after = just_read(network);
     for i in 0..numbers.len() / 5 {
         let answer = step(after, numbers, i);
-        after = answer.network;
+        after = answer.after;
     }
-    after
+    after.network
 }
 
-// The length of a record's file.
+// The length of a network's file.
 fn file_length(network: Network) -> usize
     requires { ⌜ Holds network ⌝ }
     ensures { λ r. ⌜ r ≡ length (fileBytes (netOf network)) ⌝ }
@@ -96,7 +101,7 @@ fn file_length(network: Network) -> usize
 pub fn has_room(network: Network, numbers: &[u64], room: usize) -> bool
     requires { ⌜ Holds network ⌝ }
     requires { ⌜ wellFormed (now numbers) ≡ true ⌝ }
-    ensures { λ r. ⌜ r ≡ leb (length (fileBytes (calls (netOf network) (callsIn (now (numbers .entry)))))) room ⌝ }
+    ensures { λ r. ⌜ r ≡ leb (length (fileBytes (netAfter (netOf network) (callsIn (now (numbers .entry)))))) room ⌝ }
 {
     if room >= LONGEST_FILE {
         return true;
@@ -116,20 +121,20 @@ fn put_four(answers: &mut [u64], at: usize, code: u8, figures: Figures)
     answers[at + 3] = figures.third;
 }
 
-// The record after the whole list, with each call's code and three numbers in the places from 1 on.
+// The network after the whole list, with each call's code and three numbers in the places from 1 on.
 pub fn run_storing(network: Network, numbers: &[u64], answers: &mut [u64]) -> Network
     requires { ⌜ Holds network ⌝ }
     requires { ⌜ wellFormed (now numbers) ≡ true ⌝ }
     requires { ⌜ 1 + 4 * length (callsIn (now numbers)) ≤ length (now answers) ⌝ }
-    ensures { λ r. ⌜ r ≡ layout (calls (netOf network) (callsIn (now (numbers .entry)))) ⌝ }
-    ensures { λ _. ⌜ now (answers .exit) ≡ paste (now (answers .entry)) 1 (answersOf (netOf network) (callsIn (now (numbers .entry)))) (4 * length (callsIn (now (numbers .entry)))) ⌝ }
+    ensures { λ r. ⌜ r ≡ layout (netAfter (netOf network) (callsIn (now (numbers .entry)))) ⌝ }
+    ensures { λ _. ⌜ now (answers .exit) ≡ paste (now (answers .entry)) 1 (answersOf (opened (netOf network)) (callsIn (now (numbers .entry)))) (4 * length (callsIn (now (numbers .entry)))) ⌝ }
 {
-    let mut after = network;
+    let mut after = just_read(network);
     for i in 0..numbers.len() / 5 {
         let answer = step(after, numbers, i);
         let figures = answer.figures;
         put_four(answers, 1 + 4 * i, answer.code, figures);
-        after = answer.network;
+        after = answer.after;
     }
-    after
+    after.network
 }

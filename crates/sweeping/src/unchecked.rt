@@ -1,8 +1,6 @@
-// Sweep on a sound record: the lowest gate that can be folded into its readers is, again and again.
+// The choice of the gate that a sweep of a sound record folds next.
 use crate::Choice;
-use crate::Outcome;
 use collapse::Pairs;
-use collapse::unchecked::fold_into_readers;
 use collapse::unchecked::reader_pair;
 use collapse::unchecked::reader_pairs;
 use integers::wide;
@@ -14,11 +12,8 @@ ghost use mathlib.Core.Path.{_≡_};
 ghost use mathlib.Core.Bool.{true};
 ghost use lib.Dec.{T};
 ghost use lib.ListN.{replicate};
-ghost use Rattle.integers.specs.Refusals.{accepted};
 ghost use Rattle.network.specs.Limits.{boardOk};
-ghost use Rattle.network.specs.Record.{gateFrom, netOf, soundRecord};
-ghost use Rattle.folding.specs.Sweep.{sweeping};
-ghost use Rattle.sweeping.specs.Answers.{asOutcome};
+ghost use Rattle.network.specs.Record.{gateFrom, soundRecord};
 ghost use Rattle.merging.specs.Lent.{Lent, Within};
 ghost use Rattle.collapse.specs.Fusing.{TriedPairs};
 ghost use Rattle.sweeping.specs.Sweeping.{Chosen};
@@ -77,9 +72,23 @@ fn hinted_pairs<'a>(
     )
 }
 
+// A hint after gate g is gone.
+fn lowered_hint(hint: u8, g: usize) -> u8 {
+    if g < wide(hint) { hint - 1 } else { hint }
+}
+
+// The hints after gate g is gone: those of the higher gates move down by one, and each hint to a higher gate falls by one.
+fn lower_hints(hints: &mut [u8; 128], g: usize) {
+    for i in 0..127 {
+        let from = if i < g { i } else { i + 1 };
+        let hint = lowered_hint(hints[from], g);
+        hints[i] = hint;
+    }
+}
+
 // The lowest gate with at most b readers that can be folded into them. A hint is the reader that refused a gate the last time; any
-// hints give the same answer.
-fn lowest_foldable(network: Network, b: usize, hints: &mut [u8; 128]) -> Choice
+// hints give the same answer. Where a gate is found, the hints are left as they are after it is gone.
+pub fn lowest_foldable(network: Network, b: usize, hints: &mut [u8; 128]) -> Choice
     requires { ⌜ soundRecord network ≡ true ⌝ }
     ensures { λ r. ⌜ Chosen network b r ⌝ }
 {
@@ -107,6 +116,7 @@ fn lowest_foldable(network: Network, b: usize, hints: &mut [u8; 128]) -> Choice
         );
         let code = pairs.code;
         if code == 0 {
+            lower_hints(hints, g);
             return Choice {
                 found: true,
                 u,
@@ -122,54 +132,4 @@ fn lowest_foldable(network: Network, b: usize, hints: &mut [u8; 128]) -> Choice
         u: 0,
         pairs,
     }
-}
-
-// A hint after gate g is gone.
-fn lowered_hint(hint: u8, g: usize) -> u8 {
-    if g < wide(hint) { hint - 1 } else { hint }
-}
-
-// The hints after gate g is gone: those of the higher gates move down by one, and each hint to a higher gate falls by one.
-fn lower_hints(hints: &mut [u8; 128], g: usize) {
-    for i in 0..127 {
-        let from = if i < g { i } else { i + 1 };
-        let hint = lowered_hint(hints[from], g);
-        hints[i] = hint;
-    }
-}
-
-// The answer of a sweep that has ended.
-fn ended(network: Network, collapses: usize) -> Outcome
-    ensures { λ r. ⌜ r ≡ record { code = 0; network = network; collapses = collapses } ⌝ }
-{
-    Outcome {
-        code: 0,
-        network,
-        collapses,
-    }
-}
-
-// The sweep with reader limit b, of a sound record.
-pub fn sweep_sound(network: Network, b: usize) -> Outcome
-    requires { ⌜ soundRecord network ≡ true ⌝ }
-    ensures { λ r. ⌜ r ≡ asOutcome network (accepted (sweeping (network .gates) b (netOf network) 0)) ⌝ }
-{
-    let turns = network.gates;
-    let mut result = network;
-    let mut hints = [0u8; 128];
-    let mut collapses: usize = 0;
-    while collapses < turns {
-        let choice = lowest_foldable(result, b, &mut hints);
-        let found = choice.found;
-        if !found {
-            return ended(result, collapses);
-        }
-        let u = choice.u;
-        let pairs = choice.pairs;
-        let inputs = result.inputs;
-        result = fold_into_readers(result, u, pairs);
-        lower_hints(&mut hints, u - inputs);
-        collapses = collapses + 1;
-    }
-    ended(result, collapses)
 }

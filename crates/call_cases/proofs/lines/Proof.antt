@@ -5,13 +5,16 @@ use Rattle.call_cases.proofs.lines.Statement.{statement}
 use Rattle.call_cases.proofs.lines.Tie as tie
 
 abbrev Inv-loop : tie.InvT-loop
-Inv-loop script length network₀ at₀ network at = at ≤ length
+Inv-loop script length held₀ at₀ held at = at ≤ length
 
 abbrev μ-loop : tie.MeasureT-loop
-μ-loop script length network₀ at₀ network at = length - at
+μ-loop script length held₀ at₀ held at = length - at
 
 blank-requires : tie.Need-blank-requires Inv-loop μ-loop
 blank-requires c κs = search needs
+
+just-read-requires : tie.Need-just-read-requires Inv-loop μ-loop
+just-read-requires c κs = search needs
 
 loop-holds : tie.Need-loop-holds Inv-loop μ-loop
 loop-holds c = search needs
@@ -44,6 +47,7 @@ lines-spec =
     Inv-loop
     μ-loop
     blank-requires
+    just-read-requires
     loop-holds
     byte-at-requires
     add-line

@@ -5,11 +5,11 @@ use Rattle.guarantees.specs.PreviewLaws.{preview-claim}
 use Rattle.guarantees.proofs.previews_are_reports.Statement.{statement}
 use Rattle.guarantees.proofs.previews_are_reports.Tie as tie
 
-shaped : (c : tie.Start) → Shaped (c .args .network)
+shaped : (c : tie.Start) → Shaped (c .args .held .network)
 shaped c = record { fanins = search needs; signals = search needs; weights = search needs; thresholds = search needs; drivers = search needs }
 
 returns : tie.Need-returns
-returns c = preview-claim (c .args .network) (shaped c)
+returns c = preview-claim (c .args .held) (shaped c)
 
 pub previews-are-reports-spec : {M : Type 1} → statement M
 previews-are-reports-spec = tie.close (tie.spec returns)

@@ -4,7 +4,7 @@ use Rattle.guarantees.proofs.thirteen_is_never_given.Statement.{stateme
 use Rattle.guarantees.proofs.thirteen_is_never_given.Tie as tie
 
 returns : tie.Need-returns
-returns c = never-thirteen (c .args .network)
+returns c = never-thirteen (c .args .held)
 
 pub thirteen-is-never-given-spec : {M : Type 1} → statement M
 thirteen-is-never-given-spec = tie.close (tie.spec returns)

@@ -13,7 +13,7 @@ use Rattle.network.specs.Record.{gateIn}
 use Rattle.folding.specs.Merge.{Edge, feedWeight, among}
 use Rattle.folding.specs.AlignedLaws.{fed-small, edge-rises}
 use Rattle.alignment.specs.Alignments.{edgeBetween, withU}
-use Rattle.alignment.proofs.Store.{fanin-is}
+use Rattle.network.specs.PlaceLaws.{length-gateIn}
 use Rattle.alignment.proofs.Gather.{inU, inOther, table-at, other-at, among-is, other-is, Listed, listed-none, listed-few, listed-skip}
 use Rattle.alignment.proofs.Gather.{listed-store, listed-full, listed-all}
 use borrow.Author.Needs.{needs}
@@ -69,10 +69,10 @@ test-is c =
     rw (x-is (c .before .before), y-is (c .before)) at (c .either .ensures) ∙ sym (among-is (edge a) (a .pre .ok) (c .before .before .before .before .loop .s))
 
 spread-requires : tie.Need-spread-requires Inv-loop μ-loop
-spread-requires c κs = omega (arith, c .pre .ok .okU .few, fanin-is (c .args .gate-u))
+spread-requires c κs = omega (arith, c .pre .ok .okU .few, length-gateIn (c .args .gate-u))
 
 spread-requires-2 : tie.Need-spread-requires-2 Inv-loop μ-loop
-spread-requires-2 c κs = omega (arith, c .before .pre .ok .okV .few, fanin-is (c .before .args .gate-v))
+spread-requires-2 c κs = omega (arith, c .before .pre .ok .okV .few, length-gateIn (c .before .args .gate-v))
 
 mul-b : tie.Need-mul-b Inv-loop μ-loop
 mul-b c = record { fits = omega (arith, u-low (c .before .before)) }

@@ -1,4 +1,4 @@
--- A size up to 1,000,000 with a minus fits. Assumes nothing.
+-- A size below 2^31 with a minus fits. Assumes nothing.
 use Prim.Native.Nat.{_%_}
 use native.Mathlib.Omega.{arith}
 use lib.IntN.{pos, _-ℤ_}
@@ -26,7 +26,7 @@ byte-at-requires c κs = search needs
 
 sub-result : tie.Need-sub-result
 sub-result c =
-    let n = c .before .before .before .before .number-from .result .value % 1000001 in
+    let n = c .before .before .before .before .number-from .result .value % 2147483648 in
     rw (toZ-pos w32 {n = n} (omega arith)) (size-fits w32 (pos 0 -ℤ pos n) (omega (arith, size-minus (pos n))))
 
 returns : tie.Need-returns

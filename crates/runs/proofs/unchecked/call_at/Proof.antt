@@ -1,10 +1,10 @@
--- Each kind's call is the definition's; every kind that is not 0, 1, 2 or 3 is a preview.
+-- Each kind's call is the definition's; every kind that is not 0, 1, 2, 3 or 4 is an undo.
 use borrow.Author.Needs.{needs}
 use mathlib.Core.Path.{sym}
 use Prim.Native.Nat.{_+_, _*_}
 use lib.ListN.{getD}
 use Rattle.runs.specs.Runs.{callOf}
-use Rattle.runs.specs.RunLaws.{preview-call}
+use Rattle.runs.specs.RunLaws.{undo-call}
 use Rattle.runs.proofs.unchecked.call_at.Statement.{statement}
 use Rattle.runs.proofs.unchecked.call_at.Tie as tie
 
@@ -70,13 +70,17 @@ unfolding callOf
 returns-4 c = rw (c .match .keys4)
 
 returns-5 : tie.Need-returns-5
-returns-5 c =
+unfolding callOf
+returns-5 c = rw (c .match .keys5)
+
+returns-6 : tie.Need-returns-6
+returns-6 c =
     let a = c .before .before .before .before .before .before .args in
     let ns = a .numbers .now in
     let at = 5 * a .i in
     let k = c .match .rest in
-    sym (preview-call (getD ns at 0) (getD ns (at + 1) 0) (getD ns (at + 2) 0) (getD ns (at + 3) 0) (getD ns (at + 4) 0)
-    (k .0 .0 .0 .1) (k .0 .0 .1) (k .0 .1) (k .1))
+    sym (undo-call (getD ns at 0) (getD ns (at + 1) 0) (getD ns (at + 2) 0) (getD ns (at + 3) 0) (getD ns (at + 4) 0)
+    (k .0 .0 .0 .0 .1) (k .0 .0 .0 .1) (k .0 .0 .1) (k .0 .1) (k .1))
 
 pub call-at-spec : {M : Type 1} → statement M
 call-at-spec =
@@ -101,4 +105,5 @@ call-at-spec =
     returns-2
     returns-3
     returns-4
-    returns-5)
+    returns-5
+    returns-6)

@@ -12,8 +12,7 @@ use Rattle.network.specs.RecordLaws.{netOf-layout, holds-layout}
 use Rattle.network.specs.declared.Network.{Network}
 use Rattle.format.specs.Format.{fileBytes}
 use Rattle.format.specs.LengthLaws.{longest}
-use Rattle.folding.specs.Calls.{calls}
-use Rattle.runs.specs.Runs.{callsIn}
+use Rattle.runs.specs.Runs.{callsIn, netAfter}
 use Rattle.network.specs.Places.{Holds}
 use Rattle.runs.specs.RunLaws.{after-sound}
 use Rattle.runs.proofs.unchecked.has_room.Statement.{statement}
@@ -22,7 +21,7 @@ use Rattle.runs.proofs.unchecked.has_room.Tie as tie
 returns : tie.Need-returns
 returns c =
     let s = c .before .before in
-    let N = calls (netOf (s .args .network)) (callsIn (s .args .numbers .now)) in
+    let N = netAfter (netOf (s .args .network)) (callsIn (s .args .numbers .now)) in
     sym (le-leb (length (fileBytes N)) (s .args .room) (omega (arith, longest N (after-sound (s .args .network) (s .pre .0) (callsIn (s .args .numbers .now))))))
 
 run-requires : tie.Need-run-requires
@@ -32,13 +31,13 @@ file-length-requires : tie.Need-file-length-requires
 file-length-requires c κs =
     let s = c .before .before .before in
     let cs = callsIn (s .args .numbers .now) in
-    subst Holds (sym (c .run .ensures)) (holds-layout (calls (netOf (s .args .network)) cs) (after-sound (s .args .network) (s .pre .0) cs))
+    subst Holds (sym (c .run .ensures)) (holds-layout (netAfter (netOf (s .args .network)) cs) (after-sound (s .args .network) (s .pre .0) cs))
 
 returns-2 : tie.Need-returns-2
 returns-2 c =
     let s = c .before .before .before .before in
     let cs = callsIn (s .args .numbers .now) in
-    let N = calls (netOf (s .args .network)) cs in
+    let N = netAfter (netOf (s .args .network)) cs in
     let e : c .file-length .result ≡ length (fileBytes N) =
     c .file-length .ensures
     ∙ ap (λ (r : Network). length (fileBytes (netOf r))) (c .before .run .ensures)

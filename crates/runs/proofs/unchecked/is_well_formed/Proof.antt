@@ -41,7 +41,7 @@ returns-2 : tie.Need-returns-2 Inv-loop μ-loop
 returns-2 c =
     let l = c .before .before .before .before .loop in
     let ns = c .before .before .before .before .before .args .numbers .now in
-    sym (sym (l .inv .1) ∙ formed-next ns (l .at) (omega arith) ∙ and-false-left _ _ (lt-leb (getD ns (l .at) 0) 4 (c .if2 .taken)))
+    sym (sym (l .inv .1) ∙ formed-next ns (l .at) (omega arith) ∙ and-false-left _ _ (lt-leb (getD ns (l .at) 0) 5 (c .if2 .taken)))
 
 add-at : tie.Need-add-at Inv-loop μ-loop
 add-at c = search needs
@@ -53,7 +53,8 @@ loop-again : tie.Need-loop-again Inv-loop μ-loop
 loop-again c =
     let l = c .before .before .before .before .loop in
     let ns = c .before .before .before .before .before .args .numbers .now in
-    (omega arith, sym (formed-next ns (l .at) (omega arith) ∙ ap (λ (b : Bool). b && wellFormed (drop (l .at + 5) ns)) (le-leb (getD ns (l .at) 0) 4 (c .if2 .left))) ∙ l .inv .1)
+    let kind = le-leb (getD ns (l .at) 0) 5 (c .if2 .left) in
+    (omega arith, sym (formed-next ns (l .at) (omega arith) ∙ ap (λ (b : Bool). b && wellFormed (drop (l .at + 5) ns)) kind) ∙ l .inv .1)
 
 returns-3 : tie.Need-returns-3 Inv-loop μ-loop
 unfolding wellFormed

@@ -1,7 +1,7 @@
--- A call on the record of a sound network is the call on the network.
+-- A call on the record of a state that a read and calls lead to is the call on the state.
 use borrow.Author.Needs.{needs}
 use mathlib.Core.Path.{ap, _∙_}
-use Rattle.lists.specs.Answers.{applied}
+use Rattle.journal.specs.Answers.{applied}
 use Rattle.runs.specs.RunLaws.{step-done}
 use Rattle.runs.proofs.unchecked.step.Statement.{statement}
 use Rattle.runs.proofs.unchecked.step.Tie as tie
@@ -15,7 +15,7 @@ apply-requires c κs = search needs
 returns : tie.Need-returns
 returns c =
     let s = c .before .before .before in
-    step-done (s .args .network) (s .pre .0) _ (c .apply .ensures ∙ ap (applied (s .args .network)) (c .before .call-at .ensures))
+    step-done (s .args .held) (s .pre .0) _ (c .apply .ensures ∙ ap (applied (s .args .held)) (c .before .call-at .ensures))
 
 pub step-spec : {M : Type 1} → statement M
 step-spec = tie.close (tie.spec call-at-requires apply-requires returns)

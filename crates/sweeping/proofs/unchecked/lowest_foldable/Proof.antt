@@ -13,19 +13,20 @@ use Rattle.integers.specs.Refusals.{Refused}
 use Rattle.merging.specs.Readers.{occurs}
 use Rattle.merging.specs.LentLaws.{lent-of, lent-counted}
 use Rattle.collapse.specs.FuseLaws.{tried-refused}
-use Rattle.sweeping.proofs.TurnLaws.{turn-end, sweep-start, pass-barred, pass-refused, taken}
+use Rattle.sweeping.specs.Sweeping.{LowerRefused}
+use Rattle.sweeping.proofs.TurnLaws.{turn-end, sweep-start, pass-barred, pass-refused, barred-refused, pairs-refused, lower-none, lower-more, taken}
 use Rattle.sweeping.proofs.unchecked.lowest_foldable.Statement.{statement}
 use Rattle.sweeping.proofs.unchecked.lowest_foldable.Tie as tie
 
 abbrev Inv-loop : tie.InvT-loop
 Inv-loop b hints₀ network board inputs gates outputs g₀ hints g =
-    (g ≤ gates) × (sweepFrom (netOf network) b (inputs + g) (gates - g) ≡ sweepOnce (netOf network) b)
+    (g ≤ gates) × (sweepFrom (netOf network) b (inputs + g) (gates - g) ≡ sweepOnce (netOf network) b) × LowerRefused (netOf network) b inputs g
 
 abbrev μ-loop : tie.MeasureT-loop
 μ-loop b hints₀ network board inputs gates outputs g₀ hints g = gates - g
 
 loop-holds : tie.Need-loop-holds Inv-loop μ-loop
-loop-holds c = (omega arith, sweep-start (c .before .args .t1) (c .before .args .b))
+loop-holds c = (omega arith, sweep-start (c .before .args .t1) (c .before .args .b), lower-none _ _ _)
 
 add-u : tie.Need-add-u Inv-loop μ-loop
 add-u c = let z = sized-of _ (c .before .before .before .pre) in omega (arith, z .few-inputs, z .few-gates)
@@ -61,9 +62,11 @@ loop-again : tie.Need-loop-again Inv-loop μ-loop
 loop-again c =
     let turn = c .before .before .before .before .before .before .before .before in
     let start = turn .before .before .before in
-    let loop = turn .before .loop in (
+    let loop = turn .before .loop in
+    let barred = sym (test (c .before)) ∙ c .if1 .taken in (
       omega (arith, turn .loop-test .taken),
-      sym (pass-barred (start .args .t1) (start .args .b) (loop .g) (start .pre) (turn .loop-test .taken) (sym (test (c .before)) ∙ c .if1 .taken)) ∙ loop .inv .1,
+      sym (pass-barred (start .args .t1) (start .args .b) (loop .g) (start .pre) (turn .loop-test .taken) barred) ∙ loop .inv .1,
+      lower-more _ _ _ (loop .g) (loop .inv .2) (barred-refused (start .args .t1) (start .args .b) (loop .g) (start .pre) (turn .loop-test .taken) barred),
     )
 
 element-copy-out-wide : tie.Need-element-copy-out-wide Inv-loop μ-loop
@@ -78,15 +81,19 @@ hinted-pairs-requires c κs =
     let lent = lent-of _ (T-is (soundRecord _) (turn .before .before .before .pre)) in
     (lent, record { low = omega arith; high = omega (arith, turn .loop-test .taken) }, sound-board _ (turn .before .before .before .pre))
 
+lower-hints-requires : tie.Need-lower-hints-requires Inv-loop μ-loop
+lower-hints-requires c κs = search needs
+
 returns : tie.Need-returns Inv-loop μ-loop
 returns c =
-    let else = c .before .before .before .before .before .before .before .before .before in
+    let here = c .before .before in
+    let else = here .before .before .before .before .before .before .before .before .before in
     let turn = else .before .before .before .before .before .before .before .before in
     let start = turn .before .before .before in
     let loop = turn .before .loop in
     record {
       next = λ t. taken (start .args .t1) (start .args .b) (loop .g) (start .pre) (turn .loop-test .taken) (sym (test (else .before)) ∙ else .if1 .left)
-          (c .before .hinted-pairs .result) (c .before .hinted-pairs .ensures .found (c .if2 .taken)) (loop .inv .1);
+          (here .before .hinted-pairs .result) (here .before .hinted-pairs .ensures .found (here .if2 .taken)) (loop .inv .2) (loop .inv .1);
       none = λ t. absurd (true≢false t);
     }
 
@@ -109,10 +116,12 @@ loop-again-2 c =
     let else = c .before .before .before .before .before .before .before .before .before in
     let turn = else .before .before .before .before .before .before .before .before in
     let start = turn .before .before .before in
-    let loop = turn .before .loop in (
+    let loop = turn .before .loop in
+    let free = sym (test (else .before)) ∙ else .if1 .left in
+    let none = tried-refused _ _ _ _ _ _ (c .before .hinted-pairs .ensures) (c .if2 .left) in (
       omega (arith, turn .loop-test .taken),
-      sym (pass-refused (start .args .t1) (start .args .b) (loop .g) (start .pre) (turn .loop-test .taken) (sym (test (else .before)) ∙ else .if1 .left)
-          (tried-refused _ _ _ _ _ _ (c .before .hinted-pairs .ensures) (c .if2 .left))) ∙ loop .inv .1,
+      sym (pass-refused (start .args .t1) (start .args .b) (loop .g) (start .pre) (turn .loop-test .taken) free none) ∙ loop .inv .1,
+      lower-more _ _ _ (loop .g) (loop .inv .2) (pairs-refused (start .args .t1) (start .args .b) (loop .g) (start .pre) (turn .loop-test .taken) free none),
     )
 
 no-pairs-requires : tie.Need-no-pairs-requires Inv-loop μ-loop
@@ -143,6 +152,7 @@ lowest-foldable-spec =
     element-copy-out-wide
     wide-requires
     hinted-pairs-requires
+    lower-hints-requires
     returns
     cast-hints
     element-write-hints

@@ -1,0 +1,25 @@
+-- The others are moved up, and the front is written before them. Assumes nothing.
+use borrow.Author.Needs.{needs}
+use denote.Ref.{now}
+use Rattle.journal.specs.EnteringLaws.{raised-entered}
+use Rattle.journal.proofs.unchecked.enter_bytes.Statement.{statement}
+use Rattle.journal.proofs.unchecked.enter_bytes.Tie as tie
+
+raise-bytes-requires : tie.Need-raise-bytes-requires
+raise-bytes-requires c κs = search needs
+
+store-bytes-requires : tie.Need-store-bytes-requires
+store-bytes-requires c κs = search needs
+
+same-length : tie.Need-same-length
+same-length c = search needs
+
+returns : tie.Need-returns
+returns c =
+    let start = c .before .before .before .before .before .before .before .before .before .before in
+    let store = c .before .before in
+    raised-entered (now (start .args .front)) (start .pre) (store .before .before .before .before .raise-bytes .ensures) (store .store-bytes .ensures)
+
+pub enter-bytes-spec : {M : Type 1} → statement M
+enter-bytes-spec =
+    tie.close (tie.spec raise-bytes-requires store-bytes-requires same-length returns)

@@ -1,0 +1,59 @@
+-- The row is that of its gate (NewestLaws). Assumes nothing.
+use borrow.Author.Needs.{needs}
+use mathlib.Core.Path.{_≡_, refl, subst}
+use Prim.Native.Nat.{ℕ}
+use lib.IntN.{ℤ, pos}
+use lib.ListN.{getD, replicate}
+use mir.Syntax.{w32}
+use mir.Val.{toZ, ofZ}
+use Rattle.integers.specs.SizeLaws.{read-back}
+use Rattle.network.specs.Places.{Pasted}
+use Rattle.journal.specs.NewestLaws.{newest-row}
+use Rattle.journal.proofs.unchecked.newest_gate.Statement.{statement}
+use Rattle.journal.proofs.unchecked.newest_gate.Tie as tie
+
+element-copy-out-fanin : tie.Need-element-copy-out-fanin
+element-copy-out-fanin c = search needs
+
+element-copy-out-threshold : tie.Need-element-copy-out-threshold
+element-copy-out-threshold c = search needs
+
+wide-requires : tie.Need-wide-requires
+wide-requires c κs = search needs
+
+first-signals-requires : tie.Need-first-signals-requires
+first-signals-requires c κs = search needs
+
+wide-requires-2 : tie.Need-wide-requires-2
+wide-requires-2 c κs = search needs
+
+first-weights-requires : tie.Need-first-weights-requires
+first-weights-requires c κs = search needs
+
+returns : tie.Need-returns
+returns c =
+    let signals = c .before .before .before .before in
+    let threshold = signals .before .before .before .before in
+    let start = threshold .before .before in
+    let j = start .args .t1 in
+    let ss = signals .first-signals in
+    let ws = c .first-weights in
+    let first : ℤ = getD (j .thresholds) 0 (pos 0) in
+    let back : toZ w32 (ofZ w32 first) ≡ first = read-back w32 {r = first} (threshold .threshold .given) refl in
+    let signals-pasted : ℕ → Type 0 = λ n. Pasted 0 0 n (λ i. getD (j .feeds) i 0) (replicate 16 0) (ss .result) in
+    let weights-pasted : ℕ → Type 0 = λ n. Pasted (pos 0) 0 n (λ i. getD (j .weights) i (pos 0)) (replicate 16 (pos 0)) (ws .result) in
+    rw back (newest-row j (start .pre) (ss .result) (ws .result)
+    (subst signals-pasted (signals .before .wide .ensures .0) (ss .ensures))
+    (subst weights-pasted (c .before .wide2 .ensures .0) (ws .ensures)))
+
+pub newest-gate-spec : {M : Type 1} → statement M
+newest-gate-spec =
+    tie.close
+    (tie.spec
+    element-copy-out-fanin
+    element-copy-out-threshold
+    wide-requires
+    first-signals-requires
+    wide-requires-2
+    first-weights-requires
+    returns)

@@ -1,0 +1,61 @@
+-- What was passed so far is moved. Assumes nothing.
+use borrow.Author.Needs.{needs}
+use mathlib.Core.Path.{_≡_, refl}
+use Prim.Native.Nat.{_≤_}
+use native.Mathlib.Omega.{arith}
+use lib.ListN.{length}
+use Rattle.journal.specs.Entering.{Raised}
+use Rattle.journal.specs.EnteringLaws.{raised-none, raised-more}
+use Rattle.journal.proofs.unchecked.raise_bytes.Statement.{statement}
+use Rattle.journal.proofs.unchecked.raise_bytes.Tie as tie
+
+abbrev Inv-loop : tie.InvT-loop
+Inv-loop bytes₀ gap p₀ bytes p = (gap ≤ p) × (p ≤ length bytes₀) × Raised 0 gap p bytes₀ bytes
+
+abbrev μ-loop : tie.MeasureT-loop
+μ-loop bytes₀ gap p₀ bytes p = p
+
+loop-holds : tie.Need-loop-holds Inv-loop μ-loop
+loop-holds c = (omega arith, omega arith, raised-none _ _ _)
+
+sub-p : tie.Need-sub-p Inv-loop μ-loop
+sub-p c = search needs
+
+sub-byte : tie.Need-sub-byte Inv-loop μ-loop
+sub-byte c = search needs
+
+slice-read-byte : tie.Need-slice-read-byte Inv-loop μ-loop
+slice-read-byte c = search needs
+
+slice-write-bytes : tie.Need-slice-write-bytes Inv-loop μ-loop
+slice-write-bytes c = search needs
+
+loop-less : tie.Need-loop-less Inv-loop μ-loop
+loop-less c = search needs
+
+loop-again : tie.Need-loop-again Inv-loop μ-loop
+loop-again c =
+    let inv = c .before .before .loop .inv in
+    (omega arith, omega arith, raised-more _ _ _ (inv .2) (inv .1) (c .before .loop-test .taken) refl refl refl)
+
+same-length : tie.Need-same-length Inv-loop μ-loop
+same-length c = c .before .loop .inv .2 .long
+
+returns : tie.Need-returns Inv-loop μ-loop
+returns c = let low : c .before .loop .p ≡ c .before .before .args .gap = omega arith in rw low at (c .before .loop .inv .2)
+
+pub raise-bytes-spec : {M : Type 1} → statement M
+raise-bytes-spec =
+    tie.close
+    (tie.spec
+    Inv-loop
+    μ-loop
+    loop-holds
+    sub-p
+    sub-byte
+    slice-read-byte
+    slice-write-bytes
+    loop-less
+    loop-again
+    same-length
+    returns)

@@ -1,0 +1,10 @@
+pub mod Journals
+pub mod Records
+pub mod Answers
+pub mod Entering
+pub mod StepPlaces
+pub mod ShiftLaws
+pub mod EnteringLaws
+pub mod NewestLaws
+pub mod JournalLaws
+pub mod AnswerLaws

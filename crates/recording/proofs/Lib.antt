@@ -1,0 +1,4 @@
+pub mod EnterLaws
+pub mod ReaderLaws
+pub mod TurnLaws
+pub mod CallLaws

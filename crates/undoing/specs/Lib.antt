@@ -1,0 +1,4 @@
+pub mod TakenBack
+pub mod BackLaws
+pub mod NewestLaws
+pub mod UndoneLaws
