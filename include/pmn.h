@@ -80,6 +80,15 @@ uint8_t pmn_convert(const uint8_t *file, size_t file_length,
                     uint8_t *out, size_t out_length,
                     uint64_t *answer, size_t answer_length);
 
+/* Writes the file of one output alone at the front of out; output is its number, counted from 0. The gates of the cut are those that the
+ * output names or that a gate of the cut reads, in their order with new signals. All inputs, the margins and the version stay, and there is
+ * one output. answer[0]: the length of the cut's file, which is never longer than the file.
+ * Codes in order: as read, 18 where answer has no place, 8 for an output number that the network lacks, 18 where the cut's file is longer
+ * than out. */
+uint8_t pmn_cut(const uint8_t *file, size_t file_length, uint64_t output,
+                uint8_t *out, size_t out_length,
+                uint64_t *answer, size_t answer_length);
+
 /* Copies the bytes of the gate with a signal to the front of out. answer[0]: how many they are.
  * Codes in order: as read, 18 where answer has no place, 11, 18 where the gate's bytes are longer than out. */
 uint8_t pmn_part(const uint8_t *file, size_t file_length, uint64_t signal,

@@ -1,6 +1,6 @@
 //! Times of the proved library on the same inputs as the independent implementation, which tries everything, and as the exact method, which
 //! finds a pair by one pass over its settings: in one process, and their ratios. All rows, or those of the kinds named on the command line:
-//! file, preview, frames, witness, pair, sweep, margins, alley, merge, undo.
+//! file, preview, cut, frames, witness, pair, sweep, margins, alley, merge, undo.
 use std::env;
 use std::fs::{self, File};
 use std::hint::black_box;
@@ -10,7 +10,7 @@ use yovrenik_tests as library;
 use yovrenik_tests::direct;
 use yovrenik_tests::exact;
 use yovrenik_tests::generate::{
-    fan, folding_chain, full_folding, full_standing, heavier, largest, largest_tolerant, last_setting_only, lit_from, mirrored,
+    fan, folding_chain, full_folding, full_standing, heavier, largest, largest_tolerant, last_setting_only, lattice, lit_from, mirrored,
     mixed_chain, most_passes, narrow, network, ratio_31_32, standing_chain, Random,
 };
 use yovrenik_tests::reference::{self, Board, Net, Record};
@@ -145,6 +145,32 @@ fn preview_rows() {
     let net = largest(&mut Random::new(7));
     let unread = (net.inputs..net.outputs[0]).find(|&s| net.readers(s).is_empty()).unwrap();
     preview_row("a gate of the largest network that nothing reads", &net, unread as u64);
+}
+
+/// The rows of a cut of the one output of a network, with so many gates: the call less the read, and with it. Each has the write of the cut's
+/// file.
+fn cut_row(name: &str, net: &Net, gates: usize) {
+    let (file, alone) = (reference::write(net), reference::cut(net, 0).unwrap());
+    let want = reference::write(&alone);
+    let (mut out, mut answer) = (vec![0u8; file.len()], [0u64; 1]);
+    let [read, cut, read_too, cut_too] = times([
+        &mut || assert_eq!(library::check(black_box(&file)), 0),
+        &mut || assert_eq!(library::cut(black_box(&file), 0, &mut out, &mut answer), 0),
+        &mut || drop(black_box(reference::read(black_box(&file)))),
+        &mut || drop(black_box(reference::write(&reference::cut(black_box(net), 0).unwrap()))),
+    ]);
+    assert_eq!((alone.gates.len(), answer[0]), (gates, want.len() as u64));
+    assert_eq!(out[..want.len()], want);
+    row(&format!("cut, {name} (the call less the read)"), cut.saturating_sub(read), cut_too);
+    row("read and cut of it", cut, read_too + cut_too);
+}
+
+fn cut_rows() {
+    let lattice = lattice(&mut Random::new(10), 128);
+    let lowest = Net { outputs: vec![lattice.inputs], ..lattice.clone() };
+    cut_row("one gate needed of 128", &lowest, 1);
+    cut_row("a chain of 128 gates, all needed", &folding_chain(128), 128);
+    cut_row("a lattice of 128 gates with 16 feeds each, all needed", &lattice, 128);
 }
 
 /// Lists of frames on a full network, in one process: in one pass and one by one, each less the reads of the file; one by one by the
@@ -455,7 +481,7 @@ fn table(head: &str, kinds: &[(&str, fn())]) {
 }
 
 fn main() {
-    table("| on | library | independent | ratio |", &[("file", file_rows), ("preview", preview_rows)]);
+    table("| on | library | independent | ratio |", &[("file", file_rows), ("preview", preview_rows), ("cut", cut_rows)]);
     table(
         "| frames | one pass | single readings | ratio | independent | ratio | one call | single calls | ratio |",
         &[("frames", frames_rows)],

@@ -570,6 +570,22 @@ pub fn folding_chain(gates: usize) -> Net {
     Net { board: Board::VERSION_1, inputs, gates: (0..gates).map(gate).collect(), outputs: vec![inputs + gates - 1] }
 }
 
+/// A lattice on 16 inputs: each gate reads the 16 signals before it, with votes at random, and the output names the last, which needs every
+/// gate. The number of ways down to the inputs nearly doubles with each gate.
+pub fn lattice(r: &mut Random, gates: usize) -> Net {
+    let inputs = 16;
+    let mut net = Net { board: Board::VERSION_1, inputs, gates: vec![], outputs: vec![inputs + gates - 1] };
+    for g in 0..gates {
+        let feeds = with_weights(r, (g..g + 16).collect(), |r| {
+            let size = r.between(1, 1000);
+            vote(r, size, 2)
+        });
+        let (low, high) = ends(&feeds);
+        net.gates.push(Gate { feeds, threshold: (low + high) / 2 });
+    }
+    net
+}
+
 /// Gates of which the lower half stands, with 16 distinct feeds, and the upper half folds gate by gate, so that a sweep begins again at the
 /// lower half each time.
 pub fn mixed_chain(gates: usize) -> Net {

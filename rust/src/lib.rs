@@ -63,6 +63,15 @@ mod raw {
             answer: *mut u64,
             answer_length: usize,
         ) -> u8;
+        pub fn pmn_cut(
+            file: *const u8,
+            file_length: usize,
+            output: u64,
+            out: *mut u8,
+            out_length: usize,
+            answer: *mut u64,
+            answer_length: usize,
+        ) -> u8;
         pub fn pmn_part(
             file: *const u8,
             file_length: usize,
@@ -145,6 +154,10 @@ pub fn write(file: &[u8], out: &mut [u8], answer: &mut [u64]) -> u8 {
 
 pub fn convert(file: &[u8], out: &mut [u8], answer: &mut [u64]) -> u8 {
     unsafe { raw::pmn_convert(file.as_ptr(), file.len(), out.as_mut_ptr(), out.len(), answer.as_mut_ptr(), answer.len()) }
+}
+
+pub fn cut(file: &[u8], output: u64, out: &mut [u8], answer: &mut [u64]) -> u8 {
+    unsafe { raw::pmn_cut(file.as_ptr(), file.len(), output, out.as_mut_ptr(), out.len(), answer.as_mut_ptr(), answer.len()) }
 }
 
 pub fn part(file: &[u8], signal: u64, out: &mut [u8], answer: &mut [u64]) -> u8 {

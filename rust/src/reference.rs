@@ -1,5 +1,6 @@
 //! Document 01, as the requests of document 02 that have landed change it, written out as it stands, with no regard for speed: what the
 //! library is compared with. It was written from the papers and shares nothing with the library.
+use std::collections::{BTreeMap, BTreeSet};
 use std::ops::RangeInclusive;
 
 /// A gate: its feeds, each a signal with a weight, and its threshold.
@@ -440,6 +441,46 @@ pub fn sweep_by(net: &Net, b: u64, find: Find) -> Answer<(Net, Vec<(Net, u64)>)>
     }
 }
 
+// ---- the cut
+
+/// The signals of the gates of a cut: "a gate belongs to the cut if the output names it or a gate of the cut reads it".
+pub fn gates_of_cut(net: &Net, named: usize) -> BTreeSet<usize> {
+    let (mut gates, mut waiting) = (BTreeSet::new(), vec![named]);
+    while let Some(s) = waiting.pop() {
+        if net.is_gate(s) && gates.insert(s) {
+            waiting.extend(net.gate(s).feeds.iter().map(|f| f.0));
+        }
+    }
+    gates
+}
+
+/// The network of one output alone: "all inputs, the margins and the file version stay, the gates of the cut keep their order with new
+/// signals, .. and there is one output".
+pub fn cut(net: &Net, output: u64) -> Answer<Net> {
+    if output >= net.outputs.len() as u64 {
+        return Err(8);
+    }
+    let named = net.outputs[output as usize];
+    let kept = gates_of_cut(net, named);
+    let new: BTreeMap<usize, usize> = (0..net.inputs).chain(kept.iter().copied()).zip(0..).collect();
+    let renewed = |gate: &Gate| Gate { feeds: gate.feeds.iter().map(|&(s, weight)| (new[&s], weight)).collect(), ..gate.clone() };
+    let gates = kept.iter().map(|&s| renewed(net.gate(s))).collect();
+    Ok(Net { board: net.board, inputs: net.inputs, gates, outputs: vec![new[&named]] })
+}
+
+/// The file of the cut of a file's network, with so many places for the answer and so much room.
+pub fn cut_file(file: &[u8], output: u64, places: usize, room: usize) -> Answer<Vec<u8>> {
+    let net = read(file)?;
+    if places == 0 {
+        return Err(18);
+    }
+    let alone = write(&cut(&net, output)?);
+    if alone.len() > room {
+        return Err(18);
+    }
+    Ok(alone)
+}
+
 // ---- the report
 
 pub fn cost(net: &Net) -> u64 {
@@ -877,6 +918,33 @@ mod tests {
         }
         assert_eq!((with(&f, vec![Step::Drop(2, u.clone())]), with(&f, vec![Step::Drop(6, u.clone())])), (Err(23), Err(23)));
         assert_eq!(with(&f, vec![Step::Drop(5, u.clone())]).unwrap().net.gates[2], u);
+    }
+
+    /// Pins of a small network by hand: outputs at the highest gate, at the lowest, at one between, and twice at one that nothing reads.
+    #[test]
+    fn cut_out_one_pin() {
+        let gate = |feeds: &[(usize, i64)], threshold| Gate { feeds: feeds.to_vec(), threshold };
+        // 6 reads 5, and 5 reads 3
+        let gates = [gate(&[(0, 4)], 3), gate(&[(1, 2)], 1), gate(&[(2, 2), (3, 2)], 3), gate(&[(0, 5), (5, -2)], 4)];
+        let board = Board::version_2(1, 1);
+        let net = Net { board, inputs: 3, gates: gates.to_vec(), outputs: vec![6, 4, 3, 5, 4] };
+        assert_eq!(read(&write(&net)), Ok(net.clone()));
+        let [lowest, unread, between, _] = gates;
+        let alone = |gates: &[&Gate], output| {
+            Ok(Net { board, inputs: 3, gates: gates.iter().map(|&gate| gate.clone()).collect(), outputs: vec![output] })
+        };
+        assert_eq!(cut(&net, 0), alone(&[&lowest, &between, &gate(&[(0, 5), (4, -2)], 4)], 5));
+        assert_eq!((cut(&net, 1), cut(&net, 4)), (alone(&[&unread], 3), alone(&[&unread], 3)));
+        assert_eq!((cut(&net, 2), cut(&net, 3)), (alone(&[&lowest], 3), alone(&[&lowest, &between], 4)));
+        assert_eq!((cut(&net, 5), cut(&net, 16), cut(&net, 1 << 8), cut(&net, u64::MAX)), (Err(8), Err(8), Err(8), Err(8)));
+        // the file, its room and its places
+        let file = write(&net);
+        let want = b"PMN\x02\x00\x01\x01\x03\x01\x01\x01\x01\0\0\0\x01\x02\0\0\0\x03".to_vec();
+        assert_eq!((cut_file(&file, 1, 1, 21), cut_file(&file, 4, 2, 100)), (Ok(want.clone()), Ok(want)));
+        assert_eq!((cut_file(&file, 1, 1, 20), cut_file(&file, 1, 0, 21), cut_file(&file, 5, 0, 0)), (Err(18), Err(18), Err(18)));
+        assert_eq!((cut_file(&file, 5, 1, 0), cut_file(&file[..20], 5, 0, 0), cut_file(&[], 0, 0, 0)), (Err(8), Err(4), Err(1)));
+        // F has one output, and needs both of its gates
+        assert_eq!((cut_file(F, 0, 1, F.len()), cut_file(F, 1, 1, F.len())), (Ok(F.to_vec()), Err(8)));
     }
 
     #[test]

@@ -939,6 +939,7 @@ fn every_call_refuses_too_wide_margins() {
         assert_eq!(preview(&broken, 0, &mut answer), 24);
         assert_eq!(write(&broken, &mut out, &mut answer), 24);
         assert_eq!(convert(&broken, &mut out, &mut answer), 24);
+        assert_eq!(cut(&broken, 0, &mut out, &mut answer), 24);
         assert_eq!(part(&broken, 0, &mut out, &mut answer), 24);
         assert_eq!(run(&broken, &[5], &mut answer, &mut out), 24);
         assert_eq!((line(&broken, &good, 0, &mut out, &mut answer), line(&good, &broken, 0, &mut out, &mut answer)), (24, 24));

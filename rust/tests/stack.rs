@@ -60,6 +60,7 @@ fn files() -> Vec<Vec<u8>> {
         generate::fan(&mut r, 127),
         generate::last_setting_only(16),
         generate::ratio_31_32(),
+        generate::lattice(&mut r, 128),
     ];
     nets.iter().map(|net| reference::write(net)).collect()
 }
@@ -103,6 +104,21 @@ fn runs() {
     within("pmn_run", used);
 }
 
+/// The cuts that go down the most gates: a chain whose lowest gate has 16 inputs, and the lattice, where most gates are met 16 times. They
+/// take no more than every other function may.
+#[test]
+fn cuts() {
+    for (name, net) in [("the deepest chain", generate::full_folding()), ("the lattice", generate::lattice(&mut Random::new(5), 128))] {
+        let file = reference::write(&net);
+        let took = taken(move || {
+            let (mut out, mut answer) = (vec![0; file.len()], [0; 1]);
+            assert_eq!(library::cut(&file, 0, &mut out, &mut answer), 0);
+        });
+        println!("pmn_cut on {name}: {took} bytes");
+        assert!(took <= stated("every other function"), "pmn_cut took {took} bytes of stack");
+    }
+}
+
 #[test]
 fn other_calls() {
     let mut used = 0;
@@ -120,6 +136,9 @@ fn other_calls() {
             library::write(&file, &mut out, &mut answer);
             library::convert(&file, &mut out, &mut answer);
             library::line(&file, &file, 3, &mut out, &mut answer);
+            for j in 0..16 {
+                library::cut(&file, j, &mut out, &mut answer);
+            }
             for s in first..last {
                 library::pair(&file, s, s + 1, &mut answer);
                 library::witness(&file, s, s + 1, 1, 1, &mut answer);

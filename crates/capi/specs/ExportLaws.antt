@@ -24,6 +24,7 @@ use Rattle.format.specs.Part.{partIn, partOfRead, partAnswer, asPart}
 use Rattle.format.specs.PartLaws.{part-stray, part-found}
 use Rattle.format.specs.LengthLaws.{gateBytes-length}
 use Rattle.pmn_writer.specs.Answers.{writeAnswer, asWritten, written, bytesAfter}
+use Rattle.pmn_writer.specs.WriteAnswerLaws.{write-layout}
 use Rattle.pmn_writer.specs.declared.Written.{Written}
 use Rattle.folding.specs.Merge.{reads}
 use Rattle.folding.specs.Pair.{Pair, pair}
@@ -136,12 +137,6 @@ write-test : (b : Bool) (file out lent : List ℕ) → let a = checks ((b else 1
 unfolding checks asWritten codeOf stored answerOf lengthOf
 write-test true file out lent = record { number = refl; bytes = refl; places = refl }
 write-test false file out lent = record { number = refl; bytes = refl; places = refl }
-
-write-layout : (N : Net) (n : ℕ) → Sound N → writeAnswer (layout N) n ≡ checks ((leb (length (fileBytes N)) n else 18) ∷ []) (accepted (fileBytes N))
-unfolding writeAnswer
-write-layout N n s =
-    sound-first N s _ _
-    ∙ ap (λ (M : Net). checks ((leb (length (fileBytes M)) n else 18) ∷ []) (accepted (fileBytes M))) (netOf-layout N s)
 
 -- where the file has room
 pub write-fits : (N : Net) → Sound N → (out : List ℕ) → leb (length (fileBytes N)) (length out) ≡ true

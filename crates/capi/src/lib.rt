@@ -4,6 +4,7 @@ ghost use mathlib.Core.Path.{_≡_};
 ghost use Rattle.integers.specs.Refusals.{codeOf, stored};
 ghost use lib.ListN.{length};
 ghost use Rattle.converting.specs.Conversion.{conversionPlaces};
+ghost use Rattle.cut.specs.Answers.{cutPlaces};
 ghost use Rattle.frames.specs.Frames.{fileFrames};
 ghost use Rattle.opening.specs.Files.{readNet, openNet, lengthOf};
 ghost use Rattle.preview.specs.Files.{previewPlaces};
@@ -155,6 +156,16 @@ pub extern "C" fn pmn_part(file: &[u8], signal: u64, out: &mut [u8], answer: &mu
     }
     integers::unchecked::copy(part, out);
     opening::unchecked::places::put_one(answer, 0, length as u64)
+}
+
+// The file of the cut of an output, with the gates that it needs and no others, is put into `out`, and its length goes into place 0 of the answer.
+#[no_mangle]
+pub extern "C" fn pmn_cut(file: &[u8], output: u64, out: &mut [u8], answer: &mut [u64]) -> u8
+    ensures { λ r. ⌜ r ≡ codeOf (cutPlaces (now (file .entry)) output (length (now (out .entry))) (length (now (answer .entry)))) ⌝ }
+    ensures { λ _. ⌜ now (out .exit) ≡ stored (cutPlaces (now (file .entry)) output (length (now (out .entry))) (length (now (answer .entry)))) (now (out .entry)) ⌝ }
+    ensures { λ _. ⌜ now (answer .exit) ≡ stored (lengthOf (cutPlaces (now (file .entry)) output (length (now (out .entry))) (length (now (answer .entry))))) (now (answer .entry)) ⌝ }
+{
+    cut::files::cut_file(file, output, out, answer)
 }
 
 // Line n of the question for two files is put into `out`, and its length goes into place 0 of the answer.

@@ -2,6 +2,7 @@
 // sound: its network, or a journal that claims more than 64 steps. Then come the call's own refusals, in the order that stands with it. A refusal
 // gives 0 for every other number, hands the record back unchanged and touches no lent byte. Each call is thin over the crate that does the work.
 use converting::Converted;
+use cut::CutAnswer;
 use evaluation::Reading;
 use history::Call;
 use journal::CallAnswer;
@@ -20,6 +21,7 @@ ghost use Rattle.history.specs.declared.Call.the-variants.{Merge, Drop, Collaps
 ghost use Rattle.journal.specs.Records.{soundWhole};
 ghost use Rattle.journal.specs.Answers.{applied};
 ghost use Rattle.converting.specs.Conversion.{conversionOf, asConverted};
+ghost use Rattle.cut.specs.Answers.{cutRecord};
 ghost use Rattle.folder.specs.Front.{openedFile, writingOn, asWritten, readingOn, framesOn, reportOn, pairOn, previewOn, WitnessOn, feedsOn, lineOn, asLineWritten};
 
 // What `read` answers: 0 or the refusal, and the record; that of the blank network on refusal.
@@ -254,4 +256,14 @@ pub fn apply(held: Record, call: Call) -> CallAnswer
     ensures { λ r. ⌜ r ≡ applied held call ⌝ }
 {
     lists::apply(held, call)
+}
+
+// ---- one output alone
+
+// The record of one output alone: all inputs, the margins and the version stay, the gates that the output names or that a gate of the cut reads keep
+// their order with new signals, and the journal is empty. Refusals: 20, 8 for an output number that the network lacks.
+pub fn cut(held: Record, output: usize) -> CutAnswer
+    ensures { λ r. ⌜ r ≡ cutRecord held output ⌝ }
+{
+    cut::cut(held, output)
 }

@@ -5,12 +5,15 @@ use network::Network;
 ghost use mathlib.Core.Path.{_≡_};
 ghost use mathlib.Core.List.{List, map};
 ghost use Prim.Native.Nat.{ℕ};
+ghost use lib.Dec.{T};
 ghost use Rattle.network.specs.Threshold.{Net};
+ghost use Rattle.network.specs.Limits.{sound};
 ghost use Rattle.format.specs.Format.{Bytes};
 ghost use Rattle.pmn.specs.Answers.{loaded};
 ghost use Rattle.folding.specs.Bench.{bench, reply};
 ghost use Rattle.folding.specs.Guarantee.{PairClaim};
 ghost use Rattle.history.specs.declared.Call.{Call};
+ghost use Rattle.cutting.specs.Claims.{CutClaim};
 ghost use Rattle.journal.specs.Records.{justRead};
 ghost use Rattle.witness.specs.declared.Witnessed.{Witnessed};
 ghost use Rattle.guarantees.specs.Files.{Accepted, SoundIsDescribed, WrittenIsRead, ReadIsWritten};
@@ -87,4 +90,12 @@ pub fn bench_gates()
 // Document 02, No. 8, for every record: if it is sound, every gate of its network keeps the margins under every assignment.
 pub fn margins_hold(network: Network)
     ensures { λ _. ⌜ MarginsHold network ⌝ }
+{}
+
+// Document 02, No. 12, for every sound network and any number: the cut is accepted exactly when the network has that output, and else refused with
+// 8. Its gates are those that the output names or that a gate of the cut reads, and no others, with new signals; it is sound, and all inputs, the
+// margins and the version stay. It gives that output's bit on every frame; every gate in it is needed by the same rule, and its own cut is itself.
+// With any list of calls before the cut, or any list after it, the bit is the same.
+pub fn pins_are_cut()
+    ensures { λ _. ⌜ ((net : Net) → T (sound net) → (j : ℕ) → CutClaim net j) ⌝ }
 {}

@@ -1,21 +1,22 @@
 -- Laws of what `write` answers: the limits of a sound record, and each of the three answers. Assumes nothing.
 use mathlib.Core.Path.{_≡_, sym, ap, _∙_}
 use mathlib.Core.Bool.{true, false}
-use mathlib.Core.List.{List, _++_}
+use mathlib.Core.List.{List, [], _∷_, _++_}
 use Prim.Native.Nat.{ℕ, _≤_, _<_}
 use native.Mathlib.Omega.{arith}
 use borrow.Author.Tests.{le-leb, lt-leb}
 use lib.Dec.{leb}
 use lib.ListN.{length, drop, getD}
-use Rattle.integers.specs.Refusals.{Answer, accepted, refused, stored}
+use Rattle.integers.specs.Refusals.{Answer, accepted, refused, stored, _else_, checks}
 use Rattle.integers.specs.RefusalLaws.{checks-first, checks-next, checks-none}
-use Rattle.integers.specs.TestLaws.{T-is}
+use Rattle.integers.specs.TestLaws.{is-true, T-is}
 use Rattle.network.specs.declared.Network.{Network}
-use Rattle.network.specs.Threshold.{Gate}
-use Rattle.network.specs.Record.{gateFrom, netOf, noGate, soundRecord}
+use Rattle.network.specs.Threshold.{Gate, Net}
+use Rattle.network.specs.Sound.{Sound}
+use Rattle.network.specs.Record.{gateFrom, netOf, layout, noGate, soundRecord}
 use Rattle.network.specs.LimitLaws.{gates-at}
 use Rattle.network.specs.PlaceLaws.{length-feeds}
-use Rattle.network.specs.RecordLaws.{count-gates, count-outputs, gate-within, sound-net}
+use Rattle.network.specs.RecordLaws.{netOf-layout, count-gates, count-outputs, gate-within, sound-net, sound-layout}
 use Rattle.format.specs.Format.{fileBytes}
 use Rattle.pmn_writer.specs.Answers.{writeAnswer, asWritten, written, bytesAfter}
 use Rattle.pmn_writer.specs.Writing.{Counted}
@@ -58,6 +59,14 @@ pub write-whole : (r : Network) (room : ℕ) → soundRecord r ≡ true → leng
 unfolding writeAnswer
 write-whole r room h k =
     checks-next (soundRecord r) 20 _ _ h ∙ checks-next (leb (length (fileBytes (netOf r))) room) 18 _ _ (le-leb (length (fileBytes (netOf r))) room k) ∙ checks-none _
+
+-- of the record of a sound network
+pub write-layout : (N : Net) (room : ℕ) → Sound N
+    → writeAnswer (layout N) room ≡ checks ((leb (length (fileBytes N)) room else 18) ∷ []) (accepted (fileBytes N))
+unfolding writeAnswer
+write-layout N room s =
+    checks-next (soundRecord (layout N)) 20 _ _ (is-true (soundRecord (layout N)) (sound-layout N s))
+    ∙ ap (λ (M : Net). checks ((leb (length (fileBytes M)) room else 18) ∷ []) (accepted (fileBytes M))) (netOf-layout N s)
 
 -- a refusal's number, and the bytes untouched
 pub written-refused : (r : Network) (k : ℕ) (out : List ℕ) → writeAnswer r (length out) ≡ refused k

@@ -1,0 +1,4 @@
+pub mod Marking
+pub mod WordLaws
+pub mod MarkingLaws
+pub mod RecordLaws
