@@ -9,8 +9,7 @@
  * before any other. On a refusal everything that was lent is left as it was; where the answer is 0, places and bytes after those named
  * are left as they were. pmn_witness alone writes where its answer is not 0: with 15, and only then.
  *
- * pmn_run takes at most 336 KB of stack,
- * every other function at most 164 KB of stack. */
+ * Every function takes at most 126 KB of stack. */
 #ifndef PMN_H
 #define PMN_H
 

@@ -10,11 +10,10 @@ const PAINTED: usize = 1 << 20;
 const OWN: usize = 1 << 12;
 const PAINT: u8 = 0xA5;
 
-/// The stack that include/pmn.h says a call may take, in bytes.
-fn stated(call: &str) -> usize {
+/// The stack that include/pmn.h says every function may take, in bytes.
+fn stated() -> usize {
     let header = include_str!("../../include/pmn.h");
-    let line = header.lines().find(|line| line.contains("of stack") && line.contains(call));
-    let line = line.unwrap_or_else(|| panic!("include/pmn.h states no stack for {call}"));
+    let line = header.lines().find(|line| line.contains("of stack")).expect("include/pmn.h states no stack");
     let before = line.split(" KB of stack").next().unwrap();
     let number: usize = before.rsplit(' ').next().unwrap().parse().unwrap();
     number * 1024
@@ -79,7 +78,7 @@ fn every_call(inputs: u64, gates: u64) -> Vec<u64> {
 }
 
 fn within(call: &str, used: usize) {
-    let most = stated(call);
+    let most = stated();
     println!("{call}: {used} bytes of {most}");
     assert!(used <= most, "{call} took {used} bytes of stack, and include/pmn.h says {most}");
     assert!(2 * used > most, "{call} took {used} bytes of stack, and include/pmn.h says as much as {most}");
@@ -115,7 +114,7 @@ fn cuts() {
             assert_eq!(library::cut(&file, 0, &mut out, &mut answer), 0);
         });
         println!("pmn_cut on {name}: {took} bytes");
-        assert!(took <= stated("every other function"), "pmn_cut took {took} bytes of stack");
+        assert!(took <= stated(), "pmn_cut took {took} bytes of stack");
     }
 }
 

@@ -5,18 +5,24 @@ use mathlib.Core.Bool.{cond}
 use mathlib.Core.List.{List}
 use mathlib.Core.Logic.{_≢_}
 use Prim.Native.Nat.{ℕ, _+_, _-_, _≤_, _<_}
-use lib.Dec.{eqb}
+use lib.Dec.{T, eqb}
+use lib.IntN.{ℤ}
 use lib.ListN.{getD}
 use Rattle.integers.specs.Lists.{tab}
 use Rattle.integers.specs.Refusals.{Answer, accepted, refused, bind}
 use Rattle.network.specs.Threshold.{Gate, Net}
+use Rattle.network.specs.Limits.{boardOk}
 use Rattle.network.specs.Record.{gateOf, netOf}
 use Rattle.network.specs.Changes.{gateAt, withGates, without}
+use Rattle.network.specs.Places.{SoundGate}
 use Rattle.network.specs.declared.Board.{Board}
 use Rattle.network.specs.declared.Network.{Network}
 use Rattle.folding.specs.Merge.{Edge, edgeOf, silent, merged}
 use Rattle.folding.specs.Pair.{Pair, pairOf}
-use Rattle.folding.specs.Collapse.{fuseAll}
+use Rattle.folding.specs.Collapse.{fuseAll, collapse}
+use Rattle.places.specs.declared.Head.{Head}
+use Rattle.alignment.specs.Alignments.{alignmentOf, Mergeable}
+use Rattle.merging.specs.Lent.{edgeIn, Lent, Joined}
 use Rattle.collapse.specs.declared.Pairs.{Pairs}
 
 -- a collapse of u, once 20, 11 and 17 do not apply
@@ -82,3 +88,22 @@ fusedGates board gate inputs gates u p = tab gates (λ g. fused (edgeTo board ga
 -- the network of a record, with gate u folded into its readers by their pairs
 unfoldable pub foldedBy : Network → ℕ → Pairs → Net
 foldedBy r u p = without (withGates (netOf r) (fusedGates (r .board) (gateOf r) (r .inputs) (r .gates) u p)) u
+
+-- gate u can be merged with k and l into its reader with number g, in lent arrays
+pub record MergesIn (head : Head) (fanins : List ℕ) (thresholds : List ℤ) (signals : List ℕ) (weights : List ℤ) (u g k l : ℕ) : Type 0 where
+  pub lent : Lent fanins thresholds signals weights (head .inputs) (head .gates)
+  pub joined : Joined fanins thresholds signals weights (head .inputs) (head .gates) u (head .inputs + g)
+  pub board-ok : T (boardOk (head .board))
+  pub mergeable : Mergeable (alignmentOf (edgeIn (head .board) fanins thresholds signals weights (head .inputs) u (head .inputs + g))) k l
+  pub place : g < 128
+
+-- u is a gate of a sound record, and p has the pairs of all its readers
+pub record FoldsBy (r : Network) (u : ℕ) (p : Pairs) : Type 0 where
+  pub own : SoundGate r u
+  pub pairs : AllPairs (r .board) (gateOf r) (r .inputs) (r .gates) u p
+
+-- p has the pairs with which the gate with signal s is collapsed, or the collapse's refusal
+pub record Tried (r : Network) (s : ℕ) (p : Pairs) : Type 0 where
+  pub refuses : p .code ≢ 0 → collapse (netOf r) s ≡ refused (p .code)
+  pub accepts : p .code ≡ 0 → collapse (netOf r) s ≡ accepted (foldedBy r s p)
+  pub folds : p .code ≡ 0 → FoldsBy r s p

@@ -1,17 +1,15 @@
 -- The test of the journal, and the number of a merge. Assumes nothing.
-use mathlib.Core.Path.{_≡_, refl, sym, ap, _∙_}
+use mathlib.Core.Path.{_≡_, ap, _∙_}
 use mathlib.Core.List.{[]}
 use Prim.Native.Nat.{ℕ, _≤_, _<_}
 use borrow.Author.Tests.{le-leb, lt-leb}
 use lib.Dec.{leb}
-use Rattle.integers.specs.Refusals.{Answer, accepted, refused, codeOf}
+use Rattle.integers.specs.Refusals.{Answer, refused, codeOf}
 use Rattle.integers.specs.RefusalLaws.{checks-first, checks-next, checks-none}
-use Rattle.network.specs.Threshold.{Net}
 use Rattle.folding.specs.Merge.{merge}
 use Rattle.journal.specs.Records.{tested}
 use Rattle.journal.specs.declared.Record.{Record}
-use Rattle.merging.specs.Answers.{onRecord, asChanged, mergedRecord}
-use Rattle.network.specs.declared.Network.{Network}
+use Rattle.merging.specs.Answers.{onRecord, mergeCode}
 use Rattle.folder.specs.Front.{mergeNumber}
 
 module _ {A : Type 0} (r : Record) (a : Answer A) where
@@ -25,15 +23,9 @@ module _ {A : Type 0} (r : Record) (a : Answer A) where
   unfolding tested
   tested-few h = checks-next (leb (r .journal .count) 64) 20 [] a (le-leb (r .journal .count) 64 h) ∙ checks-none a
 
-changed-code : (n : Network) (a : Answer Net) → asChanged n a .code ≡ codeOf a
-unfolding asChanged codeOf
-changed-code n (accepted M) = refl
-changed-code n (refused c) = refl
-
-pub merge-number : (r : Record) (u v k l : ℕ) → r .journal .count ≤ 64 → mergeNumber r u v k l ≡ mergedRecord (r .network) u v k l .code
-unfolding mergeNumber mergedRecord
+pub merge-number : (r : Record) (u v k l : ℕ) → r .journal .count ≤ 64 → mergeNumber r u v k l ≡ mergeCode (r .network) u v k l
+unfolding mergeNumber mergeCode
 merge-number r u v k l h = ap codeOf (tested-few r (onRecord (r .network) (λ N. merge N u v k l)) h)
-    ∙ sym (changed-code (r .network) (onRecord (r .network) (λ N. merge N u v k l)))
 
 pub broken-number : (r : Record) (u v k l : ℕ) → 64 < r .journal .count → mergeNumber r u v k l ≡ 20
 unfolding mergeNumber codeOf

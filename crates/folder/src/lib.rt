@@ -218,14 +218,14 @@ pub fn distinct_feeds(held: Record, u: usize, v: usize) -> DistinctFeeds
 pub fn merge(held: Record, u: usize, v: usize, k: usize, l: usize) -> CallAnswer
     ensures { λ r. ⌜ r ≡ applied held (Merge u v k l) ⌝ }
 {
-    recording::merge(held, u, v, k, l)
+    lists::apply(held, Call::Merge { u, v, k, l })
 }
 
 // The gate with signal s removed, which nothing reads; one step is entered. Refusals: 20, 11, 17.
 pub fn drop_gate(held: Record, s: usize) -> CallAnswer
     ensures { λ r. ⌜ r ≡ applied held (Drop s) ⌝ }
 {
-    recording::drop_gate(held, s)
+    lists::apply(held, Call::Drop { s })
 }
 
 // The gate with signal s merged into all of its readers and dropped; each merge in rising order of the readers, and then the drop, is a step that
@@ -233,7 +233,7 @@ pub fn drop_gate(held: Record, s: usize) -> CallAnswer
 pub fn collapse(held: Record, s: usize) -> CallAnswer
     ensures { λ r. ⌜ r ≡ applied held (Collapse s) ⌝ }
 {
-    recording::collapse(held, s)
+    lists::apply(held, Call::Collapse { s })
 }
 
 // The lowest gate with at most b readers that collapse accepts is collapsed, again and again until there is none; the steps of each collapse are
@@ -241,14 +241,14 @@ pub fn collapse(held: Record, s: usize) -> CallAnswer
 pub fn sweep(held: Record, b: usize) -> CallAnswer
     ensures { λ r. ⌜ r ≡ applied held (Sweep b) ⌝ }
 {
-    recording::sweep(held, b)
+    lists::apply(held, Call::Sweep { b })
 }
 
 // The latest step taken back: the network before it, signals included, and the journal without it. Refusals: 20, 22, 23.
 pub fn undo(held: Record) -> CallAnswer
     ensures { λ r. ⌜ r ≡ applied held Undo ⌝ }
 {
-    undoing::undo(held)
+    lists::apply(held, Call::Undo)
 }
 
 // One call of a list: a merge, a drop, a collapse, a sweep, a preview or an undo, with its own refusals.

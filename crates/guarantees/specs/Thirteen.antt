@@ -4,16 +4,12 @@ use Prim.Native.Nat.{ℕ}
 use Rattle.history.specs.declared.Call.{Call}
 use Rattle.journal.specs.Answers.{applied}
 use Rattle.journal.specs.declared.Record.{Record}
-use Rattle.merging.specs.Answers.{mergedRecord, pairFound}
-use Rattle.collapse.specs.Answers.{droppedRecord, collapsedRecord}
+use Rattle.merging.specs.Answers.{mergeCode, pairFound}
 use Rattle.preview.specs.Preview.{previewed}
 
--- no merge, pair, drop, collapse, preview or call of a list (merge, drop, collapse, sweep, preview, undo), with any numbers, answers 13; the record
--- may be broken
+-- no call of a list (merge, drop, collapse, sweep, preview, undo), no witness, pair or preview, with any numbers, answers 13; the record may be broken
 pub record NeverThirteen (r : Record) : Type 0 where
-  pub merges : (u v k l : ℕ) → mergedRecord (r .network) u v k l .code ≢ 13
+  pub witnesses : (u v k l : ℕ) → mergeCode (r .network) u v k l ≢ 13
   pub pairs : (u v : ℕ) → pairFound (r .network) u v .code ≢ 13
-  pub drops : (s : ℕ) → droppedRecord (r .network) s .code ≢ 13
-  pub collapses : (s : ℕ) → collapsedRecord (r .network) s .code ≢ 13
   pub previews : (s : ℕ) → previewed (r .network) s .code ≢ 13
   pub calls : (c : Call) → applied r c .code ≢ 13

@@ -1,14 +1,20 @@
 -- Laws of values moved up by some places and others written before them, at any type of values. Assumes nothing.
 use mathlib.Core.Path.{_≡_, refl, sym, ap, _∙_}
+use mathlib.Core.Bool.{cond}
 use mathlib.Core.List.{List, _++_}
-use Prim.Native.Nat.{ℕ, _-_, _≤_, _<_}
+use Prim.Native.Nat.{ℕ, _+_, _-_, _≤_, _<_}
 use native.Mathlib.Decide.{decLt}
 use native.Mathlib.Omega.{arith}
+use lib.Dec.{ltb}
+use lib.IntN.{ℤ}
 use lib.ListN.{length, getD, take, set, length-append, length-set}
 use lib.Seq.{ext-getD, length-take-le, getD-take, getD-set-same, getD-set-other}
 use Rattle.network.specs.Places.{Pasted}
 use Rattle.places.specs.PasteLaws.{pasted-first}
-use Rattle.journal.specs.Entering.{Raised}
+use Rattle.network.specs.declared.GateRecord.{GateRecord}
+use Rattle.journal.specs.Journals.{withStep}
+use Rattle.journal.specs.Parts.{journalParts}
+use Rattle.journal.specs.Entering.{Raised, Entered}
 use Rattle.journal.specs.ShiftLaws.{join-low, join-high}
 
 -- nothing moved
@@ -47,3 +53,19 @@ raised-entered {A} {d} {old} {mid} {new} front few h k =
       | no j ↦ k .after i (omega arith) ∙ h .above i (omega arith) (omega (arith, k .long, h .long))
           ∙ sym (getD-take size (front ++ old) i d (omega (arith, k .long, h .long)) ∙ join-high d front old i (omega arith))
     ]
+
+-- a step entered into lent arrays is one entered into their journal
+pub entered-parts : (count : ℕ) {kind signal more : ℕ} {row : GateRecord} {kinds signals fanins feeds kinds′ signals′ fanins′ feeds′ : List ℕ}
+    {thresholds weights thresholds′ weights′ : List ℤ} → more ≡ cond (ltb count 64) (count + 1) 64
+    → Entered kind signal row kinds signals fanins thresholds feeds weights kinds′ signals′ fanins′ thresholds′ feeds′ weights′
+    → journalParts more kinds′ signals′ fanins′ thresholds′ feeds′ weights′ ≡ withStep (journalParts count kinds signals fanins thresholds feeds weights) kind signal row
+unfolding withStep
+entered-parts count m e = λ x. record {
+  count = m x;
+  kinds = e .kinds-are x;
+  signals = e .signals-are x;
+  fanins = e .fanins-are x;
+  thresholds = e .thresholds-are x;
+  feeds = e .feeds-are x;
+  weights = e .weights-are x;
+}

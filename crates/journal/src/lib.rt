@@ -33,6 +33,15 @@ pub struct CallAnswer {
     pub figures: Figures,
 }
 
+// What a call of a list answers where the arrays of its record are lent: 0 or the refusal, the numbers of gates and of steps that it leaves, and its
+// three numbers.
+pub struct CallLeft {
+    pub code: u8,
+    pub gates: usize,
+    pub count: usize,
+    pub figures: Figures,
+}
+
 // The journal of a read.
 pub fn empty() -> Journal
     ensures { λ r. ⌜ r ≡ emptyJournal ⌝ }

@@ -13,7 +13,7 @@ ghost use lib.IntN.{pos};
 ghost use lib.ListN.{length, getD, take, drop, replicate};
 ghost use Rattle.network.specs.Record.{gateIn, gateRecord};
 ghost use Rattle.network.specs.Places.{Pasted};
-ghost use Rattle.journal.specs.Journals.{rowOf, withStep, withoutNewest};
+ghost use Rattle.journal.specs.Journals.{rowOf, withoutNewest};
 ghost use Rattle.journal.specs.Entering.{Raised, Entered};
 
 // The bytes moved up by gap places; the first gap ones stay, the last gap ones go.
@@ -120,39 +120,6 @@ pub fn one_more(count: usize) -> usize
     ensures { λ r. ⌜ r ≡ cond (ltb count 64) (count + 1) 64 ⌝ }
 {
     if count < 64 { count + 1 } else { 64 }
-}
-
-// The journal with a step put before the others; of 64 steps the oldest goes.
-pub fn entered(journal: Journal, kind: u8, signal: u8, gate: GateRecord) -> Journal
-    ensures { λ r. ⌜ r ≡ withStep journal kind signal gate ⌝ }
-{
-    let count = one_more(journal.count);
-    let mut kinds = journal.kinds;
-    let mut signals = journal.signals;
-    let mut fanins = journal.fanins;
-    let mut thresholds = journal.thresholds;
-    let mut feeds = journal.feeds;
-    let mut weights = journal.weights;
-    enter_step(
-        &mut kinds,
-        &mut signals,
-        &mut fanins,
-        &mut thresholds,
-        &mut feeds,
-        &mut weights,
-        kind,
-        signal,
-        gate,
-    );
-    Journal {
-        count,
-        kinds,
-        signals,
-        fanins,
-        thresholds,
-        feeds,
-        weights,
-    }
 }
 
 // The bytes after the first gap ones, and gap zeros after them.

@@ -1,11 +1,11 @@
 -- A preview as a call of a list is the preview by itself, with its three numbers, at the record as it was. Assumes nothing.
 use mathlib.Core.Path.{_≡_, refl, sym, ap, _∙_}
-use mathlib.Core.Bool.{Bool, true, false}
+use mathlib.Core.Bool.{true}
 use mathlib.Core.List.{[]}
-use Prim.Native.Nat.{ℕ, _≤_}
+use Prim.Native.Nat.{ℕ}
 use Rattle.integers.specs.TestLaws.{T-is}
 use Rattle.integers.specs.Refusals.{Answer, accepted, refused, bind}
-use Rattle.integers.specs.RefusalLaws.{checks-first, checks-next, checks-none}
+use Rattle.integers.specs.RefusalLaws.{checks-next, checks-none}
 use Rattle.network.specs.Threshold.{Net}
 use Rattle.network.specs.Record.{netOf, soundRecord}
 use Rattle.network.specs.RecordLaws.{Shaped, layout-netOf}
@@ -14,39 +14,27 @@ use Rattle.folding.specs.Collapse.{collapse}
 use Rattle.history.specs.Calls.{noFigures, figuresOf, shown, stepsOf, reply}
 use Rattle.history.specs.declared.Call.the-variants.{Preview}
 use Rattle.journal.specs.Journals.{enterAll}
-use Rattle.journal.specs.Records.{stateOf}
+use Rattle.journal.specs.Records.{stateOf, soundWhole}
 use Rattle.journal.specs.Answers.{journalAfter, asCallAnswer, applied}
-use Rattle.journal.specs.AnswerLaws.{whole-of, broken-network, applied-sound, applied-broken}
+use Rattle.journal.specs.AnswerLaws.{whole-network, applied-sound}
 use Rattle.journal.specs.declared.Record.{Record}
 use Rattle.merging.specs.Answers.{onRecord}
 use Rattle.preview.specs.Preview.{previewed}
 use Rattle.lists.specs.Answers.{withSize}
 
-module _ (r : Record) (shape : Shaped (r .network)) (few : r .journal .count ≤ 64) (s : ℕ) where
-  answer-shown : (a : Answer Net) → soundRecord (r .network) ≡ true
-      → withSize r (reportOf a) ≡ asCallAnswer r (Preview s) (bind a (λ M. accepted (shown (stateOf r) M)))
+module _ (r : Record) (shape : Shaped (r .network)) (whole : soundWhole r ≡ true) (s : ℕ) where
+  answer-shown : (a : Answer Net) → withSize r (reportOf a) ≡ asCallAnswer r (Preview s) (bind a (λ M. accepted (shown (stateOf r) M)))
   unfolding asCallAnswer journalAfter stepsOf enterAll bind shown stateOf reportOf noFigures figuresOf
-  answer-shown (accepted M) e = λ x. record {
+  answer-shown (accepted M) = λ x. record {
     code = 0;
-    after = record { network = sym (layout-netOf (r .network) shape (T-is (soundRecord (r .network)) e)) x; journal = r .journal };
+    after = record { network = sym (layout-netOf (r .network) shape (T-is (soundRecord (r .network)) (whole-network r whole))) x; journal = r .journal };
     figures = figuresOf (reportOf (accepted M));
   }
-  answer-shown (refused k) e = refl
-
-  shown-sound : soundRecord (r .network) ≡ true → withSize r (previewed (r .network) s) ≡ applied r (Preview s)
-  unfolding previewed onRecord reply stateOf
-  shown-sound e =
-      ap (λ (a : Answer Net). withSize r (reportOf a)) (checks-next (soundRecord (r .network)) 20 [] _ e ∙ checks-none (collapse (netOf (r .network)) s))
-      ∙ answer-shown (collapse (netOf (r .network)) s) e ∙ sym (applied-sound r (Preview s) (whole-of r e few))
-
-  shown-broken : soundRecord (r .network) ≡ false → withSize r (previewed (r .network) s) ≡ applied r (Preview s)
-  unfolding previewed onRecord reportOf noFigures
-  shown-broken e = ap (λ (a : Answer Net). withSize r (reportOf a)) (checks-first (soundRecord (r .network)) 20 [] (collapse (netOf (r .network)) s) e)
-      ∙ sym (applied-broken r (Preview s) (broken-network r e))
+  answer-shown (refused k) = refl
 
   pub call-shown : withSize r (previewed (r .network) s) ≡ applied r (Preview s)
-  call-shown = by-test (soundRecord (r .network)) refl
-    where
-      by-test : (b : Bool) → soundRecord (r .network) ≡ b → withSize r (previewed (r .network) s) ≡ applied r (Preview s)
-      by-test true e = shown-sound e
-      by-test false e = shown-broken e
+  unfolding previewed onRecord reply stateOf
+  call-shown =
+      ap (λ (a : Answer Net). withSize r (reportOf a))
+      (checks-next (soundRecord (r .network)) 20 [] _ (whole-network r whole) ∙ checks-none (collapse (netOf (r .network)) s))
+      ∙ answer-shown (collapse (netOf (r .network)) s) ∙ sym (applied-sound r (Preview s) whole)

@@ -1,60 +1,89 @@
 // One call of a list on records.
+pub mod unchecked;
+
 use history::Call;
-use history::Figures;
 use journal::CallAnswer;
+use journal::Journal;
 use journal::Record;
+use journal::is_sound;
 use journal::refusal;
-use preview::preview;
-use recording::collapse;
-use recording::drop_gate;
-use recording::merge;
-use recording::sweep;
-use report::SizeReport;
-use undoing::undo;
+use network::Network;
+use places::Head;
+use unchecked::apply_in;
 ghost use mathlib.Core.Path.{_≡_};
-ghost use Rattle.history.specs.declared.Call.the-variants.{Preview};
 ghost use Rattle.journal.specs.Answers.{applied};
-ghost use Rattle.lists.specs.Answers.{withSize};
-
-// The answer of a preview as that of a call of a list, at the record that it leaves as it was.
-fn shown(held: Record, size: SizeReport) -> CallAnswer
-    ensures { λ r. ⌜ r ≡ withSize held size ⌝ }
-{
-    let figures = Figures {
-        first: size.gates as u64,
-        second: size.cost,
-        third: size.levels as u64,
-    };
-    CallAnswer {
-        code: size.code,
-        after: held,
-        figures,
-    }
-}
-
-// A preview as a call of a list.
-fn foresee(held: Record, s: usize) -> CallAnswer
-    ensures { λ r. ⌜ r ≡ applied held (Preview s) ⌝ }
-{
-    let network = held.network;
-    let journal = held.journal;
-    let count = journal.count;
-    if 64 < count {
-        return refusal(20, held);
-    }
-    shown(held, preview(network, s))
-}
 
 // One call of a list: 0 or the refusal, the record that it leaves, and its three numbers.
 pub fn apply(held: Record, call: Call) -> CallAnswer
     ensures { λ r. ⌜ r ≡ applied held call ⌝ }
 {
-    match call {
-        Call::Merge { u, v, k, l } => merge(held, u, v, k, l),
-        Call::Drop { s } => drop_gate(held, s),
-        Call::Collapse { s } => collapse(held, s),
-        Call::Sweep { b } => sweep(held, b),
-        Call::Preview { s } => foresee(held, s),
-        Call::Undo => undo(held),
+    if !is_sound(held) {
+        return refusal(20, held);
+    }
+    let network = held.network;
+    let journal = held.journal;
+    let board = network.board;
+    let head = Head {
+        board,
+        inputs: network.inputs,
+        gates: network.gates,
+        outputs: network.outputs,
+    };
+    let mut fanins = network.fanins;
+    let mut thresholds = network.thresholds;
+    let mut signals = network.signals;
+    let mut weights = network.weights;
+    let mut drivers = network.drivers;
+    let mut kinds = journal.kinds;
+    let mut step_signals = journal.signals;
+    let mut step_fanins = journal.fanins;
+    let mut step_thresholds = journal.thresholds;
+    let mut feeds = journal.feeds;
+    let mut step_weights = journal.weights;
+    let left = apply_in(
+        head,
+        &mut fanins,
+        &mut thresholds,
+        &mut signals,
+        &mut weights,
+        &mut drivers,
+        journal.count,
+        &mut kinds,
+        &mut step_signals,
+        &mut step_fanins,
+        &mut step_thresholds,
+        &mut feeds,
+        &mut step_weights,
+        call,
+    );
+    let network_left = Network {
+        board,
+        inputs: network.inputs,
+        gates: left.gates,
+        outputs: network.outputs,
+        fanins,
+        signals,
+        weights,
+        thresholds,
+        drivers,
+    };
+    let journal_left = Journal {
+        count: left.count,
+        kinds,
+        signals: step_signals,
+        fanins: step_fanins,
+        thresholds: step_thresholds,
+        feeds,
+        weights: step_weights,
+    };
+    let after = Record {
+        network: network_left,
+        journal: journal_left,
+    };
+    let figures = left.figures;
+    CallAnswer {
+        code: left.code,
+        after,
+        figures,
     }
 }

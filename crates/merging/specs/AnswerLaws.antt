@@ -1,15 +1,14 @@
 -- A call on the record of a sound network: its first test is passed, and it is the call on the network. Assumes nothing.
-use mathlib.Core.Path.{_≡_, refl, ap, _∙_}
+use mathlib.Core.Path.{_≡_, ap, _∙_}
 use mathlib.Core.List.{List, [], _∷_}
-use Rattle.integers.specs.Refusals.{Answer, accepted, refused, Test, _else_, checks, codeOf}
+use Rattle.integers.specs.Refusals.{Answer, Test, _else_, checks}
 use Rattle.integers.specs.RefusalLaws.{checks-next, checks-none}
 use Rattle.integers.specs.TestLaws.{is-true}
 use Rattle.network.specs.Threshold.{Net}
 use Rattle.network.specs.Sound.{Sound}
 use Rattle.network.specs.Record.{netOf, layout, soundRecord}
 use Rattle.network.specs.RecordLaws.{netOf-layout, sound-layout}
-use Rattle.network.specs.declared.Network.{Network}
-use Rattle.merging.specs.Answers.{onRecord, asChanged}
+use Rattle.merging.specs.Answers.{onRecord}
 
 -- the record of a sound network passes the first test of every call
 pub sound-first : {A : Type 0} (N : Net) → Sound N → (ts : List Test) (r : Answer A) → checks ((soundRecord (layout N) else 20) ∷ ts) r ≡ checks ts r
@@ -19,9 +18,3 @@ sound-first N s ts r = checks-next (soundRecord (layout N)) 20 ts r (is-true (so
 pub on-layout : {A : Type 0} (N : Net) → Sound N → (call : Net → Answer A) → onRecord (layout N) call ≡ call N
 unfolding onRecord
 on-layout N s call = sound-first N s [] (call (netOf (layout N))) ∙ checks-none (call (netOf (layout N))) ∙ ap call (netOf-layout N s)
-
--- the number of a changed record's answer
-pub changed-code : (r : Network) (a : Answer Net) → asChanged r a .code ≡ codeOf a
-unfolding asChanged codeOf
-changed-code r (accepted M) = refl
-changed-code r (refused c) = refl

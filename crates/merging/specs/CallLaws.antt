@@ -4,12 +4,13 @@ use mathlib.Core.Bool.{true, false}
 use Prim.Native.Nat.{ℕ}
 use native.Mathlib.Omega.{arith}
 use lib.Dec.{T}
-use Rattle.integers.specs.Refusals.{Answer, accepted, refused, checks, Passed}
+use Rattle.integers.specs.Refusals.{Answer, accepted, refused, checks, codeOf, Passed}
 use Rattle.integers.specs.RefusalLaws.{passed-checks}
 use Rattle.integers.specs.TestLaws.{is-true, T-and, and-left}
+use Rattle.network.specs.Threshold.{Gate}
 use Rattle.network.specs.Limits.{scaleOk, sound, isGate}
 use Rattle.network.specs.Changes.{withGate}
-use Rattle.network.specs.Record.{netOf, soundRecord, spareClear, gateIn, gateRecord}
+use Rattle.network.specs.Record.{netOf, soundRecord, spareClear, noGate, gateIn, gateRecord}
 use Rattle.network.specs.Places.{SoundGate}
 use Rattle.network.specs.PlaceLaws.{gateIn-gateRecord}
 use Rattle.network.specs.declared.Network.{Network}
@@ -23,12 +24,11 @@ use Rattle.folding.specs.LimitLaws.{narrow-few}
 use Rattle.folding.specs.AlignedLaws.{EdgeOk}
 use Rattle.alignment.specs.Alignments.{alignmentOf, mergedOf, Mergeable}
 use Rattle.alignment.specs.AlignmentLaws.{merged-is, mergeable}
-use Rattle.merging.specs.declared.Changed.{Changed}
-use Rattle.merging.specs.Answers.{onRecord, asChanged, asPair, mergedRecord, pairFound}
+use Rattle.merging.specs.Answers.{onRecord, asPair, mergeCode, pairFound, TriedMerge}
+use Rattle.merging.specs.declared.MergedGate.{MergedGate}
 use Rattle.merging.specs.Lent.{edgeIn, Joined}
 use Rattle.merging.specs.Codes.{firstFailing, edgeTests, edgeTestsIn, mergeTests}
 use Rattle.merging.specs.CodeLaws.{code-passed, code-refused, code-checks}
-use Rattle.merging.specs.AnswerLaws.{changed-code}
 use Rattle.merging.specs.EdgeLaws.{joined-of, edge-is, tests-are}
 
 -- a call on two gates of a record, of which u feeds v
@@ -49,8 +49,8 @@ module _ (r : Network) (s : soundRecord r ≡ false) where
   pub pair-broken : (u v : ℕ) → pairFound r u v ≡ asPair (refused 20)
   pair-broken u v = pair-call r u v ∙ ap asPair (call-broken pairOf u v)
 
-  pub merge-broken : (u v k l : ℕ) → mergedRecord r u v k l ≡ asChanged r (refused 20)
-  unfolding mergedRecord onRecord checks
+  pub merge-broken : (u v k l : ℕ) → mergeCode r u v k l ≡ 20
+  unfolding mergeCode onRecord checks codeOf
   merge-broken u v k l = rw s
 
 -- ---- a sound record
@@ -63,10 +63,15 @@ module _ (r : Network) (s : soundRecord r ≡ true) (u v : ℕ) where
   unfolding onRecord feedTests edgeTests checks
   call-sound call = rw (s, sound-is)
 
-  merge-sound : (k l : ℕ) → mergedRecord r u v k l
-      ≡ asChanged r (checks (edgeTests (netOf r) u v) (checks (mergeTests (edge (netOf r) u v) k l) (accepted (withGate (netOf r) v (merged (edge (netOf r) u v) k l)))))
-  unfolding mergedRecord onRecord merge limits edgeTests mergeTests checks
-  merge-sound k l = rw (s, sound-is)
+  merge-sound : (k l : ℕ) → merge (netOf r) u v k l
+      ≡ checks (edgeTests (netOf r) u v) (checks (mergeTests (edge (netOf r) u v) k l) (accepted (withGate (netOf r) v (merged (edge (netOf r) u v) k l))))
+  unfolding merge limits edgeTests mergeTests checks
+  merge-sound k l = rw sound-is
+
+  -- the merge's own number
+  code-sound : (k l : ℕ) → mergeCode r u v k l ≡ codeOf (merge (netOf r) u v k l)
+  unfolding mergeCode onRecord checks
+  code-sound k l = rw s
 
   -- the number of the first test of u and v that fails
   module _ (n : ℕ) (same : n ≡ firstFailing (edgeTestsIn (r .fanins) (r .thresholds) (r .signals) (r .weights) (r .inputs) (r .gates) u v)) where
@@ -82,8 +87,12 @@ module _ (r : Network) (s : soundRecord r ≡ true) (u v : ℕ) where
       pub pair-apart : pairFound r u v ≡ asPair (refused n)
       pair-apart = pair-call r u v ∙ ap asPair (call-apart pairOf)
 
-      pub merge-apart : (k l : ℕ) → mergedRecord r u v k l ≡ asChanged r (refused n)
-      merge-apart k l = merge-sound k l ∙ ap (asChanged r) (code-refused (edgeTests (netOf r) u v) _ (λ e. other (number-is ∙ e)) ∙ ap refused (sym number-is))
+      pub merge-apart : (k l : ℕ) → merge (netOf r) u v k l ≡ refused n
+      merge-apart k l = merge-sound k l ∙ code-refused (edgeTests (netOf r) u v) _ (λ e. other (number-is ∙ e)) ∙ ap refused (sym number-is)
+
+      pub code-apart : (k l : ℕ) → mergeCode r u v k l ≡ n
+      unfolding codeOf
+      code-apart k l = code-sound k l ∙ ap codeOf (merge-apart k l)
 
     -- u feeds v
     module _ (none : n ≡ 0) where
@@ -112,22 +121,20 @@ module _ (r : Network) (s : soundRecord r ≡ true) (u v : ℕ) where
       pub pair-joined : pairFound r u v ≡ asPair (pairOf here)
       pair-joined = pair-call r u v ∙ ap asPair (call-joined pairOf)
 
-      merge-joined : (k l : ℕ) → mergedRecord r u v k l ≡ asChanged r (checks (mergeTests here k l) (accepted (withGate (netOf r) v (merged here k l))))
-      merge-joined k l = merge-sound k l ∙ ap (asChanged r) (passed-checks (edgeTests (netOf r) u v) _ feeds
-          ∙ ap (λ (e : Edge). checks (mergeTests e k l) (accepted (withGate (netOf r) v (merged e k l)))) (sym here-is))
+      merge-joined : (k l : ℕ) → merge (netOf r) u v k l ≡ checks (mergeTests here k l) (accepted (withGate (netOf r) v (merged here k l)))
+      merge-joined k l = merge-sound k l ∙ passed-checks (edgeTests (netOf r) u v) _ feeds
+          ∙ ap (λ (e : Edge). checks (mergeTests e k l) (accepted (withGate (netOf r) v (merged e k l)))) (sym here-is)
 
       -- the merge's number is that of its first test that fails
-      pub merge-number : (k l : ℕ) → mergedRecord r u v k l .code ≡ firstFailing (mergeTests here k l)
-      merge-number k l =
-          ap (λ (c : Changed). c .code) (merge-joined k l) ∙ changed-code r _
-          ∙ code-checks (mergeTests here k l) (withGate (netOf r) v (merged here k l))
+      pub merge-number : (k l : ℕ) → mergeCode r u v k l ≡ firstFailing (mergeTests here k l)
+      merge-number k l = code-sound k l ∙ ap codeOf (merge-joined k l) ∙ code-checks (mergeTests here k l) (withGate (netOf r) v (merged here k l))
 
       -- 14, 7, 6, 24 or 15
-      pub merge-refused : (k l m : ℕ) → m ≡ firstFailing (mergeTests here k l) → (m ≡ 0 → ⊥) → mergedRecord r u v k l ≡ asChanged r (refused m)
-      merge-refused k l m e h = merge-joined k l ∙ ap (asChanged r) (code-refused (mergeTests here k l) _ (λ z. h (e ∙ z)) ∙ ap refused (sym e))
+      pub merge-refused : (k l m : ℕ) → m ≡ firstFailing (mergeTests here k l) → (m ≡ 0 → ⊥) → merge (netOf r) u v k l ≡ refused m
+      merge-refused k l m e h = merge-joined k l ∙ code-refused (mergeTests here k l) _ (λ z. h (e ∙ z)) ∙ ap refused (sym e)
 
-      pub merge-accepted : (k l : ℕ) → Passed (mergeTests here k l) → mergedRecord r u v k l ≡ asChanged r (accepted (withGate (netOf r) v (merged here k l)))
-      merge-accepted k l p = merge-joined k l ∙ ap (asChanged r) (passed-checks (mergeTests here k l) _ p)
+      pub merge-accepted : (k l : ℕ) → Passed (mergeTests here k l) → merge (netOf r) u v k l ≡ accepted (withGate (netOf r) v (merged here k l))
+      merge-accepted k l p = merge-joined k l ∙ passed-checks (mergeTests here k l) _ p
 
 -- ---- where the tests of a merge hold
 pub merge-passed : (e : Edge) (k l m : ℕ) → m ≡ firstFailing (mergeTests e k l) → m ≡ 0 → Passed (mergeTests e k l)
@@ -165,3 +172,27 @@ module _ (e : Edge) (k l : ℕ) (f : MergeFits e k l) where
       let few = narrow-few e (f .searched .is-narrow) in
       let is = same ∙ ap gateRecord (merged-is e k l few) in
       (is, ap gateIn is ∙ gateIn-gateRecord (merged e k l) (merged-ok e k l few (f .scaled) .few))
+
+-- ---- what a merge would put in the place of v
+module _ (r : Network) (u v k l : ℕ) where
+  pub tried-none : (m : MergedGate) (c : ℕ) → m ≡ record { code = c; gate = gateRecord noGate } → (c ≡ 0 → ⊥) → merge (netOf r) u v k l ≡ refused c
+      → TriedMerge r u v k l m
+  tried-none m c e n h =
+      let code = ap (λ (x : MergedGate). x .code) e in
+      record {
+        refuses = λ x. h ∙ ap refused (sym code);
+        spare = λ x. ap (λ (y : MergedGate). y .gate) e;
+        accepts = λ z. absurd (n (sym code ∙ z));
+        own = λ z. absurd (n (sym code ∙ z));
+        packed = λ z. absurd (n (sym code ∙ z));
+      }
+
+  pub tried-gate : (g : GateRecord) (x : Gate) → g ≡ gateRecord x → gateIn g ≡ x → SoundGate r v → merge (netOf r) u v k l ≡ accepted (withGate (netOf r) v x)
+      → TriedMerge r u v k l (record { code = 0; gate = g })
+  tried-gate g x e i own h = record {
+    refuses = λ n. absurd (n refl);
+    spare = λ n. absurd (n refl);
+    accepts = λ z. h ∙ ap (λ (y : Gate). accepted (withGate (netOf r) v y)) (sym i);
+    own = λ z. own;
+    packed = λ z. e ∙ ap gateRecord (sym i);
+  }

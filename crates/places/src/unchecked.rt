@@ -1,15 +1,31 @@
-// The places of a record: a gate taken out, a gate stored, a gate replaced and a gate removed.
+// The places of a record: a gate taken out, a gate stored, a gate replaced, and a gate removed in place.
+use crate::Head;
 use integers::wide;
 use network::GateRecord;
 use network::Network;
 ghost use mathlib.Core.Path.{_≡_};
 ghost use mathlib.Core.List.{map};
-ghost use Prim.Native.Nat.{_+_, _≤_, _<_};
+ghost use Prim.Native.Nat.{_+_, _-_, _≤_, _<_};
 ghost use lib.IntN.{pos};
 ghost use lib.ListN.{getD, length};
 ghost use Rattle.network.specs.Record.{netOf, layout, gateIn, gateRecord};
-ghost use Rattle.network.specs.Changes.{withGate, lowered, without};
+ghost use Rattle.network.specs.Changes.{withGate, lowered};
 ghost use Rattle.network.specs.Places.{Pasted, Stored, rowAt, SoundGate, origin, withoutPlaces};
+ghost use Rattle.places.specs.Parts.{counting, Lengths};
+ghost use Rattle.places.specs.Removal.{Removed};
+
+// A head with so many gates.
+pub fn with_gates(head: Head, gates: usize) -> Head
+    ensures { λ r. ⌜ r ≡ counting head gates ⌝ }
+{
+    let board = head.board;
+    Head {
+        board,
+        inputs: head.inputs,
+        gates,
+        outputs: head.outputs,
+    }
+}
 
 // Gate g of a record whose arrays are lent, in the form of its 16 places.
 pub fn gate_at<'a>(
@@ -115,51 +131,11 @@ pub fn replace_gate(network: Network, v: usize, gate: GateRecord) -> Network
     result
 }
 
-// The place that moves to place p when gap places from first on are taken out.
-fn origin_of(first: usize, gap: usize, p: usize) -> usize
-    requires { ⌜ p + gap ≤ 4096 ⌝ }
-    ensures { λ r. ⌜ r ≡ origin first gap p ⌝ }
-{
-    if p < first { p } else { p + gap }
-}
-
 // A signal after the gate with signal u is gone.
 fn lower(u: usize, s: u8) -> u8
     ensures { λ r. ⌜ r ≡ lowered u s ⌝ }
 {
     if u < wide(s) { s - 1 } else { s }
-}
-
-// The feed counts without gate g's.
-fn fanins_without(fanins: &[u8; 128], g: usize) -> [u8; 128]
-    requires { ⌜ (g ≤ 127) × (length (now fanins) ≡ 128) ⌝ }
-    ensures { λ r. ⌜ r ≡ withoutPlaces 0 128 g 1 (now (fanins .entry)) ⌝ }
-{
-    let mut result = [0u8; 128];
-    let mut h: usize = 0;
-    while h < 127 {
-        let from = origin_of(g, 1, h);
-        let fanin = fanins[from];
-        result[h] = fanin;
-        h = h + 1;
-    }
-    result
-}
-
-// The signals without the 16 from place first on, each lowered for the gate with signal u.
-fn signals_without(signals: &[u8; 2048], first: usize, u: usize) -> [u8; 2048]
-    requires { ⌜ (first ≤ 2032) × (length (now signals) ≡ 2048) ⌝ }
-    ensures { λ r. ⌜ r ≡ map (lowered u) (withoutPlaces 0 2048 first 16 (now (signals .entry))) ⌝ }
-{
-    let mut result = [0u8; 2048];
-    let mut p: usize = 0;
-    while p < 2032 {
-        let from = origin_of(first, 16, p);
-        let signal = lower(u, signals[from]);
-        result[p] = signal;
-        p = p + 1;
-    }
-    result
 }
 
 // The byte at a place; 0 past the end.
@@ -176,54 +152,103 @@ pub fn integer_at(integers: &[i32], p: usize) -> i32
     if p < integers.len() { integers[p] } else { 0 }
 }
 
-// The integers without the gap ones from place first on; 0 past their end.
-fn integers_without(integers: &[i32], first: usize, gap: usize, out: &mut [i32])
-    requires { ⌜ (length (now out) ≡ length (now integers)) × (length (now integers) + gap ≤ 4096) ⌝ }
-    ensures { λ _. ⌜ now (out .exit) ≡ withoutPlaces (pos 0) (length (now (integers .entry))) first gap (now (integers .entry)) ⌝ }
+// The bytes from place first + gap on moved down by gap places; the last gap ones stay.
+fn move_bytes(bytes: &mut [u8], first: usize, gap: usize)
+    requires { ⌜ first + gap ≤ length (now bytes) ⌝ }
+    ensures { λ _. ⌜ Pasted 0 0 (length (now (bytes .entry)) - gap) (λ p. getD (now (bytes .entry)) (origin first gap p) 0)
+        (now (bytes .entry)) (now (bytes .exit)) ⌝ }
 {
-    for p in 0..out.len() {
-        let from = origin_of(first, gap, p);
-        let integer = integer_at(integers, from);
-        out[p] = integer;
+    let end = bytes.len() - gap;
+    for p in first..end {
+        let byte = bytes[p + gap];
+        bytes[p] = byte;
     }
 }
 
-// The outputs' signals after the gate with signal u is gone.
-fn lowered_drivers(drivers: &[u8; 16], u: usize) -> [u8; 16]
-    requires { ⌜ length (now drivers) ≡ 16 ⌝ }
-    ensures { λ r. ⌜ r ≡ map (lowered u) (now (drivers .entry)) ⌝ }
+// The integers from place first + gap on moved down by gap places; the last gap ones stay.
+fn move_integers(integers: &mut [i32], first: usize, gap: usize)
+    requires { ⌜ first + gap ≤ length (now integers) ⌝ }
+    ensures { λ _. ⌜ Pasted (pos 0) 0 (length (now (integers .entry)) - gap) (λ p. getD (now (integers .entry)) (origin first gap p) (pos 0))
+        (now (integers .entry)) (now (integers .exit)) ⌝ }
 {
-    let mut result = [0u8; 16];
-    let mut j: usize = 0;
-    while j < 16 {
-        let driver = lower(u, drivers[j]);
-        result[j] = driver;
-        j = j + 1;
+    let end = integers.len() - gap;
+    for p in first..end {
+        let integer = integers[p + gap];
+        integers[p] = integer;
     }
-    result
 }
 
-// The record without the gate with signal u; higher signals fall by one.
-pub fn remove_gate(network: Network, u: usize) -> Network
-    requires { ⌜ SoundGate network u ⌝ }
-    ensures { λ r. ⌜ r ≡ layout (without (netOf network) u) ⌝ }
+// 0 in the bytes from a place on.
+fn clear_bytes(bytes: &mut [u8], from: usize)
+    requires { ⌜ from ≤ length (now bytes) ⌝ }
+    ensures { λ _. ⌜ Pasted 0 from (length (now (bytes .entry)) - from) (λ i. 0) (now (bytes .entry)) (now (bytes .exit)) ⌝ }
 {
-    let g = u - network.inputs;
+    for p in from..bytes.len() {
+        bytes[p] = 0;
+    }
+}
+
+// 0 in the integers from a place on.
+fn clear_integers(integers: &mut [i32], from: usize)
+    requires { ⌜ from ≤ length (now integers) ⌝ }
+    ensures { λ _. ⌜ Pasted (pos 0) from (length (now (integers .entry)) - from) (λ i. pos 0) (now (integers .entry)) (now (integers .exit)) ⌝ }
+{
+    for p in from..integers.len() {
+        integers[p] = 0;
+    }
+}
+
+// The bytes without the gap ones from place first on, and 0 past their end.
+fn remove_bytes(bytes: &mut [u8], first: usize, gap: usize)
+    requires { ⌜ first + gap ≤ length (now bytes) ⌝ }
+    ensures { λ _. ⌜ now (bytes .exit) ≡ withoutPlaces 0 (length (now (bytes .entry))) first gap (now (bytes .entry)) ⌝ }
+{
+    move_bytes(bytes, first, gap);
+    let end = bytes.len() - gap;
+    clear_bytes(bytes, end);
+}
+
+// The integers without the gap ones from place first on, and 0 past their end.
+fn remove_integers(integers: &mut [i32], first: usize, gap: usize)
+    requires { ⌜ first + gap ≤ length (now integers) ⌝ }
+    ensures { λ _. ⌜ now (integers .exit) ≡ withoutPlaces (pos 0) (length (now (integers .entry))) first gap (now (integers .entry)) ⌝ }
+{
+    move_integers(integers, first, gap);
+    let end = integers.len() - gap;
+    clear_integers(integers, end);
+}
+
+// Signals after the gate with signal u is gone.
+fn lower_all(signals: &mut [u8], u: usize)
+    ensures { λ _. ⌜ now (signals .exit) ≡ map (lowered u) (now (signals .entry)) ⌝ }
+{
+    for p in 0..signals.len() {
+        let signal = signals[p];
+        let lower_one = lower(u, signal);
+        signals[p] = lower_one;
+    }
+}
+
+// Gate g, which has signal u, taken out of a record's arrays, which are lent; higher signals fall by one.
+pub fn remove_places(
+    fanins: &mut [u8; 128],
+    thresholds: &mut [i32; 128],
+    signals: &mut [u8; 2048],
+    weights: &mut [i32; 2048],
+    drivers: &mut [u8; 16],
+    g: usize,
+    u: usize,
+)
+    requires { ⌜ (g < 128) × Lengths (now fanins) (now thresholds) (now signals) (now weights) (now drivers) ⌝ }
+    ensures { λ _. ⌜ Removed g u
+        (now (fanins .entry)) (now (thresholds .entry)) (now (signals .entry)) (now (weights .entry)) (now (drivers .entry))
+        (now (fanins .exit)) (now (thresholds .exit)) (now (signals .exit)) (now (weights .exit)) (now (drivers .exit)) ⌝ }
+{
     let first = 16 * g;
-    let gates = network.gates - 1;
-    let fanins = fanins_without(&network.fanins, g);
-    let signals = signals_without(&network.signals, first, u);
-    let mut weights = [0i32; 2048];
-    integers_without(&network.weights, first, 16, &mut weights);
-    let mut thresholds = [0i32; 128];
-    integers_without(&network.thresholds, g, 1, &mut thresholds);
-    let drivers = lowered_drivers(&network.drivers, u);
-    let mut result = network;
-    result.gates = gates;
-    result.fanins = fanins;
-    result.signals = signals;
-    result.weights = weights;
-    result.thresholds = thresholds;
-    result.drivers = drivers;
-    result
+    remove_bytes(fanins, g, 1);
+    remove_integers(thresholds, g, 1);
+    remove_bytes(signals, first, 16);
+    lower_all(signals, u);
+    remove_integers(weights, first, 16);
+    lower_all(drivers, u);
 }

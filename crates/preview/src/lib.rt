@@ -1,10 +1,12 @@
 // What collapsing a gate would give, without doing it: document 02, No. 1.
 pub mod files;
+pub mod unchecked;
 
-use collapse::collapse;
 use network::Network;
+use network::soundness::is_sound;
+use places::Head;
 use report::SizeReport;
-use report::unchecked::size_of;
+use unchecked::preview_at;
 ghost use mathlib.Core.Path.{_≡_};
 ghost use Rattle.preview.specs.Preview.{previewed};
 
@@ -13,15 +15,28 @@ ghost use Rattle.preview.specs.Preview.{previewed};
 pub fn preview(network: Network, s: usize) -> SizeReport
     ensures { λ r. ⌜ r ≡ previewed network s ⌝ }
 {
-    let collapsed = collapse(network, s);
-    let code = collapsed.code;
-    if code != 0 {
+    if !is_sound(network) {
         return SizeReport {
-            code,
+            code: 20,
             gates: 0,
             cost: 0,
             levels: 0,
         };
     }
-    size_of(collapsed.network)
+    let board = network.board;
+    let head = Head {
+        board,
+        inputs: network.inputs,
+        gates: network.gates,
+        outputs: network.outputs,
+    };
+    preview_at(
+        head,
+        &network.fanins,
+        &network.thresholds,
+        &network.signals,
+        &network.weights,
+        &network.drivers,
+        s,
+    )
 }

@@ -75,10 +75,15 @@ module _ (n : Network) (u g : ℕ) {j now : Journal} (l : Left n u g j now) wher
             ∙ sym (ap (enterAll now) (turn-reader n u g h e)) ∙ l .rest;
       }
 
-  -- after the last gate comes the drop
-  pub left-drop : n .gates ≤ g → {next : Journal} → next ≡ withStep now 1 u (gateRecord (gateAt (netOf n) u)) → next ≡ enterAll j (collapseSteps (netOf n) u)
-  unfolding enterAll enter kindOf signalOf oldGate collapseSteps netOf
-  left-drop h {next} e =
-      let drops : List Step = dropping u (gateAt (netOf n) u) ∷ [] in
-      e ∙ ap (λ (x : Journal). enterAll x drops) (sym (ap (enterAll now) (turn-end n u g h)) ∙ l .rest)
-      ∙ sym (enterAll-join j (readerSteps u (n .inputs) (netOf n .gates)) drops)
+  -- after the last gate all merges are entered
+  pub left-end : n .gates ≤ g → now ≡ enterAll j (readerSteps u (n .inputs) (netOf n .gates))
+  unfolding enterAll
+  left-end h = sym (ap (enterAll now) (turn-end n u g h)) ∙ l .rest
+
+-- then comes the drop
+pub drop-last : (n : Network) (u : ℕ) (j : Journal) {mid next : Journal} → mid ≡ enterAll j (readerSteps u (n .inputs) (netOf n .gates))
+    → next ≡ withStep mid 1 u (gateRecord (gateAt (netOf n) u)) → next ≡ enterAll j (collapseSteps (netOf n) u)
+unfolding enterAll enter kindOf signalOf oldGate collapseSteps netOf
+drop-last n u j {mid} {next} h e =
+    let drops : List Step = dropping u (gateAt (netOf n) u) ∷ [] in
+    e ∙ ap (λ (x : Journal). enterAll x drops) h ∙ sym (enterAll-join j (readerSteps u (n .inputs) (netOf n .gates)) drops)

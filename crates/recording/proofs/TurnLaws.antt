@@ -25,7 +25,7 @@ use Rattle.journal.specs.declared.Record.{Record}
 use Rattle.collapse.specs.Fusing.{foldedBy}
 use Rattle.collapse.specs.declared.Pairs.{Pairs}
 use Rattle.sweeping.specs.Sweeping.{asked, NextFold}
-use Rattle.recording.specs.Answers.{answered}
+use Rattle.journal.specs.Parts.{answered}
 use Rattle.recording.proofs.EnterLaws.{enterAll-join}
 
 goOn-end : {A : Type 0} (a : Answer Net) (f : Net → A) (x : A) → Refused a → goOn a f x ≡ x

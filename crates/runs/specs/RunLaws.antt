@@ -15,7 +15,7 @@ use Rattle.network.specs.Threshold.{Net}
 use Rattle.network.specs.Sound.{Sound}
 use Rattle.network.specs.Record.{netOf}
 use Rattle.network.specs.Places.{Holds}
-use Rattle.network.specs.RecordLaws.{holds-sound}
+use Rattle.network.specs.RecordLaws.{Shaped, shaped-layout, holds-sound}
 use Rattle.network.specs.declared.Network.{Network}
 use Rattle.format.specs.Format.{fileBytes, longestFile}
 use Rattle.format.specs.LengthLaws.{longest}
@@ -28,13 +28,13 @@ use Rattle.history.specs.TraceLaws.{Traced}
 use Rattle.history.specs.GuaranteeLaws.{opened-traced, call-traced, calls-traced}
 use Rattle.history.specs.declared.Call.{Call}
 use Rattle.history.specs.declared.Call.the-variants.{Undo}
-use Rattle.journal.specs.Records.{stateOf, recordOf, justRead}
+use Rattle.journal.specs.Records.{stateOf, soundWhole, recordOf, justRead}
 use Rattle.journal.specs.JournalLaws.{empty-journal}
 use Rattle.journal.specs.Answers.{applied}
 use Rattle.journal.specs.declared.CallAnswer.{CallAnswer}
 use Rattle.journal.specs.declared.Record.{Record}
 use Rattle.lists.specs.Answers.{answerOn}
-use Rattle.lists.specs.StateLaws.{state-record, applied-record}
+use Rattle.lists.specs.StateLaws.{state-record, record-sound, applied-record}
 use Rattle.runs.specs.Runs.{callOf, wellFormed, callsIn, figuresIn, fourOf, answersOf, netAfter}
 use Rattle.runs.specs.Running.{callAt, Came, Stepped}
 
@@ -112,6 +112,14 @@ after-sound r h cs = calls-traced (netOf r) (opened (netOf r)) cs (opened-traced
 -- the record of a state is that of a read and calls where the state is
 came-record : (R : Net) (q : State) → Traced R q → Came (recordOf q)
 came-record R q t = let e = state-record R q t in record { read = R; traced = subst (Traced R) (sym e) t; laid = ap recordOf e }
+
+-- such a record is sound, and its arrays have their lengths
+pub came-whole : (r : Record) → Came r → soundWhole r ≡ true
+came-whole r c = subst (λ (x : Record). soundWhole x ≡ true) (c .laid) (record-sound (c .read) (stateOf r) (c .traced))
+
+pub came-shaped : (r : Record) → Came r → Shaped (r .network)
+unfolding recordOf
+came-shaped r c = subst (λ (x : Record). Shaped (x .network)) (c .laid) (shaped-layout (stateOf r .net))
 
 -- the record of a network just read
 just-record : (r : Network) → Holds r → justRead r ≡ recordOf (opened (netOf r))

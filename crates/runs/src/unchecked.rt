@@ -2,10 +2,10 @@
 use format::LONGEST_FILE;
 use history::Call;
 use history::Figures;
-use journal::CallAnswer;
-use journal::Record;
-use journal::just_read;
+use journal::CallLeft;
+use lists::unchecked::apply_in;
 use network::Network;
+use places::Head;
 ghost use mathlib.Core.Path.{_≡_};
 ghost use mathlib.Core.Bool.{true};
 ghost use Prim.Native.Nat.{_+_, _*_, _≤_};
@@ -18,6 +18,7 @@ ghost use Rattle.format.specs.Format.{fileBytes};
 ghost use Rattle.history.specs.Steps.{opened};
 ghost use Rattle.history.specs.Calls.{answer};
 ghost use Rattle.journal.specs.Records.{stateOf};
+ghost use Rattle.journal.specs.Parts.{recordParts, answerParts};
 ghost use Rattle.runs.specs.Runs.{wellFormed, callsIn, fourOf, answersOf, netAfter};
 ghost use Rattle.runs.specs.Running.{Came, Stepped, callAt};
 
@@ -64,13 +65,51 @@ fn call_at(numbers: &[u64], i: usize) -> Call
     }
 }
 
-// Call i on a record.
-fn step(held: Record, numbers: &[u64], i: usize) -> CallAnswer
-    requires { ⌜ Came held ⌝ }
+// Call i, in the arrays of the record of a state that a read and calls lead to.
+fn step_in(
+    head: Head,
+    fanins: &mut [u8; 128],
+    thresholds: &mut [i32; 128],
+    signals: &mut [u8; 2048],
+    weights: &mut [i32; 2048],
+    drivers: &mut [u8; 16],
+    count: usize,
+    kinds: &mut [u8; 64],
+    step_signals: &mut [u8; 64],
+    step_fanins: &mut [u8; 64],
+    step_thresholds: &mut [i32; 64],
+    feeds: &mut [u8; 1024],
+    step_weights: &mut [i32; 1024],
+    numbers: &[u64],
+    i: usize,
+) -> CallLeft
+    requires { ⌜ Came (recordParts head (now fanins) (now thresholds) (now signals) (now weights) (now drivers) count
+        (now kinds) (now «step_signals») (now «step_fanins») (now «step_thresholds») (now feeds) (now «step_weights»)) ⌝ }
     requires { ⌜ 5 * i + 5 ≤ length (now numbers) ⌝ }
-    ensures { λ r. ⌜ Stepped (stateOf held) (answer (stateOf held) (callAt (now (numbers .entry)) i)) r ⌝ }
+    ensures { λ r. ⌜ Stepped (stateOf (recordParts head (now (fanins .entry)) (now (thresholds .entry)) (now (signals .entry)) (now (weights .entry)) (now (drivers .entry)) count
+        (now (kinds .entry)) (now («step_signals» .entry)) (now («step_fanins» .entry)) (now («step_thresholds» .entry)) (now (feeds .entry)) (now («step_weights» .entry))))
+        (answer (stateOf (recordParts head (now (fanins .entry)) (now (thresholds .entry)) (now (signals .entry)) (now (weights .entry)) (now (drivers .entry)) count
+        (now (kinds .entry)) (now («step_signals» .entry)) (now («step_fanins» .entry)) (now («step_thresholds» .entry)) (now (feeds .entry)) (now («step_weights» .entry)))) (callAt (now (numbers .entry)) i))
+        (answerParts r head (now (fanins .exit)) (now (thresholds .exit)) (now (signals .exit)) (now (weights .exit)) (now (drivers .exit))
+        (now (kinds .exit)) (now («step_signals» .exit)) (now («step_fanins» .exit)) (now («step_thresholds» .exit)) (now (feeds .exit)) (now («step_weights» .exit))) ⌝ }
 {
-    lists::apply(held, call_at(numbers, i))
+    let call = call_at(numbers, i);
+    apply_in(
+        head,
+        fanins,
+        thresholds,
+        signals,
+        weights,
+        drivers,
+        count,
+        kinds,
+        step_signals,
+        step_fanins,
+        step_thresholds,
+        feeds,
+        step_weights,
+        call,
+    )
 }
 
 // The network after the whole list.
@@ -79,12 +118,60 @@ fn run(network: Network, numbers: &[u64]) -> Network
     requires { ⌜ wellFormed (now numbers) ≡ true ⌝ }
     ensures { λ r. ⌜ r ≡ layout (netAfter (netOf network) (callsIn (now (numbers .entry)))) ⌝ }
 {
-    let mut after = just_read(network);
+    let board = network.board;
+    let inputs = network.inputs;
+    let outputs = network.outputs;
+    let mut gates = network.gates;
+    let mut fanins = network.fanins;
+    let mut thresholds = network.thresholds;
+    let mut signals = network.signals;
+    let mut weights = network.weights;
+    let mut drivers = network.drivers;
+    let mut count: usize = 0;
+    let mut kinds = [0u8; 64];
+    let mut step_signals = [0u8; 64];
+    let mut step_fanins = [0u8; 64];
+    let mut step_thresholds = [0i32; 64];
+    let mut feeds = [0u8; 1024];
+    let mut step_weights = [0i32; 1024];
     for i in 0..numbers.len() / 5 {
-        let answer = step(after, numbers, i);
-        after = answer.after;
+        let head = Head {
+            board,
+            inputs,
+            gates,
+            outputs,
+        };
+        let left = step_in(
+            head,
+            &mut fanins,
+            &mut thresholds,
+            &mut signals,
+            &mut weights,
+            &mut drivers,
+            count,
+            &mut kinds,
+            &mut step_signals,
+            &mut step_fanins,
+            &mut step_thresholds,
+            &mut feeds,
+            &mut step_weights,
+            numbers,
+            i,
+        );
+        gates = left.gates;
+        count = left.count;
     }
-    after.network
+    Network {
+        board,
+        inputs,
+        gates,
+        outputs,
+        fanins,
+        signals,
+        weights,
+        thresholds,
+        drivers,
+    }
 }
 
 // The length of a network's file.
@@ -129,12 +216,60 @@ pub fn run_storing(network: Network, numbers: &[u64], answers: &mut [u64]) -> Ne
     ensures { λ r. ⌜ r ≡ layout (netAfter (netOf network) (callsIn (now (numbers .entry)))) ⌝ }
     ensures { λ _. ⌜ now (answers .exit) ≡ paste (now (answers .entry)) 1 (answersOf (opened (netOf network)) (callsIn (now (numbers .entry)))) (4 * length (callsIn (now (numbers .entry)))) ⌝ }
 {
-    let mut after = just_read(network);
+    let board = network.board;
+    let inputs = network.inputs;
+    let outputs = network.outputs;
+    let mut gates = network.gates;
+    let mut fanins = network.fanins;
+    let mut thresholds = network.thresholds;
+    let mut signals = network.signals;
+    let mut weights = network.weights;
+    let mut drivers = network.drivers;
+    let mut count: usize = 0;
+    let mut kinds = [0u8; 64];
+    let mut step_signals = [0u8; 64];
+    let mut step_fanins = [0u8; 64];
+    let mut step_thresholds = [0i32; 64];
+    let mut feeds = [0u8; 1024];
+    let mut step_weights = [0i32; 1024];
     for i in 0..numbers.len() / 5 {
-        let answer = step(after, numbers, i);
-        let figures = answer.figures;
-        put_four(answers, 1 + 4 * i, answer.code, figures);
-        after = answer.after;
+        let head = Head {
+            board,
+            inputs,
+            gates,
+            outputs,
+        };
+        let left = step_in(
+            head,
+            &mut fanins,
+            &mut thresholds,
+            &mut signals,
+            &mut weights,
+            &mut drivers,
+            count,
+            &mut kinds,
+            &mut step_signals,
+            &mut step_fanins,
+            &mut step_thresholds,
+            &mut feeds,
+            &mut step_weights,
+            numbers,
+            i,
+        );
+        let figures = left.figures;
+        put_four(answers, 1 + 4 * i, left.code, figures);
+        gates = left.gates;
+        count = left.count;
     }
-    after.network
+    Network {
+        board,
+        inputs,
+        gates,
+        outputs,
+        fanins,
+        signals,
+        weights,
+        thresholds,
+        drivers,
+    }
 }

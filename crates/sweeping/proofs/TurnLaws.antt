@@ -20,8 +20,8 @@ use Rattle.collapse.specs.declared.Pairs.{Pairs}
 use Rattle.merging.specs.Readers.{occurs}
 use Rattle.collapse.specs.Fusing.{fusion, AllPairs, foldedBy}
 use Rattle.collapse.specs.FuseLaws.{folded-pairs, folded-some}
+use Rattle.collapse.specs.TriedLaws.{sound-gate, collapse-output, collapse-folded}
 use Rattle.sweeping.specs.Sweeping.{asked, LowerRefused, NextFold}
-use Rattle.collapse.proofs.CallLaws.{sound-gate, collapse-refused, collapse-folded}
 
 -- ---- the gates from u on
 orElse-next : {A : Type 0} (r q : Answer A) → Refused r → orElse r q ≡ q
@@ -96,14 +96,14 @@ module _ (r : Network) (b g : ℕ) (whole : soundRecord r ≡ true) (within : g 
   pass-barred h = or-case (ltb b (readers (netOf r) signal)) (occurs (r .drivers) 0 (r .outputs) signal) (T-is barred h)
       (λ t. turn-many (netOf r) b (r .inputs) (r .gates) g within (ltb→lt b (readers (netOf r) signal) t))
       (λ t. turn-refused (netOf r) b (r .inputs) (r .gates) g within
-      (subst Refused (sym (collapse-refused r signal whole is-gate (is-true (occurs (r .drivers) 0 (r .outputs) signal) t))) tt))
+      (subst Refused (sym (collapse-output r signal whole is-gate (is-true (occurs (r .drivers) 0 (r .outputs) signal) t))) tt))
 
   -- and refused
   pub barred-refused : barred ≡ true → Refused (asked (netOf r) b signal)
   barred-refused h = or-case (ltb b (readers (netOf r) signal)) (occurs (r .drivers) 0 (r .outputs) signal) (T-is barred h)
       (λ t. many (netOf r) b signal (ltb→lt b (readers (netOf r) signal) t))
       (λ t. not-taken (netOf r) b signal
-      (subst Refused (sym (collapse-refused r signal whole is-gate (is-true (occurs (r .drivers) 0 (r .outputs) signal) t))) tt))
+      (subst Refused (sym (collapse-output r signal whole is-gate (is-true (occurs (r .drivers) 0 (r .outputs) signal) t))) tt))
 
   module _ (free : barred ≡ false) where
     parts : (ltb b (readers (netOf r) signal) ≡ false) × (occurs (r .drivers) 0 (r .outputs) signal ≡ false)

@@ -1,31 +1,23 @@
-// The choice of the gate that a sweep of a sound record folds next.
+// The choice of the gate that a sweep of a sound record, whose arrays are lent, folds next.
 use crate::Choice;
 use collapse::Pairs;
+use collapse::unchecked::no_pairs;
 use collapse::unchecked::reader_pair;
 use collapse::unchecked::reader_pairs;
 use integers::wide;
 use merging::unchecked::readers::count_readers;
 use merging::unchecked::readers::is_output;
 use network::Board;
-use network::Network;
+use places::Head;
 ghost use mathlib.Core.Path.{_≡_};
 ghost use mathlib.Core.Bool.{true};
 ghost use lib.Dec.{T};
-ghost use lib.ListN.{replicate};
 ghost use Rattle.network.specs.Limits.{boardOk};
 ghost use Rattle.network.specs.Record.{gateFrom, soundRecord};
+ghost use Rattle.places.specs.Parts.{fromParts};
 ghost use Rattle.merging.specs.Lent.{Lent, Within};
 ghost use Rattle.collapse.specs.Fusing.{TriedPairs};
 ghost use Rattle.sweeping.specs.Sweeping.{Chosen};
-
-// No pairs: a refusal, and the reader that it came from.
-fn no_pairs(code: u8, last: usize) -> Pairs
-    ensures { λ r. ⌜ r ≡ record { code = code; last = last; ks = replicate 128 0; ls = replicate 128 0 } ⌝ }
-{
-    let ks = [0u8; 128];
-    let ls = [0u8; 128];
-    Pairs { code, last, ks, ls }
-}
 
 // The pairs of all readers of u. The gate with number hint is tried first: if it is a reader whose pair is refused, there is no need to
 // try the others.
@@ -88,29 +80,36 @@ fn lower_hints(hints: &mut [u8; 128], g: usize) {
 
 // The lowest gate with at most b readers that can be folded into them. A hint is the reader that refused a gate the last time; any
 // hints give the same answer. Where a gate is found, the hints are left as they are after it is gone.
-pub fn lowest_foldable(network: Network, b: usize, hints: &mut [u8; 128]) -> Choice
-    requires { ⌜ soundRecord network ≡ true ⌝ }
-    ensures { λ r. ⌜ Chosen network b r ⌝ }
+pub fn lowest_foldable<'a>(
+    head: Head,
+    fanins: &'a [u8; 128],
+    thresholds: &'a [i32; 128],
+    signals: &'a [u8; 2048],
+    weights: &'a [i32; 2048],
+    drivers: &[u8; 16],
+    b: usize,
+    hints: &mut [u8; 128],
+) -> Choice
+    requires { ⌜ soundRecord (fromParts head (now fanins) (now thresholds) (now signals) (now weights) (now drivers)) ≡ true ⌝ }
+    ensures { λ r. ⌜ Chosen
+        (fromParts head (now (fanins .entry)) (now (thresholds .entry)) (now (signals .entry)) (now (weights .entry)) (now (drivers .entry))) b r ⌝ }
 {
-    let board = network.board;
-    let inputs = network.inputs;
-    let gates = network.gates;
-    let outputs = network.outputs;
-    for g in 0..gates {
-        let u = inputs + g;
-        let readers = count_readers(&network.fanins, &network.signals, gates, u);
-        if (b < readers) | is_output(&network.drivers, outputs, u) {
+    let board = head.board;
+    for g in 0..head.gates {
+        let u = head.inputs + g;
+        let readers = count_readers(fanins, signals, head.gates, u);
+        if (b < readers) | is_output(drivers, head.outputs, u) {
             continue;
         }
         let hint = wide(hints[g]);
         let pairs = hinted_pairs(
             board,
-            &network.fanins,
-            &network.thresholds,
-            &network.signals,
-            &network.weights,
-            inputs,
-            gates,
+            fanins,
+            thresholds,
+            signals,
+            weights,
+            head.inputs,
+            head.gates,
             u,
             hint,
         );

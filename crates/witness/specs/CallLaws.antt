@@ -15,14 +15,13 @@ use Rattle.network.specs.declared.Network.{Network}
 use Rattle.folding.specs.Merge.{Edge, edge, distinct, narrow, agreesAt}
 use Rattle.folding.specs.AlignedLaws.{EdgeOk}
 use Rattle.alignment.specs.Alignments.{alignmentOf}
-use Rattle.merging.specs.Answers.{asChanged, mergedRecord}
+use Rattle.merging.specs.Answers.{mergeCode}
 use Rattle.merging.specs.Lent.{edgeIn}
 use Rattle.merging.specs.LentLaws.{lent-of}
 use Rattle.merging.specs.EdgeLaws.{joined-ok}
-use Rattle.merging.specs.declared.Changed.{Changed}
 use Rattle.merging.specs.Codes.{firstFailing, edgeTestsIn}
 use Rattle.merging.specs.CodeLaws.{code-never}
-use Rattle.merging.specs.CallLaws.{apart-none, onGates, call-broken, call-apart, call-joined, merge-broken, merge-apart, here-is, merge-number}
+use Rattle.merging.specs.CallLaws.{apart-none, onGates, call-broken, call-apart, call-joined, merge-broken, code-apart, here-is, merge-number}
 use Rattle.witness.specs.declared.Witnessed.{Witnessed}
 use Rattle.witness.specs.declared.DistinctFeeds.{DistinctFeeds}
 use Rattle.witness.specs.Witness.{Shows, WitnessOf}
@@ -46,7 +45,6 @@ feeds-on e = elim (leb (length (distinct e)) 16) as (λ b.
 -- ---- a record that is not sound
 module _ (r : Network) (s : soundRecord r ≡ false) where
   pub witness-broken : (u v k l : ℕ) {w : Witnessed} → w ≡ noWitness 20 → WitnessOf r u v k l w
-  unfolding asChanged
   witness-broken u v k l h = rw (merge-broken r s u v k l) (none-shows 20 _ _ (λ (q : 20 ≡ 15). absurd (omega arith)) h)
 
   pub feeds-broken : (u v : ℕ) → distinctFeeds r u v ≡ asFeeds (refused 20)
@@ -65,8 +63,7 @@ module _ (r : Network) (s : soundRecord r ≡ true) (u v : ℕ) where
           code-never 15 tests (omega arith, (omega arith, tt)) (λ (z : 15 ≡ 0). absurd (omega arith)) (sym same ∙ q)
 
       pub witness-apart : (k l : ℕ) {w : Witnessed} → w ≡ noWitness n → WitnessOf r u v k l w
-      unfolding asChanged
-      witness-apart k l h = rw (merge-apart r s u v n same other k l) (none-shows n _ _ apart-other h)
+      witness-apart k l h = rw (code-apart r s u v n same other k l) (none-shows n _ _ apart-other h)
 
       pub feeds-apart : distinctFeeds r u v ≡ asFeeds (refused n)
       feeds-apart = feeds-call r u v ∙ ap asFeeds (call-apart r s u v n same other feedsOf)
@@ -81,18 +78,17 @@ module _ (r : Network) (s : soundRecord r ≡ true) (u v : ℕ) where
 
       pub witness-joined : EdgeOk fed → (k l : ℕ) {w : Witnessed} → WitnessOn (alignmentOf fed) k l w → WitnessOf r u v k l w
       witness-joined ok k l {w} h =
-          subst (λ (e : Edge). Shows (mergedRecord r u v k l .code) (2 ^ length (distinct e)) (agreesAt e k l) w) (here-is r s u v n same none)
+          subst (λ (e : Edge). Shows (mergeCode r u v k l) (2 ^ length (distinct e)) (agreesAt e k l) w) (here-is r s u v n same none)
           (subst (λ (m : ℕ). Shows m (2 ^ length (distinct fed)) (agreesAt fed k l) w) (sym (merge-number r s u v n same none k l))
           (aligned-shows fed ok k l h))
 
 -- ---- a merge that is refused with 15
-pub disagreeing-edge : (r : Network) (u v k l : ℕ) → mergedRecord r u v k l .code ≡ 15 → EdgeOk (edge (netOf r) u v)
-unfolding asChanged
+pub disagreeing-edge : (r : Network) (u v k l : ℕ) → mergeCode r u v k l ≡ 15 → EdgeOk (edge (netOf r) u v)
 disagreeing-edge r u v k l e = test-case (soundRecord r) sound-one broken-one
   where
     broken-one : T (not (soundRecord r)) → EdgeOk (edge (netOf r) u v)
     broken-one t =
-        let twenty = ap (λ (c : Changed). c .code) (merge-broken r (is-false (soundRecord r) t) u v k l) in
+        let twenty = merge-broken r (is-false (soundRecord r) t) u v k l in
         absurd (omega (arith, sym twenty ∙ e))
 
     sound-one : T (soundRecord r) → EdgeOk (edge (netOf r) u v)
@@ -102,7 +98,7 @@ disagreeing-edge r u v k l e = test-case (soundRecord r) sound-one broken-one
         elim (decLt 0 n) as (λ d. EdgeOk (edge (netOf r) u v)) [
           | yes h ↦
               let other : n ≡ 0 → ⊥ = λ z. absurd (omega (arith, h, z)) in
-              absurd (apart-other r s u v n refl other (sym (ap (λ (c : Changed). c .code) (merge-apart r s u v n refl other k l)) ∙ e))
+              absurd (apart-other r s u v n refl other (sym (code-apart r s u v n refl other k l) ∙ e))
           | no h ↦
               let none : n ≡ 0 = omega (arith, h) in
               subst EdgeOk (here-is r s u v n refl none) (joined-ok (lent-of r t) (apart-none r s u v n refl none) (sound-board r s))

@@ -13,7 +13,7 @@ use Rattle.integers.specs.PlaceLaws.{take-places}
 use Rattle.network.specs.Threshold.{Net}
 use Rattle.network.specs.Limits.{sound, isGate}
 use Rattle.network.specs.Changes.{gateAt}
-use Rattle.network.specs.Record.{netOf, layout}
+use Rattle.network.specs.Record.{netOf}
 use Rattle.network.specs.RecordLaws.{netOf-layout}
 use Rattle.network.specs.declared.Network.{Network}
 use Rattle.folding.specs.Merge.{edge, reads, distinct, agreesAt, narrow, feedTests, merge}
@@ -22,8 +22,8 @@ use Rattle.opening.specs.Files.{openNet}
 use Rattle.opening.specs.Places.{answerOf}
 use Rattle.opening.specs.Opening.{FileOpen}
 use Rattle.opening.specs.OpeningLaws.{open-net, open-on}
-use Rattle.merging.specs.Answers.{mergedRecord}
-use Rattle.merging.specs.AnswerLaws.{on-layout, changed-code}
+use Rattle.merging.specs.Answers.{mergeCode}
+use Rattle.merging.specs.AnswerLaws.{on-layout}
 use Rattle.witness.specs.declared.Witnessed.{Witnessed}
 use Rattle.witness.specs.declared.DistinctFeeds.{DistinctFeeds}
 use Rattle.witness.specs.Witness.{Fewest, WitnessOf}
@@ -45,11 +45,10 @@ module _ {file : List ℕ} {r : Network} (u v k l : ℕ) (lent : List ℕ) (f : 
 
   -- the number is that of the merge on the network
   number-read : w .code ≡ codeOf (merge N u v k l)
-  unfolding mergedRecord
+  unfolding mergeCode
   number-read =
       s .number-is
-      ∙ ap (λ (x : Network). mergedRecord x u v k l .code) (f .laid)
-      ∙ changed-code (layout N) _
+      ∙ ap (λ (x : Network). mergeCode x u v k l) (f .laid)
       ∙ ap codeOf (on-layout N (f .sound) (λ M. merge M u v k l))
 
   net-is : netOf r ≡ N

@@ -9,7 +9,7 @@ use Rattle.integers.specs.Lists.{keep}
 use Rattle.network.specs.Record.{netOf}
 use Rattle.network.specs.declared.Network.{Network}
 use Rattle.folding.specs.Merge.{Edge, edge, distinct, setting, agreesAt}
-use Rattle.merging.specs.Answers.{mergedRecord}
+use Rattle.merging.specs.Answers.{mergeCode}
 use Rattle.witness.specs.declared.Witnessed.{Witnessed}
 
 -- "a setting of the distinct signals on which the two differ, with as few of them lit as any such setting has": of n settings, where
@@ -28,7 +28,7 @@ pub record Shows (number n : ℕ) (agree : ℕ → Bool) (w : Witnessed) : Type 
 -- a witness of the merge of u into v with k and l, "with the merge's own number"
 abbrev pub WitnessOf : Network → ℕ → ℕ → ℕ → ℕ → Witnessed → Type 0
 WitnessOf r u v k l w =
-    Shows (mergedRecord r u v k l .code) (2 ^ length (distinct (edge (netOf r) u v))) (agreesAt (edge (netOf r) u v) k l) w
+    Shows (mergeCode r u v k l) (2 ^ length (distinct (edge (netOf r) u v))) (agreesAt (edge (netOf r) u v) k l) w
 
 -- "as few of them lit": the distinct signals that are 1 on setting s, counted signal by signal
 unfoldable pub lit : Edge → ℕ → ℕ

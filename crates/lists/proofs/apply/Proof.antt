@@ -1,83 +1,44 @@
--- Each call by itself. Assumes nothing.
+-- A broken record, or the call in its arrays. Assumes nothing.
 use borrow.Author.Needs.{needs}
-use mathlib.Core.Path.{sym, ap, _∙_}
-use Rattle.journal.specs.Answers.{applied}
+use borrow.Author.Tests.{not-true, not-false}
+use mathlib.Core.Path.{sym, _∙_}
+use Rattle.network.specs.RecordLaws.{Shaped}
+use Rattle.places.specs.PartsLaws.{lengths}
+use Rattle.history.specs.Calls.{noFigures}
+use Rattle.journal.specs.AnswerLaws.{applied-broken}
 use Rattle.lists.proofs.apply.Statement.{statement}
 use Rattle.lists.proofs.apply.Tie as tie
 
-enum-known-call : tie.Need-enum-known-call
-enum-known-call c = search needs
+-- the lengths of the network's arrays
+shaped : (c : tie.Start) → Shaped (c .args .held .network)
+shaped c = record { fanins = search needs; signals = search needs; weights = search needs; thresholds = search needs; drivers = search needs }
 
-merge-requires : tie.Need-merge-requires
-merge-requires c κs = search needs
+is-sound-requires : tie.Need-is-sound-requires
+is-sound-requires c κs = search needs
 
-enum-known-call-2 : tie.Need-enum-known-call-2
-enum-known-call-2 c = search needs
-
-drop-gate-requires : tie.Need-drop-gate-requires
-drop-gate-requires c κs = search needs
-
-enum-known-call-3 : tie.Need-enum-known-call-3
-enum-known-call-3 c = search needs
-
-collapse-requires : tie.Need-collapse-requires
-collapse-requires c κs = search needs
-
-enum-known-call-4 : tie.Need-enum-known-call-4
-enum-known-call-4 c = search needs
-
-sweep-requires : tie.Need-sweep-requires
-sweep-requires c κs = search needs
-
-enum-known-call-5 : tie.Need-enum-known-call-5
-enum-known-call-5 c = search needs
-
-foresee-requires : tie.Need-foresee-requires
-foresee-requires c κs = search needs
-
-enum-told : tie.Need-enum-told
-enum-told c = search needs
-
-undo-requires : tie.Need-undo-requires
-undo-requires c κs = search needs
+refusal-requires : tie.Need-refusal-requires
+refusal-requires c κs = search needs
 
 returns : tie.Need-returns
-returns c = c .merge .ensures ∙ sym (ap (applied (c .before .before .before .before .args .held)) (c .before .before .call .given .1))
+unfolding noFigures
+returns c =
+    let a = c .before .before .before .args in
+    c .refusal .ensures ∙ sym (applied-broken (a .held) (a .call) (sym (c .before .before .is-sound .ensures) ∙ not-true _ (c .before .if1 .taken)))
+
+apply-in-requires : tie.Need-apply-in-requires
+apply-in-requires c κs =
+    record {
+      lengths = lengths _ (shaped (c .before .before .before .before .before .before .before .before .before .before .before .before .before .before
+          .before .before .before .before .before .before .before .before .before .before .before .before .before));
+      whole = sym (c .before .before .before .before .before .before .before .before .before .before .before .before .before .before .before .before
+          .before .before .before .before .before .before .before .before .before .before .is-sound .ensures) ∙ not-false _ (c .before .before .before
+          .before .before .before .before .before .before .before .before .before .before .before .before .before .before .before .before .before
+          .before .before .before .before .before .if1 .left);
+    }
 
 returns-2 : tie.Need-returns-2
-returns-2 c = c .drop-gate .ensures ∙ sym (ap (applied (c .before .before .before .before .args .held)) (c .before .before .call2 .given .1))
-
-returns-3 : tie.Need-returns-3
-returns-3 c = c .collapse .ensures ∙ sym (ap (applied (c .before .before .before .before .args .held)) (c .before .before .call3 .given .1))
-
-returns-4 : tie.Need-returns-4
-returns-4 c = c .sweep .ensures ∙ sym (ap (applied (c .before .before .before .before .args .held)) (c .before .before .call4 .given .1))
-
-returns-5 : tie.Need-returns-5
-returns-5 c = c .foresee .ensures ∙ sym (ap (applied (c .before .before .before .before .args .held)) (c .before .before .call5 .given .1))
-
-returns-6 : tie.Need-returns-6
-returns-6 c = c .undo .ensures ∙ sym (ap (applied (c .before .before .before .args .held)) (c .before .enum-told .given .1))
+returns-2 c = c .before .apply-in .ensures
 
 pub apply-spec : {M : Type 1} → statement M
 apply-spec =
-    tie.close
-    (tie.spec
-    enum-known-call
-    merge-requires
-    enum-known-call-2
-    drop-gate-requires
-    enum-known-call-3
-    collapse-requires
-    enum-known-call-4
-    sweep-requires
-    enum-known-call-5
-    foresee-requires
-    enum-told
-    undo-requires
-    returns
-    returns-2
-    returns-3
-    returns-4
-    returns-5
-    returns-6)
+    tie.close (tie.spec is-sound-requires refusal-requires returns apply-in-requires returns-2)

@@ -1,15 +1,24 @@
-// The tests of a merge after that of the record and that u feeds v, on the two gates by their distinct feeds.
+// The tests of a merge after that of the record, on the two gates by their distinct feeds, and the gate that it puts in the place of the second.
+use crate::MergedGate;
+use crate::unchecked::edges::aligned_at;
+use crate::unchecked::edges::edge_code;
 use crate::unchecked::edges::on_dial;
 use agreement::unchecked::agrees_everywhere;
 use agreement::unchecked::scale_fits;
 use alignment::Alignment;
 use alignment::unchecked::merged_gate;
+use network::GateRecord;
 use network::unchecked::gate_keeps;
+use places::Head;
 ghost use mathlib.Core.Path.{_≡_};
+ghost use mathlib.Core.Bool.{true};
 ghost use lib.Dec.{T};
 ghost use Rattle.network.specs.Limits.{keeps};
+ghost use Rattle.network.specs.Record.{noGate, gateRecord, soundRecord};
+ghost use Rattle.places.specs.Parts.{fromParts};
 ghost use Rattle.folding.specs.Aligned.{scaleFits};
 ghost use Rattle.alignment.specs.Alignments.{alignedIn, mergedOf, Fair, Mergeable};
+ghost use Rattle.merging.specs.Answers.{TriedMerge};
 ghost use Rattle.merging.specs.Codes.{firstFailing, limitTestsOn, mergeTestsOn};
 
 // Whether the merged gate keeps the margins.
@@ -61,4 +70,64 @@ pub fn merge_code(a: Alignment, k: usize, l: usize) -> u8
         return 15;
     }
     0
+}
+
+// A refusal, with no gate.
+fn no_gate(code: u8) -> MergedGate
+    ensures { λ r. ⌜ r ≡ record { code = code; gate = gateRecord noGate } ⌝ }
+{
+    let signals = [0u8; 16];
+    let weights = [0i32; 16];
+    let gate = GateRecord {
+        fanin: 0,
+        threshold: 0,
+        signals,
+        weights,
+    };
+    MergedGate { code, gate }
+}
+
+// The gate with which u is merged into v with k and l, where the arrays of a sound record are lent; only the contract speaks of the outputs' signals.
+// Where u votes against v, its complement is merged. Refusals: 11 no such gate, 12 not a feed, 14 off the dial, 7 too wide, 6 off the scale, 24
+// broken margin, 15 disagrees.
+pub fn merged_at<'a>(
+    head: Head,
+    fanins: &'a [u8; 128],
+    thresholds: &'a [i32; 128],
+    signals: &'a [u8; 2048],
+    weights: &'a [i32; 2048],
+    drivers: &[u8; 16],
+    u: usize,
+    v: usize,
+    k: usize,
+    l: usize,
+) -> MergedGate
+    requires { ⌜ soundRecord (fromParts head (now fanins) (now thresholds) (now signals) (now weights) (now drivers)) ≡ true ⌝ }
+    ensures { λ r. ⌜ TriedMerge
+        (fromParts head (now (fanins .entry)) (now (thresholds .entry)) (now (signals .entry)) (now (weights .entry)) (now (drivers .entry))) u v k l r ⌝ }
+{
+    let inputs = head.inputs;
+    let gates = head.gates;
+    let apart = edge_code(fanins, thresholds, signals, weights, inputs, gates, u, v);
+    if apart != 0 {
+        return no_gate(apart);
+    }
+    let board = head.board;
+    let a = aligned_at(
+        board,
+        fanins,
+        thresholds,
+        signals,
+        weights,
+        inputs,
+        gates,
+        u,
+        v,
+    );
+    let code = merge_code(a, k, l);
+    if code != 0 {
+        return no_gate(code);
+    }
+    let gate = merged_gate(a, k, l);
+    MergedGate { code: 0, gate }
 }

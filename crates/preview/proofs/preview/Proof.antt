@@ -1,34 +1,32 @@
--- A refused collapse is the answer; the report of the record that an accepted one leaves is the preview. Assumes nothing.
+-- A broken record, or the preview of its arrays. Assumes nothing.
 use borrow.Author.Needs.{needs}
-use mathlib.Core.Path.{sym, ap, _∙_}
-use Prim.Native.Nat.{ℕ}
-use Rattle.network.specs.Record.{soundRecord}
-use Rattle.report.specs.Size.{reported}
-use Rattle.merging.specs.declared.Changed.{Changed}
-use Rattle.preview.specs.PreviewLaws.{Collapsed, collapsed, not-collapsed}
+use borrow.Author.Tests.{not-true, not-false}
+use mathlib.Core.Path.{sym, _∙_}
+use Rattle.network.specs.RecordLaws.{Shaped}
+use Rattle.places.specs.PartsLaws.{lengths}
+use Rattle.preview.specs.PreviewLaws.{preview-broken}
 use Rattle.preview.proofs.preview.Statement.{statement}
 use Rattle.preview.proofs.preview.Tie as tie
 
-collapse-requires : tie.Need-collapse-requires
-collapse-requires c κs = search needs
+-- the lengths of the record's arrays
+shaped : (c : tie.Start) → Shaped (c .args .t1)
+shaped c = record { fanins = search needs; signals = search needs; weights = search needs; thresholds = search needs; drivers = search needs }
+
+is-sound-requires : tie.Need-is-sound-requires
+is-sound-requires c κs = search needs
 
 returns : tie.Need-returns
-returns c =
-    let a = c .before .before .args in
-    let code = ap (λ (x : Changed). x .code) (c .before .collapse .ensures) in
-    ap (λ (n : ℕ). record { code = n; gates = 0; cost = 0; levels = 0 }) code ∙ sym (not-collapsed (a .network) (a .s) (λ e. c .if1 .taken (code ∙ e)))
+returns c = let a = c .before .before .args in sym (preview-broken (a .t1) (a .s) (sym (c .before .is-sound .ensures) ∙ not-true _ (c .if1 .taken)))
 
--- past the test the collapse is accepted
-left : (c : tie.Else1) → Collapsed (c .before .before .args .network) (c .before .before .args .s)
-left c = collapsed _ _ (sym (ap (λ (x : Changed). x .code) (c .before .collapse .ensures)) ∙ c .if1 .left)
-
-size-of-requires : tie.Need-size-of-requires
-size-of-requires c κs = ap (λ (x : Changed). soundRecord (x .network)) (c .before .collapse .ensures) ∙ left c .sound-after
+preview-at-requires : tie.Need-preview-at-requires
+preview-at-requires c κs = (
+  lengths _ (shaped (c .before .before .before .before .before .before .before .before .before)),
+  sym (c .before .before
+      .before .before .before .before .before .before .is-sound .ensures) ∙ not-false _ (c .before .before .before .before .before .before .before .if1 .left),
+)
 
 returns-2 : tie.Need-returns-2
-returns-2 c =
-    let s = c .before in
-    c .size-of .ensures ∙ ap (λ (x : Changed). reported (x .network)) (s .before .collapse .ensures) ∙ sym (left s .shows)
+returns-2 c = c .preview-at .ensures
 
 pub preview-spec : {M : Type 1} → statement M
-preview-spec = tie.close (tie.spec collapse-requires returns size-of-requires returns-2)
+preview-spec = tie.close (tie.spec is-sound-requires returns preview-at-requires returns-2)

@@ -1,56 +1,86 @@
--- The loop's invariant: the rest of the list leads from here to the state after the whole list.
+-- The loop's invariant: the rest of the list leads from here to the state after the whole list. Assumes nothing.
 use borrow.Author.Needs.{needs}
-use mathlib.Core.Path.{ap, _∙_}
-use Prim.Native.Nat.{_-_, _/_, _≤_, zero-le}
+use mathlib.Core.Path.{refl, ap, _∙_}
+use Prim.Native.Nat.{_-_, _/_, _≤_, _<_, zero-le}
 use native.Mathlib.Omega.{arith}
 use lib.ListN.{length}
+use denote.Ref.{now}
 use Rattle.network.specs.Record.{layout}
 use Rattle.history.specs.Steps.{State}
 use Rattle.history.specs.Calls.{calls}
-use Rattle.journal.specs.Records.{stateOf}
+use Rattle.journal.specs.Journals.{emptyJournal}
+use Rattle.journal.specs.Records.{stateOf, justRead}
+use Rattle.journal.specs.Parts.{recordParts}
 use Rattle.runs.specs.Runs.{callsIn}
 use Rattle.runs.proofs.RunTurns.{Reached, began-came, began-state, reached-none, reached-next, reached-end}
 use Rattle.runs.proofs.unchecked.run.Statement.{statement}
 use Rattle.runs.proofs.unchecked.run.Tie as tie
 
 abbrev Inv-loop : tie.InvT-loop
-Inv-loop numbers after₀ i₀ i-end after i = (i ≤ length numbers / 5) × Reached (stateOf after₀) numbers i after
+Inv-loop numbers board inputs outputs gates₀ fanins₀ thresholds₀ signals₀ weights₀ drivers₀ count₀ kinds₀ step-signals₀ step-fanins₀ step-thresholds₀ feeds₀ step-weights₀ i₀ i-end gates fanins thresholds signals weights drivers count kinds step-signals step-fanins step-thresholds feeds step-weights i =
+    (i ≤ length numbers / 5)
+    × Reached (stateOf (recordParts (record { board = board; inputs = inputs; gates = gates₀; outputs = outputs }) fanins₀ thresholds₀ signals₀ weights₀ drivers₀ count₀ kinds₀ step-signals₀ step-fanins₀ step-thresholds₀ feeds₀ step-weights₀)) numbers i
+    (recordParts (record { board = board; inputs = inputs; gates = gates; outputs = outputs }) fanins thresholds signals weights drivers count kinds step-signals step-fanins step-thresholds feeds step-weights)
 
 abbrev μ-loop : tie.MeasureT-loop
-μ-loop numbers after₀ i₀ i-end after i = length numbers / 5 - i
+μ-loop numbers board inputs outputs gates₀ fanins₀ thresholds₀ signals₀ weights₀ drivers₀ count₀ kinds₀ step-signals₀ step-fanins₀ step-thresholds₀ feeds₀ step-weights₀ i₀ i-end gates fanins thresholds signals weights drivers count kinds step-signals step-fanins step-thresholds feeds step-weights i =
+    length numbers / 5 - i
 
-just-read-requires : tie.Need-just-read-requires Inv-loop μ-loop
-just-read-requires c κs = search needs
+-- the list's length is a machine number
+few : (c : tie.Start Inv-loop μ-loop) → length (now (c .args .numbers)) < 18446744073709551616
+few c = search needs
 
 loop-holds : tie.Need-loop-holds Inv-loop μ-loop
+unfolding justRead emptyJournal
 loop-holds c =
-    let s = c .before .before in
-    (zero-le, reached-none (s .args .numbers .now) (began-came (s .args .network) (s .pre .0) (c .just-read .ensures)))
+    let s = c .before .before .before .before .before .before .before in
+    (zero-le, reached-none (now (s .args .numbers)) (began-came (s .args .network) (s .pre .0) refl))
 
-step-requires : tie.Need-step-requires Inv-loop μ-loop
-step-requires c κs = (c .before .loop .inv .1 .came, omega arith)
+step-in-requires : tie.Need-step-in-requires Inv-loop μ-loop
+step-in-requires c κs = (
+  c .before .before .before .before .before .before .before .before .before .before .before
+      .before .loop .inv .1 .came,
+  omega (arith, c .before .before .before .before .before .before .before .before .before .before .before .loop-test .taken),
+)
 
 add-i : tie.Need-add-i Inv-loop μ-loop
-add-i c = search needs
+add-i c = omega (
+  arith,
+  c .before .before .before .before .before .before .before .before .before .before .before .before .loop-test .taken,
+  few (c
+      .before .before .before .before .before .before .before .before .before .before .before .before .before .before .before .before .before .before
+      .before .before .before),
+)
 
 loop-less : tie.Need-loop-less Inv-loop μ-loop
 loop-less c = search needs
 
 loop-again : tie.Need-loop-again Inv-loop μ-loop
 loop-again c =
-    let l = c .before .before .before .loop in
-    let r = c .before .before .before .before in
-    let a = r .before .before .args in
-    (omega arith, reached-next (stateOf (r .just-read .result)) (a .numbers .now) (l .i) (l .inv .1) (omega arith) (c .before .step .ensures))
+    let at = c .before .before .before .before .before .before .before .before .before .before .before .before .before in
+    let ns = now (at .before .before .before .before .before .before .before .before .args .numbers) in (
+      omega (
+        arith,
+        c .before .before .before .before .before .before .before .before .before .before .before
+            .before .loop-test .taken,
+      ),
+      reached-next _ ns (at .loop .i) (at .loop .inv .1) (omega (
+        arith,
+        c .before .before .before .before .before .before
+            .before .before .before .before .before .before .loop-test .taken,
+      )) (c .step-in .ensures),
+    )
 
 returns : tie.Need-returns Inv-loop μ-loop
+unfolding justRead emptyJournal
 returns c =
-    let l = c .before .before .loop in
-    let r = c .before .before .before in
-    let s = r .before .before in
-    let ns = s .args .numbers .now in
-    reached-end (stateOf (r .just-read .result)) ns (l .i) (l .inv .1) (s .pre .1) (c .before .loop-test .left)
-    ∙ ap (λ (q : State). layout (calls q (callsIn ns) .net)) (began-state (s .args .network) (s .pre .0) (r .just-read .ensures))
+    let at = c .before in
+    let s = at .before .before .before .before .before .before .before .before in
+    let ns = now (s .args .numbers) in
+    reached-end _ ns (at .loop .i) (at .loop .inv .1) (s .pre .1) (c .loop-test .left)
+    ∙ ap (λ (q : State). layout (calls q (callsIn ns) .net)) (began-state (s .args .network) (s .pre .0) refl)
 
 pub run-spec : {M : Type 1} → statement M
-run-spec = tie.close (tie.spec Inv-loop μ-loop just-read-requires loop-holds step-requires add-i loop-less loop-again returns)
+run-spec =
+    tie.close
+    (tie.spec Inv-loop μ-loop loop-holds step-in-requires add-i loop-less loop-again returns)

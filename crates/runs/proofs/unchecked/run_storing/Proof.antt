@@ -1,15 +1,17 @@
--- The loop's invariant: the rest of the list leads from here to the state after the whole list, and the answers of the calls before are
--- stored.
+-- The loop's invariant: the rest of the list leads from here to the state after the whole list, and the answers of the calls before are stored. Assumes nothing.
 use borrow.Author.Needs.{needs}
-use mathlib.Core.Path.{subst, sym, ap, _∙_}
+use mathlib.Core.Path.{refl, sym, ap, _∙_, subst}
 use Prim.Native.Nat.{_+_, _*_, _-_, _/_, _<_, _≤_, zero-le}
 use native.Mathlib.Omega.{arith}
 use lib.ListN.{length}
 use lib.Seq.{paste}
+use denote.Ref.{now}
 use Rattle.network.specs.Record.{layout}
 use Rattle.history.specs.Steps.{State}
 use Rattle.history.specs.Calls.{calls}
-use Rattle.journal.specs.Records.{stateOf}
+use Rattle.journal.specs.Journals.{emptyJournal}
+use Rattle.journal.specs.Records.{stateOf, justRead}
+use Rattle.journal.specs.Parts.{recordParts}
 use Rattle.runs.specs.Runs.{callsIn, answersOf}
 use Rattle.runs.specs.RunLaws.{count-calls}
 use Rattle.runs.proofs.RunTurns.{Reached, Answered, began-came, began-state, reached-none, reached-next, reached-end}
@@ -18,80 +20,108 @@ use Rattle.runs.proofs.unchecked.run_storing.Statement.{statement}
 use Rattle.runs.proofs.unchecked.run_storing.Tie as tie
 
 abbrev Inv-loop : tie.InvT-loop
-Inv-loop numbers answers₀ after₀ i₀ i-end answers after i =
-    (i ≤ length numbers / 5) × Reached (stateOf after₀) numbers i after × Answered (stateOf after₀) numbers i after answers₀ answers
+Inv-loop numbers answers₀ board inputs outputs gates₀ fanins₀ thresholds₀ signals₀ weights₀ drivers₀ count₀ kinds₀ step-signals₀ step-fanins₀ step-thresholds₀ feeds₀ step-weights₀ i₀ i-end answers gates fanins thresholds signals weights drivers count kinds step-signals step-fanins step-thresholds feeds step-weights i =
+    let q = stateOf (recordParts (record { board = board; inputs = inputs; gates = gates₀; outputs = outputs }) fanins₀ thresholds₀ signals₀ weights₀ drivers₀ count₀ kinds₀ step-signals₀ step-fanins₀ step-thresholds₀ feeds₀ step-weights₀) in
+    let r = (recordParts (record { board = board; inputs = inputs; gates = gates; outputs = outputs }) fanins thresholds signals weights drivers count kinds step-signals step-fanins step-thresholds feeds step-weights) in
+    (i ≤ length numbers / 5) × Reached q numbers i r × Answered q numbers i r answers₀ answers
 
 abbrev μ-loop : tie.MeasureT-loop
-μ-loop numbers answers₀ after₀ i₀ i-end answers after i = length numbers / 5 - i
-
-just-read-requires : tie.Need-just-read-requires Inv-loop μ-loop
-just-read-requires c κs = search needs
-
-loop-holds : tie.Need-loop-holds Inv-loop μ-loop
-loop-holds c =
-    let s = c .before .before .before in
-    let ns = s .args .numbers .now in (
-      zero-le,
-      reached-none ns (began-came (s .args .network) (s .pre .0) (c .just-read .ensures)),
-      answered-none ns (c .just-read .result) (s .args .answers .now),
-    )
+μ-loop numbers answers₀ board inputs outputs gates₀ fanins₀ thresholds₀ signals₀ weights₀ drivers₀ count₀ kinds₀ step-signals₀ step-fanins₀ step-thresholds₀ feeds₀ step-weights₀ i₀ i-end answers gates fanins thresholds signals weights drivers count kinds step-signals step-fanins step-thresholds feeds step-weights i =
+    length numbers / 5 - i
 
 -- call i and its four places are there
-bounds : (c : tie.In-loop Inv-loop μ-loop) → let a = c .before .before .before .before .before .args in
-    (5 * c .before .loop .i + 5 ≤ length (a .numbers .now)) × (4 * c .before .loop .i + 4 < length (a .answers .now))
+bounds : (c : tie.In-loop Inv-loop μ-loop) → let a = c .before .before .before .before .before .before .before .before .before .before .args in
+    (5 * c .before .loop .i + 5 ≤ length (now (a .numbers))) × (4 * c .before .loop .i + 4 < length (now (a .answers)))
 bounds c =
-    let s = c .before .before .before .before .before in
-    omega (arith, count-calls (s .args .numbers .now) (s .pre .1 .0))
+    let s = c .before .before .before .before .before .before .before .before .before .before in
+    omega (arith, count-calls (now (s .args .numbers)) (s .pre .1 .0), s .pre .1 .1, c .loop-test .taken)
 
-step-requires : tie.Need-step-requires Inv-loop μ-loop
-step-requires c κs = (c .before .loop .inv .1 .came, bounds c .0)
+-- the list's length is a machine number
+few : (c : tie.Start Inv-loop μ-loop) → length (now (c .args .numbers)) < 18446744073709551616
+few c = search needs
+
+loop-holds : tie.Need-loop-holds Inv-loop μ-loop
+unfolding justRead emptyJournal
+loop-holds c =
+    let s = c .before .before .before .before .before .before .before .before in
+    let ns = now (s .args .numbers) in
+    (zero-le, reached-none ns (began-came (s .args .network) (s .pre .0) refl), answered-none ns _ (now (s .args .answers)))
+
+step-in-requires : tie.Need-step-in-requires Inv-loop μ-loop
+step-in-requires c κs = (
+  c .before .before .before .before .before .before .before .before .before .before .before .before .loop .inv .1 .came,
+  bounds
+      (c .before .before .before .before .before .before .before .before .before .before .before) .0,
+)
 
 mul-put-four : tie.Need-mul-put-four Inv-loop μ-loop
-mul-put-four c = search needs
+mul-put-four c = omega (
+  arith,
+  c .before .before .before .before .before .before .before .before .before .before .before .before .before
+      .before .loop-test .taken,
+  few (c .before .before .before .before .before .before .before .before .before .before .before .before .before .before
+      .before .before .before .before .before .before .before .before .before .before),
+)
 
 add-put-four : tie.Need-add-put-four Inv-loop μ-loop
-add-put-four c = search needs
+add-put-four c = omega (
+  arith,
+  c .before .before .before .before .before .before .before .before .before .before .before .before .before
+      .before .loop-test .taken,
+  few (c .before .before .before .before .before .before .before .before .before .before .before .before .before .before
+      .before .before .before .before .before .before .before .before .before .before),
+)
 
 put-four-requires : tie.Need-put-four-requires Inv-loop μ-loop
-put-four-requires c κs = omega (arith, c .before .before .before .before .loop .inv .2 .long, bounds (c .before .before .before))
+put-four-requires c κs = omega (
+  arith,
+  c .before .before .before .before .before .before .before .before .before .before .before .before .before
+      .before .before .loop .inv .2 .long,
+  bounds (c .before .before .before .before .before .before .before .before .before .before .before .before
+      .before .before),
+)
 
 add-i : tie.Need-add-i Inv-loop μ-loop
-add-i c = search needs
+add-i c = omega (
+  arith,
+  c .before .before .before .before .before .before .before .before .before .before .before .before .before .before .before
+      .before .before .loop-test .taken,
+  few (c .before .before .before .before .before .before .before .before .before .before .before .before .before
+      .before .before .before .before .before .before .before .before .before .before .before .before .before .before),
+)
 
 loop-less : tie.Need-loop-less Inv-loop μ-loop
 loop-less c = search needs
 
 loop-again : tie.Need-loop-again Inv-loop μ-loop
 loop-again c =
-    let turn = c .before .before .before .before .before .before .before in
-    let l = turn .before .loop in
-    let r = turn .before .before in
-    let q = stateOf (r .just-read .result) in
-    let a = r .before .before .before .args in
-    let ns = a .numbers .now in
-    let s = c .before .before .before .before .before .before .step .ensures in
+    let turn = c .before .before .before .before .before .before .before .before .before .before .before .before .before .before .before .before .before in
+    let at = turn .before in
+    let s = at .before .before .before .before .before .before .before .before .before in
+    let ns = now (s .args .numbers) in
+    let l = at .loop in
+    let stepped = c .before .before .before .before .before .step-in .ensures in
     let b = bounds turn in (
-      omega arith,
-      reached-next q ns (l .i) (l .inv .1) (b .0) s,
-      subst (Answered q ns (l .i + 1) (c .before .before .before .before .before .before .step .result .after) (a .answers .now))
-          (sym (c .before .before .before .put-four .ensures))
-          (answered-next q ns (l .i) (l .inv .1) (l .inv .2) (b .0) (b .1) s),
+      omega (arith, turn .loop-test .taken),
+      reached-next _ ns (l .i) (l .inv .1) (b .0) stepped,
+      subst (Answered _ ns (l .i + 1) _ (now (s .args .answers))) (sym (c .before .before .put-four .ensures))
+          (answered-next _ ns (l .i) (l .inv .1) (l .inv .2) (b .0) (b .1) stepped),
     )
 
 same-length : tie.Need-same-length Inv-loop μ-loop
-same-length c = c .before .before .loop .inv .2 .long
+same-length c = c .before .loop .inv .2 .long
 
 returns : tie.Need-returns Inv-loop μ-loop
+unfolding justRead emptyJournal
 returns c =
-    let l = c .before .before .loop in
-    let r = c .before .before .before in
-    let s = r .before .before .before in
-    let q = stateOf (r .just-read .result) in
-    let ns = s .args .numbers .now in
-    let lent = s .args .answers .now in
-    let e = began-state (s .args .network) (s .pre .0) (r .just-read .ensures) in (
-      reached-end q ns (l .i) (l .inv .1) (s .pre .1 .0) (c .before .loop-test .left) ∙ ap (λ (p : State). layout (calls p (callsIn ns) .net)) e,
-      answered-end q ns (l .i) (l .inv .1) (l .inv .2) (omega (arith, count-calls ns (s .pre .1 .0)))
+    let at = c .before in
+    let s = at .before .before .before .before .before .before .before .before .before in
+    let ns = now (s .args .numbers) in
+    let lent = now (s .args .answers) in
+    let l = at .loop in
+    let e = began-state (s .args .network) (s .pre .0) refl in (
+      reached-end _ ns (l .i) (l .inv .1) (s .pre .1 .0) (c .loop-test .left) ∙ ap (λ (p : State). layout (calls p (callsIn ns) .net)) e,
+      answered-end _ ns (l .i) (l .inv .1) (l .inv .2) (omega (arith, count-calls ns (s .pre .1 .0), c .loop-test .left))
           ∙ ap (λ (p : State). paste lent 1 (answersOf p (callsIn ns)) (4 * length (callsIn ns))) e,
     )
 
@@ -101,9 +131,8 @@ run-storing-spec =
     (tie.spec
     Inv-loop
     μ-loop
-    just-read-requires
     loop-holds
-    step-requires
+    step-in-requires
     mul-put-four
     add-put-four
     put-four-requires

@@ -5,11 +5,14 @@ use mathlib.Core.Bool.{_||_, true≢false, false≢true}
 use Prim.Native.Nat.{_+_, _-_, _≤_, _<_}
 use native.Mathlib.Omega.{arith}
 use lib.Dec.{ltb}
+use denote.Ref.{now}
+use Rattle.integers.specs.Refusals.{Refused}
 use Rattle.integers.specs.TestLaws.{T-is}
 use Rattle.network.specs.Record.{netOf, soundRecord}
-use Rattle.network.specs.SoundLaws.{sized-of, sound-board}
+use Rattle.network.specs.SoundLaws.{Sized, sized-of, sound-board}
+use Rattle.network.specs.declared.Network.{Network}
+use Rattle.places.specs.Parts.{fromParts}
 use Rattle.folding.specs.Sweep.{readers, sweepFrom, sweepOnce}
-use Rattle.integers.specs.Refusals.{Refused}
 use Rattle.merging.specs.Readers.{occurs}
 use Rattle.merging.specs.LentLaws.{lent-of, lent-counted}
 use Rattle.collapse.specs.FuseLaws.{tried-refused}
@@ -19,67 +22,77 @@ use Rattle.sweeping.proofs.unchecked.lowest_foldable.Statement.{stateme
 use Rattle.sweeping.proofs.unchecked.lowest_foldable.Tie as tie
 
 abbrev Inv-loop : tie.InvT-loop
-Inv-loop b hints₀ network board inputs gates outputs g₀ hints g =
-    (g ≤ gates) × (sweepFrom (netOf network) b (inputs + g) (gates - g) ≡ sweepOnce (netOf network) b) × LowerRefused (netOf network) b inputs g
+Inv-loop head fanins thresholds signals weights drivers b hints₀ board g₀ g-end hints g =
+    let N = netOf (fromParts head fanins thresholds signals weights drivers) in
+    (g ≤ g-end) × (sweepFrom N b (head .inputs + g) (head .gates - g) ≡ sweepOnce N b) × LowerRefused N b (head .inputs) g
 
 abbrev μ-loop : tie.MeasureT-loop
-μ-loop b hints₀ network board inputs gates outputs g₀ hints g = gates - g
+μ-loop head fanins thresholds signals weights drivers b hints₀ board g₀ g-end hints g = g-end - g
 
-loop-holds : tie.Need-loop-holds Inv-loop μ-loop
-loop-holds c = (omega arith, sweep-start (c .before .args .t1) (c .before .args .b), lower-none _ _ _)
+-- the record whose arrays are lent
+abbrev recordAt : tie.Start Inv-loop μ-loop → Network
+recordAt c = let a = c .args in fromParts (a .head) (now (a .fanins)) (now (a .thresholds)) (now (a .signals)) (now (a .weights)) (now (a .drivers))
 
-add-u : tie.Need-add-u Inv-loop μ-loop
-add-u c = let z = sized-of _ (c .before .before .before .pre) in omega (arith, z .few-inputs, z .few-gates)
-
-count-readers-requires : tie.Need-count-readers-requires Inv-loop μ-loop
-count-readers-requires c κs = lent-counted (lent-of _ (T-is (soundRecord _) (c .before .before .before .before .before .before .pre)))
-
-is-output-requires : tie.Need-is-output-requires Inv-loop μ-loop
-is-output-requires c κs = sized-of _ (c .before .before .before .before .before .before .before .before .before .pre) .few-outputs
+sizes : (c : tie.At-loop Inv-loop μ-loop) → Sized (recordAt (c .before .before))
+sizes c = sized-of (recordAt (c .before .before)) (c .before .before .pre)
 
 -- every place of the hints fits
 under : (c : tie.In-loop Inv-loop μ-loop) → c .before .loop .g < 128
-under c = omega (arith, c .loop-test .taken, sized-of _ (c .before .before .before .pre) .few-gates)
+under c = omega (arith, c .loop-test .taken, sizes (c .before) .few-gates)
 
 -- the first test, of the network
-test : (c : tie.After-is-output Inv-loop μ-loop) → let turn = c .before .before .before .before .before .before .before in
-    let a = turn .before .before .before .args in
-    let u = a .t1 .inputs + turn .before .loop .g in
-    ltb (a .b) (c .before .before .before .count-readers .result) || c .is-output .result
-    ≡ ltb (a .b) (readers (netOf (a .t1)) u) || occurs (a .t1 .drivers) 0 (a .t1 .outputs) u
+test : (c : tie.After-is-output Inv-loop μ-loop) → let turn = c .before .before .before in
+    let start = turn .before .before .before in
+    let r = recordAt start in
+    let u = r .inputs + turn .before .loop .g in
+    ltb (start .args .b) (c .before .count-readers .result) || c .is-output .result
+    ≡ ltb (start .args .b) (readers (netOf r) u) || occurs (r .drivers) 0 (r .outputs) u
 unfolding readers netOf
 test c =
-    let r = c .before .before .before .before .before .before .before .before .before .before .args .t1 in
-    rw (c .before .before .before .count-readers .ensures (r .thresholds) (r .weights), c .is-output .ensures)
+    let a = c .before .before .before .before .before .before .args in
+    rw (c .before .count-readers .ensures (now (a .thresholds)) (now (a .weights)), c .is-output .ensures)
+
+loop-holds : tie.Need-loop-holds Inv-loop μ-loop
+loop-holds c = (omega arith, sweep-start (recordAt (c .before)) (c .before .args .b), lower-none _ _ _)
+
+add-u : tie.Need-add-u Inv-loop μ-loop
+add-u c = let turn = c .before in let z = sizes (turn .before) in omega (arith, z .few-inputs, z .few-gates, turn .loop-test .taken)
+
+count-readers-requires : tie.Need-count-readers-requires Inv-loop μ-loop
+count-readers-requires c κs = lent-counted (lent-of _ (T-is (soundRecord _) (c .before .before .before .before .pre)))
+
+is-output-requires : tie.Need-is-output-requires Inv-loop μ-loop
+is-output-requires c κs = sizes (c .before .before .before) .few-outputs
 
 add-g : tie.Need-add-g Inv-loop μ-loop
-add-g c = omega (arith, under (c .before .before .before .before .before .before .before .before))
+add-g c = omega (arith, under (c .before .before .before .before))
 
 loop-less : tie.Need-loop-less Inv-loop μ-loop
-loop-less c = omega (arith, c .before .before .before .before .before .before .before .before .loop-test .taken)
+loop-less c = omega (arith, c .before .before .before .before .loop-test .taken)
 
 loop-again : tie.Need-loop-again Inv-loop μ-loop
 loop-again c =
-    let turn = c .before .before .before .before .before .before .before .before in
+    let turn = c .before .before .before .before in
     let start = turn .before .before .before in
     let loop = turn .before .loop in
     let barred = sym (test (c .before)) ∙ c .if1 .taken in (
       omega (arith, turn .loop-test .taken),
-      sym (pass-barred (start .args .t1) (start .args .b) (loop .g) (start .pre) (turn .loop-test .taken) barred) ∙ loop .inv .1,
-      lower-more _ _ _ (loop .g) (loop .inv .2) (barred-refused (start .args .t1) (start .args .b) (loop .g) (start .pre) (turn .loop-test .taken) barred),
+      sym (pass-barred (recordAt start) (start .args .b) (loop .g) (start .pre) (turn .loop-test .taken) barred) ∙ loop .inv .1,
+      lower-more _ _ _ (loop .g) (loop .inv .2) (barred-refused (recordAt start) (start .args .b) (loop .g) (start .pre) (turn .loop-test .taken) barred),
     )
 
 element-copy-out-wide : tie.Need-element-copy-out-wide Inv-loop μ-loop
-element-copy-out-wide c = under (c .before .before .before .before .before .before .before .before)
+element-copy-out-wide c = under (c .before .before .before .before)
 
 wide-requires : tie.Need-wide-requires Inv-loop μ-loop
 wide-requires c κs = search needs
 
 hinted-pairs-requires : tie.Need-hinted-pairs-requires Inv-loop μ-loop
 hinted-pairs-requires c κs =
-    let turn = c .before .before .before .before .before .before .before .before .before .before .before .before .before .before .before in
-    let lent = lent-of _ (T-is (soundRecord _) (turn .before .before .before .pre)) in
-    (lent, record { low = omega arith; high = omega (arith, turn .loop-test .taken) }, sound-board _ (turn .before .before .before .pre))
+    let turn = c .before .before .before .before .before .before in
+    let start = turn .before .before .before in
+    let lent = lent-of _ (T-is (soundRecord _) (start .pre)) in
+    (lent, record { low = omega arith; high = omega (arith, turn .loop-test .taken) }, sound-board (recordAt start) (start .pre))
 
 lower-hints-requires : tie.Need-lower-hints-requires Inv-loop μ-loop
 lower-hints-requires c κs = search needs
@@ -87,41 +100,44 @@ lower-hints-requires c κs = search needs
 returns : tie.Need-returns Inv-loop μ-loop
 returns c =
     let here = c .before .before in
-    let else = here .before .before .before .before .before .before .before .before .before in
-    let turn = else .before .before .before .before .before .before .before .before in
+    let else = here .before .before .before .before in
+    let turn = else .before .before .before .before in
     let start = turn .before .before .before in
     let loop = turn .before .loop in
     record {
-      next = λ t. taken (start .args .t1) (start .args .b) (loop .g) (start .pre) (turn .loop-test .taken) (sym (test (else .before)) ∙ else .if1 .left)
+      next = λ t. taken (recordAt start) (start .args .b) (loop .g) (start .pre) (turn .loop-test .taken) (sym (test (else .before)) ∙ else .if1 .left)
           (here .before .hinted-pairs .result) (here .before .hinted-pairs .ensures .found (here .if2 .taken)) (loop .inv .2) (loop .inv .1);
       none = λ t. absurd (true≢false t);
     }
 
 cast-hints : tie.Need-cast-hints Inv-loop μ-loop
-cast-hints c =
-    let turn = c .before .before .before .before .before .before .before .before .before .before .before .before .before .before .before .before .before in
-    omega (arith, c .before .hinted-pairs .ensures .refuses (c .if2 .left) .within, sized-of _ (turn .before .before .before .pre) .few-gates)
+cast-hints c = omega (
+  arith,
+  c .before .hinted-pairs .ensures .refuses (c .if2 .left) .within,
+  sizes (c .before .before .before .before .before .before
+      .before .before .before) .few-gates,
+)
 
 element-write-hints : tie.Need-element-write-hints Inv-loop μ-loop
-element-write-hints c = under (c .before .before .before .before .before .before .before .before .before .before .before .before .before .before .before .before .before)
+element-write-hints c = under (c .before .before .before .before .before .before .before .before)
 
 add-g-2 : tie.Need-add-g-2 Inv-loop μ-loop
-add-g-2 c = omega (arith, under (c .before .before .before .before .before .before .before .before .before .before .before .before .before .before .before .before .before))
+add-g-2 c = omega (arith, under (c .before .before .before .before .before .before .before .before))
 
 loop-less-2 : tie.Need-loop-less-2 Inv-loop μ-loop
-loop-less-2 c = omega (arith, c .before .before .before .before .before .before .before .before .before .before .before .before .before .before .before .before .before .loop-test .taken)
+loop-less-2 c = omega (arith, c .before .before .before .before .before .before .before .before .loop-test .taken)
 
 loop-again-2 : tie.Need-loop-again-2 Inv-loop μ-loop
 loop-again-2 c =
-    let else = c .before .before .before .before .before .before .before .before .before in
-    let turn = else .before .before .before .before .before .before .before .before in
+    let else = c .before .before .before .before in
+    let turn = else .before .before .before .before in
     let start = turn .before .before .before in
     let loop = turn .before .loop in
     let free = sym (test (else .before)) ∙ else .if1 .left in
     let none = tried-refused _ _ _ _ _ _ (c .before .hinted-pairs .ensures) (c .if2 .left) in (
       omega (arith, turn .loop-test .taken),
-      sym (pass-refused (start .args .t1) (start .args .b) (loop .g) (start .pre) (turn .loop-test .taken) free none) ∙ loop .inv .1,
-      lower-more _ _ _ (loop .g) (loop .inv .2) (pairs-refused (start .args .t1) (start .args .b) (loop .g) (start .pre) (turn .loop-test .taken) free none),
+      sym (pass-refused (recordAt start) (start .args .b) (loop .g) (start .pre) (turn .loop-test .taken) free none) ∙ loop .inv .1,
+      lower-more _ _ _ (loop .g) (loop .inv .2) (pairs-refused (recordAt start) (start .args .b) (loop .g) (start .pre) (turn .loop-test .taken) free none),
     )
 
 no-pairs-requires : tie.Need-no-pairs-requires Inv-loop μ-loop
@@ -133,7 +149,7 @@ returns-2 c =
     let loop = c .before .before .loop in
     record {
       next = λ t. absurd (false≢true t);
-      none = λ t. subst Refused (loop .inv .1) (turn-end (netOf (start .args .t1)) (start .args .b) _ _ (loop .g) (c .before .loop-test .left));
+      none = λ t. subst Refused (loop .inv .1) (turn-end (netOf (recordAt start)) (start .args .b) _ _ (loop .g) (c .before .loop-test .left));
     }
 
 pub lowest-foldable-spec : {M : Type 1} → statement M
