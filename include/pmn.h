@@ -1,7 +1,7 @@
 /* The folder's functions for C: threshold networks in PMN files (libcapi.a).
  *
  * Every function takes whole files, of version 1 or 2, and numbers, and answers 0 or the number of a refusal (the table of codes in
- * document 01; 22, 24, 25 and 26 are from document 02). The numbers 13 and 23 are never given.
+ * document 01; 22 and 24 to 29 are from document 02). The numbers 13 and 23 are never given.
  * A slice is a pointer and then a length, in bytes for uint8_t and in numbers for uint64_t and int64_t. A slice that is written overlaps
  * no other slice of the same call. A pointer is not null, even where the length is 0.
  *
@@ -33,6 +33,18 @@ uint8_t pmn_frame(const uint8_t *file, size_t file_length, uint64_t frame,
 uint8_t pmn_frames(const uint8_t *file, size_t file_length,
                    const uint64_t *frames, size_t frames_length,
                    uint64_t *answers, size_t answers_length);
+
+/* Scores one bowler's game by ten-pin rules, from the frames after each ball. The first ten outputs are the pins, 1 for standing; further
+ * outputs are passed over. A strike adds the next two balls, a spare the next one, and the tenth frame has up to three balls, with a fresh
+ * rack after a strike or spare. answer[0]: how many balls there are; answer[1]: how many frames have a score, that is, are finished and
+ * have their bonus balls; from answer[2] on: the pins felled by each ball, 21 places; from answer[23] on: the running score of each frame
+ * that has one, ten places. Of these 33 places those that are not needed get 0. The game may be unfinished, or have no ball yet.
+ * Codes in order: as read, 18 where answer has under 33 places, 27 where the network has fewer than ten outputs, also for a game without
+ * balls; then ball by ball: 10, 28 for a ball after the game's end, 29 for a pin that stands after a ball without having stood before it
+ * in the same rack. So an earlier ball's 29 comes before a later ball's 10. */
+uint8_t pmn_score(const uint8_t *file, size_t file_length,
+                  const uint64_t *frames, size_t frames_length,
+                  uint64_t *answer, size_t answer_length);
 
 /* The pair for the gates with signals u and v. answer[0]: k; answer[1]: l.
  * Codes in order: as read, 18 where answer has under 2 places, 11, 12, 7, 16. */

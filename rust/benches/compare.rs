@@ -1,6 +1,6 @@
 //! Times of the proved library on the same inputs as the independent implementation, which tries everything, and as the exact method, which
 //! finds a pair by one pass over its settings: in one process, and their ratios. All rows, or those of the kinds named on the command line:
-//! file, preview, cut, frames, witness, pair, sweep, margins, alley, merge, undo.
+//! file, preview, cut, score, frames, witness, pair, sweep, margins, alley, merge, undo.
 use std::env;
 use std::fs::{self, File};
 use std::hint::black_box;
@@ -11,7 +11,7 @@ use yovrenik_tests::direct;
 use yovrenik_tests::exact;
 use yovrenik_tests::generate::{
     fan, folding_chain, full_folding, full_standing, heavier, largest, largest_tolerant, last_setting_only, lattice, lit_from, mirrored,
-    mixed_chain, most_passes, narrow, network, ratio_31_32, standing_chain, Random,
+    mixed_chain, most_passes, narrow, network, pins, ratio_31_32, standing_chain, Random,
 };
 use yovrenik_tests::reference::{self, Board, Net, Record};
 
@@ -194,6 +194,31 @@ fn frames_rows() {
         let cells = [(pass, readings), (pass, theirs), (together, single)].map(|(one, all)| format!("{} | {}", text(all), ratio(one, all)));
         println!("| {count} | {} | {} | {} | {} | {} |", text(pass), cells[0], cells[1], text(together), cells[2]);
     }
+}
+
+/// The row of a game, the call less the read.
+fn score_row(name: &str, net: &Net, shots: &[u64]) {
+    let file = reference::write(net);
+    let want = reference::score(net, shots).unwrap();
+    let mut answer = [0u64; 33];
+    let [read, ours, theirs] = times([
+        &mut || assert_eq!(library::check(black_box(&file)), 0),
+        &mut || assert_eq!(library::score(black_box(&file), black_box(shots), &mut answer), 0),
+        &mut || drop(black_box(reference::score(black_box(net), black_box(shots)))),
+    ]);
+    assert_eq!((answer[0], answer[22 + answer[1] as usize]), (shots.len() as u64, *want.scores.last().unwrap()));
+    row(&format!("{name} (the call less the read)"), ours.saturating_sub(read), theirs);
+}
+
+fn score_rows() {
+    let mut r = Random::new(9);
+    let full = largest(&mut r);
+    let leaves_some = |x: &u64| ![0, 1023].contains(&(reference::frame(&full, *x).unwrap().0 & 1023));
+    let x = (0..).map(|_| r.next() >> (64 - full.inputs)).find(leaves_some).unwrap();
+    score_row("game of 20 balls on a full network", &full, &[x; 20]);
+    let spares = [&[[31, 0]; 10].concat()[..], &[31]].concat();
+    score_row("game of 21 balls on ten gates", &pins(&mut r, 1), &spares);
+    score_row("twelve strikes on 100 gates", &pins(&mut r, 10), &[0; 12]);
 }
 
 /// The row of a pair of the two gates of a network, and the library's time.
@@ -481,7 +506,10 @@ fn table(head: &str, kinds: &[(&str, fn())]) {
 }
 
 fn main() {
-    table("| on | library | independent | ratio |", &[("file", file_rows), ("preview", preview_rows), ("cut", cut_rows)]);
+    table(
+        "| on | library | independent | ratio |",
+        &[("file", file_rows), ("preview", preview_rows), ("cut", cut_rows), ("score", score_rows)],
+    );
     table(
         "| frames | one pass | single readings | ratio | independent | ratio | one call | single calls | ratio |",
         &[("frames", frames_rows)],

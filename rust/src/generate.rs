@@ -259,6 +259,34 @@ pub fn alternating(net: &Net) -> Net {
     gates.filter(|u| !net.outputs.contains(u)).fold(net.clone(), |net, u| mirrored(&net, u).unwrap())
 }
 
+// ---- networks for games
+
+/// Ten pins: gates that each copy the signal so many below their own, in layers of ten over ten inputs or more, and a first output for each
+/// gate of the last layer, with any outputs after these.
+pub fn pins(r: &mut Random, layers: usize) -> Net {
+    let inputs = 10 + r.below(4) as usize;
+    let gates = 10 * layers;
+    let copy = |r: &mut Random, g: usize| {
+        let weight = r.between(1, 3);
+        let below = if g < 10 { g } else { inputs + g - 10 };
+        Gate { feeds: vec![(below, weight)], threshold: r.between(1, weight) }
+    };
+    let gates: Vec<Gate> = (0..gates).map(|g| copy(r, g)).collect();
+    let outputs = (inputs + gates.len() - 10..inputs + gates.len()).collect();
+    let net = Net { board: Board::VERSION_1, inputs, gates, outputs };
+    let more = r.below(7) as usize;
+    with_outputs(r, net, 10 + more)
+}
+
+/// The network with outputs at any gates after its own, so many in all.
+pub fn with_outputs(r: &mut Random, mut net: Net, count: usize) -> Net {
+    while net.outputs.len() < count {
+        let gate = r.below(net.gates.len() as u64) as usize;
+        net.outputs.push(net.inputs + gate);
+    }
+    net
+}
+
 // ---- networks with margins
 
 /// The widest margins that every gate keeps, each up to 255: the sums that reach T are so far above it, all others so far below.

@@ -19,6 +19,14 @@ mod raw {
             answers: *mut u64,
             answers_length: usize,
         ) -> u8;
+        pub fn pmn_score(
+            file: *const u8,
+            file_length: usize,
+            frames: *const u64,
+            frames_length: usize,
+            answer: *mut u64,
+            answer_length: usize,
+        ) -> u8;
         pub fn pmn_pair(file: *const u8, file_length: usize, u: u64, v: u64, answer: *mut u64, answer_length: usize) -> u8;
         pub fn pmn_witness(
             file: *const u8,
@@ -95,6 +103,10 @@ pub fn frame(file: &[u8], frame: u64, answer: &mut [u64]) -> u8 {
 
 pub fn frames(file: &[u8], frames: &[u64], answers: &mut [u64]) -> u8 {
     unsafe { raw::pmn_frames(file.as_ptr(), file.len(), frames.as_ptr(), frames.len(), answers.as_mut_ptr(), answers.len()) }
+}
+
+pub fn score(file: &[u8], frames: &[u64], answer: &mut [u64]) -> u8 {
+    unsafe { raw::pmn_score(file.as_ptr(), file.len(), frames.as_ptr(), frames.len(), answer.as_mut_ptr(), answer.len()) }
 }
 
 pub fn pair(file: &[u8], u: u64, v: u64, answer: &mut [u64]) -> u8 {

@@ -248,6 +248,80 @@ pub fn frames(net: &Net, frames: &[u64], places: usize) -> Answer<Vec<u64>> {
     frames.iter().map(|&x| frame(net, x).map(|(bits, _)| bits)).collect()
 }
 
+// ---- scores
+
+/// A game so far: the pins felled by each ball, and the running score of every finished frame whose bonus balls are known.
+#[derive(Clone, PartialEq, Eq, Debug)]
+pub struct Sheet {
+    pub felled: Vec<u64>,
+    pub scores: Vec<u64>,
+}
+
+/// The pins that stand after a ball, out of those that stood before it: "ball by ball comes 10, .. then 29".
+fn standing_after(net: &Net, x: u64, rack: &BTreeSet<usize>) -> Answer<BTreeSet<usize>> {
+    let (bits, _) = frame(net, x)?;
+    let standing: BTreeSet<usize> = (0..10).filter(|pin| bits >> pin & 1 == 1).collect();
+    if standing.is_subset(rack) {
+        Ok(standing)
+    } else {
+        Err(29)
+    }
+}
+
+/// The balls of one frame, as many as are thrown: two, or one where it is a strike; in the tenth a third after a strike or a spare.
+fn balls_of_frame(net: &Net, tenth: bool, shots: &mut dyn Iterator<Item = u64>) -> Answer<Vec<u64>> {
+    let full: BTreeSet<usize> = (0..10).collect();
+    let mut rack = full.clone();
+    let mut balls: Vec<u64> = vec![];
+    loop {
+        let more = match balls[..] {
+            [] => true,
+            [10] => tenth,
+            [_] => true,
+            [10, _] => tenth,
+            [first, second] => tenth && first + second == 10,
+            _ => false,
+        };
+        if !more {
+            return Ok(balls);
+        }
+        let Some(x) = shots.next() else { return Ok(balls) };
+        let standing = standing_after(net, x, &rack)?;
+        balls.push((rack.len() - standing.len()) as u64);
+        rack = if standing.is_empty() { full.clone() } else { standing };
+    }
+}
+
+/// The score of a frame by itself, with the balls thrown after it, where it is finished and its bonus balls are known.
+fn frame_score(tenth: bool, balls: &[u64], later: &[u64]) -> Option<u64> {
+    match *balls {
+        [10] if !tenth => Some(10 + later.first()? + later.get(1)?),
+        [first, second] if first + second < 10 => Some(first + second),
+        [_, _] if !tenth => Some(10 + later.first()?),
+        [first, second, third] => Some(first + second + third),
+        _ => None,
+    }
+}
+
+/// The sheet of a game, from the frames after each ball.
+pub fn score(net: &Net, shots: &[u64]) -> Answer<Sheet> {
+    if net.outputs.len() < 10 {
+        return Err(27);
+    }
+    let mut shots = shots.iter().copied();
+    let frames = (1..=10).map(|number| balls_of_frame(net, number == 10, &mut shots)).collect::<Answer<Vec<_>>>()?;
+    if let Some(x) = shots.next() {
+        frame(net, x)?;
+        return Err(28);
+    }
+    let known = (0..10).map_while(|i| frame_score(i == 9, &frames[i], &frames[i + 1..].concat()));
+    let scores = known.scan(0, |sum, score| {
+        *sum += score;
+        Some(*sum)
+    });
+    Ok(Sheet { scores: scores.collect(), felled: frames.concat() })
+}
+
 // ---- merge, pair, drop, collapse, sweep
 
 /// u and v with the weight b, and the distinct feeds.

@@ -131,6 +131,7 @@ fn other_calls() {
             library::check(&file);
             library::frame(&file, 0, &mut answer);
             library::frames(&file, &[0; 64], &mut answer);
+            library::score(&file, &[0; 12], &mut answer);
             library::report(&file, &mut answer);
             library::write(&file, &mut out, &mut answer);
             library::convert(&file, &mut out, &mut answer);

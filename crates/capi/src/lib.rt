@@ -8,6 +8,7 @@ ghost use Rattle.cut.specs.Answers.{cutPlaces};
 ghost use Rattle.frames.specs.Frames.{fileFrames};
 ghost use Rattle.opening.specs.Files.{readNet, openNet, lengthOf};
 ghost use Rattle.preview.specs.Files.{previewPlaces};
+ghost use Rattle.scorer.specs.Answers.{scorePlaces};
 ghost use Rattle.three_feeds.specs.Places.{entryPlaces};
 ghost use Rattle.witness.specs.Files.{WitnessLeft, distinctPlaces};
 ghost use Rattle.capi.specs.Exports.{framePlaces, pairPlaces, reportPlaces, fileOut, partOut, lineOut};
@@ -44,6 +45,16 @@ pub extern "C" fn pmn_frames(file: &[u8], frames: &[u64], answers: &mut [u64]) -
     ensures { λ _. ⌜ now (answers .exit) ≡ stored (fileFrames (now (file .entry)) (now (frames .entry)) (now (answers .entry))) (now (answers .entry)) ⌝ }
 {
     frames::files::read_file_frames(file, frames, answers)
+}
+
+// A game is scored from the frames after each ball: the number of balls goes into place 0 of the answer, the number of scores known into
+// place 1, the pins felled by each ball into the next 21, the running scores into the ten after these.
+#[no_mangle]
+pub extern "C" fn pmn_score(file: &[u8], frames: &[u64], answer: &mut [u64]) -> u8
+    ensures { λ r. ⌜ r ≡ codeOf (scorePlaces (now (file .entry)) (now (frames .entry)) (length (now (answer .entry)))) ⌝ }
+    ensures { λ _. ⌜ now (answer .exit) ≡ stored (scorePlaces (now (file .entry)) (now (frames .entry)) (length (now (answer .entry)))) (now (answer .entry)) ⌝ }
+{
+    scorer::files::score_file(file, frames, answer)
 }
 
 // The pair for two gates: k goes into place 0 of the answer, l into place 1.

@@ -1,0 +1,97 @@
+// The scorer: pins felled and running scores of one bowler's game, from the frames after each ball.
+pub mod files;
+mod places;
+mod tally;
+mod turn;
+pub mod unchecked;
+
+use journal::Record;
+use journal::is_sound;
+use unchecked::refused;
+use unchecked::score_sound;
+ghost use mathlib.Core.Path.{_≡_};
+ghost use mathlib.Core.List.{List, map};
+ghost use Prim.Native.Nat.{ℕ};
+ghost use Rattle.integers.specs.Refusals.{accepted};
+ghost use Rattle.network.specs.Threshold.{Net};
+ghost use Rattle.history.specs.declared.Call.{Call};
+ghost use Rattle.journal.specs.Records.{justRead};
+ghost use Rattle.format.specs.Format.{Bytes};
+ghost use Rattle.pmn.specs.Answers.{loaded};
+ghost use Rattle.guarantees.specs.Files.{Accepted};
+ghost use Rattle.scorer.specs.Answers.{game, scoring};
+ghost use Rattle.scorer.specs.Frames.{MadeOfFrames};
+ghost use Rattle.scorer.specs.Folding.{SameScores};
+ghost use Rattle.scorer.specs.Games.{cameTo, games};
+ghost use Rattle.scorer.specs.Highest.{Highest};
+
+// What `score` answers: 0 or the refusal; how many balls, and the pins felled by each; how many frames have a score, and their running
+// scores. Spare places hold 0.
+pub struct Sheet {
+    pub code: u8,
+    pub balls: usize,
+    pub felled: [u8; 21],
+    pub scored: usize,
+    pub scores: [u16; 10],
+}
+
+// Running scores: of how many frames, and each of them; spare places hold 0.
+struct Scored {
+    frames: usize,
+    scores: [u16; 10],
+}
+
+// A frame that counts: its balls before the bonus, its balls with the bonus, and the pins that these felled.
+struct FrameCount {
+    own: usize,
+    counted: usize,
+    score: usize,
+}
+
+// The game under way before a ball: the frame (1 to 10, 11 after the game's end), its balls so far, the pins that they felled, and the
+// pins that stand, pin j in bit j.
+struct Lane {
+    frame: usize,
+    balls: usize,
+    down: usize,
+    rack: u64,
+}
+
+// A ball on the lane: 0 or its refusal, and the pins that stand after it.
+struct Throw {
+    code: u8,
+    after: u64,
+}
+
+// The sheet of a game, from the frames after each ball. Refusals: 20 broken record, 27 fewer than ten outputs; then ball by ball 10 long
+// frame, 28 a ball after the game's end, 29 a pin that stands after a ball without having stood before it in the same rack.
+pub fn score(held: Record, frames: &[u64]) -> Sheet
+    ensures { λ r. ⌜ r ≡ scoring held (now (frames .entry)) ⌝ }
+{
+    if !is_sound(held) {
+        return refused(20);
+    }
+    score_sound(held.network, frames)
+}
+
+// Scores before and after folding are equal for every game: from the record of any file that a read accepts, after every list of merges,
+// drops, collapses, sweeps, previews and undos with any numbers.
+pub fn scores_kept()
+    ensures { λ _. ⌜ ((file : List ℕ) → Bytes file → Accepted file → (calls : List Call) → SameScores (justRead (loaded file .network)) calls) ⌝ }
+{}
+
+// The known games: what the rules make of them is what the table says.
+pub fn known_games()
+    ensures { λ _. ⌜ map (λ known. cameTo (known .left)) games ≡ map (λ known. known .comes) games ⌝ }
+{}
+
+// Every game that is not refused, on any network, is made of frames, by a grammar of the felled pins; only finished frames have a score,
+// and all ten have theirs at the game's end.
+pub fn games_are_frames()
+    ensures { λ _. ⌜ ((net : Net) (frames felled : List ℕ) → game net frames ≡ accepted felled → MadeOfFrames net frames felled) ⌝ }
+{}
+
+// On any network no running score is above 300, and twelve strikes come to 300.
+pub fn highest_is_300()
+    ensures { λ _. ⌜ ((net : Net) → Highest net) ⌝ }
+{}
