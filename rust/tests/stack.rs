@@ -10,13 +10,16 @@ const PAINTED: usize = 1 << 20;
 const OWN: usize = 1 << 12;
 const PAINT: u8 = 0xA5;
 
-/// The stack that include/pmn.h says every function may take, in bytes.
-fn stated() -> usize {
+/// No function may take more than this, in bytes.
+const MOST: usize = 128 * 1024;
+
+/// The stack that include/pmn.h says a function takes, in bytes: `Stack: n KB.` in the comment before its declaration.
+fn stated(function: &str) -> usize {
     let header = include_str!("../../include/pmn.h");
-    let line = header.lines().find(|line| line.contains("of stack")).expect("include/pmn.h states no stack");
-    let before = line.split(" KB of stack").next().unwrap();
-    let number: usize = before.rsplit(' ').next().unwrap().parse().unwrap();
-    number * 1024
+    let declared = header.find(&format!("uint8_t {function}(")).expect("include/pmn.h does not declare it");
+    let comment = &header[header[..declared].rfind("/*").unwrap()..declared];
+    let number = comment.split("Stack: ").nth(1).and_then(|rest| rest.split(' ').next()).expect("include/pmn.h states no stack");
+    number.parse::<usize>().unwrap() * 1024
 }
 
 /// The places that are painted, from the lowest on: those below a place near the top of the stack, the frames of this file aside.
@@ -77,77 +80,135 @@ fn every_call(inputs: u64, gates: u64) -> Vec<u64> {
     calls
 }
 
-fn within(call: &str, used: usize) {
-    let most = stated();
-    println!("{call}: {used} bytes of {most}");
-    assert!(used <= most, "{call} took {used} bytes of stack, and include/pmn.h says {most}");
-    assert!(2 * used > most, "{call} took {used} bytes of stack, and include/pmn.h says as much as {most}");
+/// What include/pmn.h says is enough, and not much more than is taken.
+fn within(function: &str, used: usize) {
+    let most = stated(function);
+    println!("{function}: {used} bytes of {most}");
+    assert!(most <= MOST, "include/pmn.h says {most} bytes of stack for {function}");
+    assert!(used <= most, "{function} took {used} bytes of stack, and include/pmn.h says {most}");
+    assert!(most <= used + 4096, "{function} took {used} bytes of stack, and include/pmn.h says as much as {most}");
+}
+
+/// The stack that a function takes, at the most, on each of the files.
+fn most_taken(work: impl Fn(&[u8], u64, u64) + Copy + Send + 'static) -> usize {
+    let each = files().into_iter().map(|file| {
+        let head = if file[3] == 1 { 5 } else { 7 };
+        let (first, gates) = (file[head] as u64, file[head + 1] as u64);
+        taken(move || work(&file, first, first + gates))
+    });
+    each.max().unwrap()
 }
 
 #[test]
 fn runs() {
-    let mut used = 0;
-    for file in files() {
-        let head = if file[3] == 1 { 5 } else { 7 };
-        let calls = every_call(file[head] as u64, file[head + 1] as u64);
-        for room in [library::LONGEST_FILE, file.len()] {
-            let (file, calls) = (file.clone(), calls.clone());
-            used = used.max(taken(move || {
-                let mut answers = vec![0; 1 + 4 * (calls.len() / 5)];
-                let mut out = vec![0; room];
-                let code = library::run(&file, &calls, &mut answers, &mut out);
-                assert!(code == 0 || code == 18 && room < library::LONGEST_FILE);
-            }));
-        }
-    }
-    within("pmn_run", used);
+    let used = [true, false].map(|roomy| {
+        most_taken(move |file, first, last| {
+            let calls = every_call(first, last - first);
+            let mut answers = vec![0; 1 + 4 * (calls.len() / 5)];
+            let mut out = vec![0; if roomy { library::LONGEST_FILE } else { file.len() }];
+            let code = library::run(file, &calls, &mut answers, &mut out);
+            assert!(code == 0 || code == 18 && !roomy);
+        })
+    });
+    within("pmn_run", used[0].max(used[1]));
 }
 
-/// The cuts that go down the most gates: a chain whose lowest gate has 16 inputs, and the lattice, where most gates are met 16 times. They
-/// take no more than every other function may.
+/// Among the files are the cuts that go down the most gates: a chain whose lowest gate has 16 inputs, and the lattice, where most gates are
+/// met 16 times.
 #[test]
 fn cuts() {
-    for (name, net) in [("the deepest chain", generate::full_folding()), ("the lattice", generate::lattice(&mut Random::new(5), 128))] {
-        let file = reference::write(&net);
-        let took = taken(move || {
-            let (mut out, mut answer) = (vec![0; file.len()], [0; 1]);
-            assert_eq!(library::cut(&file, 0, &mut out, &mut answer), 0);
-        });
-        println!("pmn_cut on {name}: {took} bytes");
-        assert!(took <= stated(), "pmn_cut took {took} bytes of stack");
+    let used = most_taken(|file, _, _| {
+        let (mut out, mut answer) = (vec![0; library::LONGEST_FILE], [0; 1]);
+        assert_eq!(library::cut(file, 0, &mut out, &mut answer), 0);
+        for output in 1..16 {
+            library::cut(file, output, &mut out, &mut answer);
+        }
+    });
+    within("pmn_cut", used);
+}
+
+/// A game of 21 balls, one of twelve strikes, and one that is refused, on networks of ten pins and more.
+#[test]
+fn games() {
+    let mut r = Random::new(11);
+    let mut used = 0;
+    for layers in [1, 12] {
+        let file = reference::write(&generate::pins(&mut r, layers));
+        used = used.max(taken(move || {
+            let mut answer = [0; 33];
+            let standing = (1 << 10) - 1;
+            let spares: Vec<u64> = (0..10).flat_map(|_| [standing, 0]).chain([0]).collect();
+            assert_eq!(library::score(&file, &spares, &mut answer), 0);
+            assert_eq!(library::score(&file, &[0; 12], &mut answer), 0);
+            assert_eq!(library::score(&file, &[0; 13], &mut answer), 28);
+        }));
     }
+    within("pmn_score", used);
 }
 
 #[test]
-fn other_calls() {
-    let mut used = 0;
-    for file in files() {
-        used = used.max(taken(move || {
-            let mut answer = [0; 64];
-            let mut out = vec![0; library::LONGEST_FILE];
-            let head = if file[3] == 1 { 5 } else { 7 };
-            let first = file[head] as u64;
-            let last = first + file[head + 1] as u64;
-            library::check(&file);
-            library::frame(&file, 0, &mut answer);
-            library::frames(&file, &[0; 64], &mut answer);
-            library::score(&file, &[0; 12], &mut answer);
-            library::report(&file, &mut answer);
-            library::write(&file, &mut out, &mut answer);
-            library::convert(&file, &mut out, &mut answer);
-            library::line(&file, &file, 3, &mut out, &mut answer);
-            for j in 0..16 {
-                library::cut(&file, j, &mut out, &mut answer);
-            }
-            for s in first..last {
-                library::pair(&file, s, s + 1, &mut answer);
-                library::witness(&file, s, s + 1, 1, 1, &mut answer);
-                library::distinct(&file, s, s + 1, &mut answer);
-                library::preview(&file, s, &mut answer);
-                library::part(&file, s, &mut out, &mut answer);
-            }
-            library::three_feeds(232, &mut [0; 5]);
-        }));
-    }
-    within("every other function", used);
+fn readings() {
+    within("pmn_check", most_taken(|file, _, _| assert_eq!(library::check(file), 0)));
+    within("pmn_frame", most_taken(|file, _, _| assert_eq!(library::frame(file, 0, &mut [0; 2]), 0)));
+    within("pmn_frames", most_taken(|file, _, _| assert_eq!(library::frames(file, &[0; 64], &mut [0; 64]), 0)));
+    within("pmn_report", most_taken(|file, _, _| assert_eq!(library::report(file, &mut [0; 3]), 0)));
+}
+
+#[test]
+fn writings() {
+    let used = most_taken(|file, _, _| {
+        let mut out = vec![0; library::LONGEST_FILE];
+        assert_eq!(library::write(file, &mut out, &mut [0; 1]), 0);
+    });
+    within("pmn_write", used);
+    let used = most_taken(|file, _, _| {
+        let mut out = vec![0; library::LONGEST_FILE];
+        assert!([0, 25].contains(&library::convert(file, &mut out, &mut [0; 1])));
+    });
+    within("pmn_convert", used);
+    let used = most_taken(|file, first, last| {
+        let mut out = vec![0; library::LONGEST_FILE];
+        (first..last).for_each(|s| assert_eq!(library::part(file, s, &mut out, &mut [0; 1]), 0));
+    });
+    within("pmn_part", used);
+    let used = most_taken(|file, first, last| {
+        let mut out = vec![0; 254];
+        (0..4 * (last - first)).for_each(|n| assert_eq!(library::line(file, file, n, &mut out, &mut [0; 1]), 0));
+    });
+    within("pmn_line", used);
+}
+
+#[test]
+fn what_folding_would_do() {
+    let used = most_taken(|file, first, last| {
+        for s in first..last {
+            library::pair(file, s, s + 1, &mut [0; 2]);
+            library::pair(file, first, s, &mut [0; 2]);
+        }
+    });
+    within("pmn_pair", used);
+    let used = most_taken(|file, first, last| {
+        for s in first..last {
+            library::witness(file, s, s + 1, 1, 1, &mut [0; 1]);
+        }
+    });
+    within("pmn_witness", used);
+    let used = most_taken(|file, first, last| {
+        for s in first..last {
+            library::distinct(file, s, s + 1, &mut [0; 17]);
+        }
+    });
+    within("pmn_distinct", used);
+    let used = most_taken(|file, first, last| {
+        for s in first..last {
+            library::preview(file, s, &mut [0; 3]);
+        }
+    });
+    within("pmn_preview", used);
+}
+
+#[test]
+fn entries() {
+    let used = taken(|| (0..256).for_each(|table| assert_eq!(library::three_feeds(table, &mut [0; 5]), 0)));
+    within("pmn_three_feeds", used);
 }

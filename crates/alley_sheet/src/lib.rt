@@ -1,42 +1,18 @@
 // The sheet of an alley, lane by lane: a lane's line and the totals after it, and the last line with both sums.
+use alley_lane::unchecked::find_lane;
+use alley_lane::unchecked::lane_entry;
+use alley_line::unchecked::put_total;
+use alley_theory::LineWritten;
+use alley_theory::Listed;
+use alley_theory::Totals;
 ghost use mathlib.Core.Path.{_≡_};
 ghost use mathlib.Core.List.{List};
 ghost use Prim.Native.Nat.{ℕ};
 ghost use lib.ListN.{length};
-ghost use Rattle.integers.specs.Refusals.{stored};
-ghost use Rattle.format.specs.Format.{Bytes};
-ghost use Rattle.alley_sheet.specs.Claims.{TotalOfRecords, TotalOfLines, LaneByLane};
-ghost use Rattle.alley_sheet.specs.Answers.{noLanes, listing, asListed, textOf, totalAnswer, asLineWritten};
-
-// What is listed of a lane: 0 and its gates and cost, or the number of its refusal and 0.
-pub struct Entry {
-    pub code: u8,
-    pub gates: u64,
-    pub cost: u64,
-}
-
-// The sheet so far: the number of lanes listed, refused ones too, and both sums.
-pub struct Totals {
-    pub lanes: usize,
-    pub gates: u64,
-    pub cost: u64,
-}
-
-// What `list_lane` answers: 0 or the refusal, how many bytes the lane takes (0 for no lane), the length of its line with the line feed, what
-// is listed of it, and the totals after it.
-pub struct Listed {
-    pub code: u8,
-    pub taken: usize,
-    pub length: usize,
-    pub entry: Entry,
-    pub totals: Totals,
-}
-
-// What `total_line` answers: 0 or the refusal, and the line's length with its line feed.
-pub struct LineWritten {
-    pub code: u8,
-    pub length: usize,
-}
+ghost use Rattle.basics.specs.Refusals.{stored};
+ghost use Rattle.pmn_format.specs.Format.{Bytes};
+ghost use Rattle.alley_theory.specs.Claims.{TotalOfRecords, TotalOfLines, LaneByLane};
+ghost use Rattle.alley_theory.specs.Answers.{noLanes, listing, asListed, textOf, totalAnswer, asSheetLine};
 
 // The totals before the first lane.
 pub fn no_lanes() -> Totals
@@ -63,22 +39,22 @@ pub fn list_lane(bytes: &[u8], last: bool, totals: Totals, out: &mut [u8]) -> Li
     if 65535 <= totals.lanes {
         return unchecked::none_listed(0, totals);
     }
-    let found = unchecked::find_lane(bytes, last);
+    let found = find_lane(bytes, last);
     let taken = found.taken;
     if taken == 0 {
         return unchecked::none_listed(0, totals);
     }
-    let entry = unchecked::lane_entry(bytes, found);
+    let entry = lane_entry(bytes, found);
     unchecked::write_lane(taken, entry, totals, out)
 }
 
 // Writes the last line, `total` and both sums, at the front of the lent bytes. Refusal: 18 where it is longer than the lent bytes.
 pub fn total_line(totals: Totals, out: &mut [u8]) -> LineWritten
-    ensures { λ r. ⌜ r ≡ asLineWritten (totalAnswer totals (length (now (out .entry)))) ⌝ }
+    ensures { λ r. ⌜ r ≡ asSheetLine (totalAnswer totals (length (now (out .entry)))) ⌝ }
     ensures { λ _. ⌜ now (out .exit) ≡ stored (totalAnswer totals (length (now (out .entry)))) (now (out .entry)) ⌝ }
 {
     let mut text = [0u8; 48];
-    let length = unchecked::put_total(&mut text, totals.gates, totals.cost);
+    let length = put_total(&mut text, totals.gates, totals.cost);
     if out.len() < length {
         return LineWritten {
             code: 18,

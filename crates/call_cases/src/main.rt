@@ -1,75 +1,60 @@
-// Records through the calls of the folder: the bench gates of the paper, every refusal of every call, the order of the refusals where
+// Records through the calls of `front`: the bench gates of the paper, every refusal of every call, the order of the refusals where
 // several apply, and steps taken back. The file stdin holds the networks and the calls, one to a line; the file stdout holds the whole
 // output.
-mod building;
-mod calls;
-mod describing;
-mod journals;
-mod script;
-mod show;
-mod steps;
+mod changes;
+mod left;
+mod readings;
 
-use journal::Journal;
+use case_networks::is_record_line;
+use case_networks::with_line;
+use case_script::after;
+use case_script::byte_at;
+use case_script::find;
+use case_script::numbers_from;
 use journal::Record;
 use journal::just_read;
 use libc::STDIN_FILENO;
-use network::Network;
-use script::after;
-use script::byte_at;
-use script::find;
-use script::numbers_from;
-
-// The record with another network.
-fn with_network(held: Record, network: Network) -> Record {
-    let journal = held.journal;
-    Record { network, journal }
-}
-
-// The record with another journal.
-fn with_journal(held: Record, journal: Journal) -> Record {
-    let network = held.network;
-    Record { network, journal }
-}
+use program_output::part;
+use program_output::text;
 
 // A call on the record, at a place of the script; it leaves the record as it is for the next line.
 fn single(held: Record, script: &[u8], call: usize) -> Record {
-    calls::call(byte_at(script, call), held, numbers_from(script, call));
+    let letter = byte_at(script, call);
+    let numbers = numbers_from(script, call);
+    match letter {
+        b'm' | b'd' | b'c' | b's' | b'u' => changes::call(letter, held, numbers),
+        _ => readings::call(letter, held, numbers),
+    }
     held
 }
 
-// A case: a name, a colon, a space and a call. The answer is the record for the next line.
-fn case(held: Record, script: &[u8], from: usize, end: usize) -> Record {
-    let colon = find(script, from, b':');
-    show::part(script, from, colon);
-    show::part(script, after(colon), end);
-    show::text(b" =");
-    let call = after(after(colon));
+// What a case calls, at a place of the script after its name. The answer is the record for the next line.
+fn called(held: Record, script: &[u8], from: usize, call: usize) -> Record {
     let letter = byte_at(script, from);
     let numbers = numbers_from(script, from);
     match byte_at(script, call) {
-        b'a' => calls::apply(letter, held, numbers),
-        b'q' => calls::quietly(letter, held, numbers),
-        b'r' => calls::repeat(letter, held, numbers),
+        b'a' => changes::apply(letter, held, numbers),
+        b'q' => changes::quietly(letter, held, numbers),
+        b'r' => changes::repeat(letter, held, numbers),
         _ => single(held, script, call),
     }
 }
 
+// A case: a name, a colon, a space and a call. The answer is the record for the next line.
+fn case(held: Record, script: &[u8], from: usize) -> Record {
+    let colon = find(script, from, b':');
+    part(script, from, colon);
+    part(script, after(colon), find(script, from, b'\n'));
+    text(b" =");
+    called(held, script, from, after(after(colon)))
+}
+
 // One line, from its first byte on. The answer is the record for the next line.
 fn line(held: Record, script: &[u8], from: usize) -> Record {
-    let end = find(script, from, b'\n');
-    let n = numbers_from(script, from);
-    match byte_at(script, from) {
-        b'#' | b'\n' => held,
-        b'i' => just_read(describing::described(script, from, end)),
-        b'U' => with_network(held, building::with_signal(held.network, n)),
-        b'B' => with_network(held, building::with_board(held.network, n)),
-        b'J' => with_journal(held, journals::filled(n)),
-        b'S' => with_journal(
-            held,
-            journals::of_one_step(n, describing::described(script, from, end)),
-        ),
-        _ => case(held, script, from, end),
+    if is_record_line(byte_at(script, from)) {
+        return with_line(held, script, from);
     }
+    case(held, script, from)
 }
 
 // The lines of a script after its first, which is a heading.

@@ -1,26 +1,27 @@
-// The folder for C and Rust: each function takes a PMN file and numbers (the last takes a number alone), and answers 0 or the refusal.
+// The calls for C and Rust: each function takes a PMN file and numbers (the last takes a number alone), and answers 0 or the refusal.
 // include/pmn.h has the declarations; a slice is a pointer and then a length.
 ghost use mathlib.Core.Path.{_≡_};
-ghost use Rattle.integers.specs.Refusals.{codeOf, stored};
 ghost use lib.ListN.{length};
-ghost use Rattle.converting.specs.Conversion.{conversionPlaces};
-ghost use Rattle.cut.specs.Answers.{cutPlaces};
-ghost use Rattle.frames.specs.Frames.{fileFrames};
-ghost use Rattle.opening.specs.Files.{readNet, openNet, lengthOf};
-ghost use Rattle.preview.specs.Files.{previewPlaces};
+ghost use Rattle.basics.specs.Refusals.{codeOf, stored};
+ghost use Rattle.pmn_opening.specs.Files.{readNet, openNet, lengthOf};
+ghost use Rattle.pmn_files.specs.Files.{reportPlaces, fileOut, partOut};
+ghost use Rattle.pmn_converter.specs.Conversion.{conversionPlaces};
+ghost use Rattle.frame_batch.specs.Files.{framePlaces, fileFrames};
+ghost use Rattle.fold_merge.specs.Files.{pairPlaces};
+ghost use Rattle.fold_preview.specs.Files.{previewPlaces};
+ghost use Rattle.fold_witness.specs.Files.{WitnessLeft, distinctPlaces};
+ghost use Rattle.cut_output.specs.Answers.{cutPlaces};
+ghost use Rattle.question_text.specs.Files.{lineOut};
+ghost use Rattle.call_lists.specs.Files.{runAnswer, ranFile, ranNumbers};
 ghost use Rattle.scorer.specs.Answers.{scorePlaces};
 ghost use Rattle.three_feeds.specs.Places.{entryPlaces};
-ghost use Rattle.witness.specs.Files.{WitnessLeft, distinctPlaces};
-ghost use Rattle.capi.specs.Exports.{framePlaces, pairPlaces, reportPlaces, fileOut, partOut, lineOut};
-ghost use Rattle.capi.specs.RunAnswers.{runAnswer, ranFile, ranNumbers};
 
 // The network of a file is read, and nothing more.
 #[no_mangle]
 pub extern "C" fn pmn_check(file: &[u8]) -> u8
     ensures { λ r. ⌜ r ≡ codeOf (readNet (now (file .entry))) ⌝ }
 {
-    let loaded = pmn::read(file);
-    loaded.code
+    pmn_files::check_file(file)
 }
 
 // A frame is read: the output bits go into place 0 of the answer, the number of ones into place 1.
@@ -29,13 +30,7 @@ pub extern "C" fn pmn_frame(file: &[u8], frame: u64, answer: &mut [u64]) -> u8
     ensures { λ r. ⌜ r ≡ codeOf (framePlaces (now (file .entry)) frame (now (answer .entry))) ⌝ }
     ensures { λ _. ⌜ now (answer .exit) ≡ stored (framePlaces (now (file .entry)) frame (now (answer .entry))) (now (answer .entry)) ⌝ }
 {
-    let loaded = pmn::read(file);
-    let code = opening::unchecked::refusal(file, loaded, answer.len(), 2);
-    if code != 0 {
-        return code;
-    }
-    let reading = evaluation::unchecked::read_sound(loaded.network, frame);
-    opening::unchecked::places::put_two(answer, reading.code, reading.bits, reading.ones as u64)
+    frame_batch::files::read_file_frame(file, frame, answer)
 }
 
 // Up to 64 frames are read in one pass: the output bits on frame i go into place i of the answers.
@@ -44,7 +39,7 @@ pub extern "C" fn pmn_frames(file: &[u8], frames: &[u64], answers: &mut [u64]) -
     ensures { λ r. ⌜ r ≡ codeOf (fileFrames (now (file .entry)) (now (frames .entry)) (now (answers .entry))) ⌝ }
     ensures { λ _. ⌜ now (answers .exit) ≡ stored (fileFrames (now (file .entry)) (now (frames .entry)) (now (answers .entry))) (now (answers .entry)) ⌝ }
 {
-    frames::files::read_file_frames(file, frames, answers)
+    frame_batch::files::read_file_frames(file, frames, answers)
 }
 
 // A game is scored from the frames after each ball: the number of balls goes into place 0 of the answer, the number of scores known into
@@ -52,7 +47,8 @@ pub extern "C" fn pmn_frames(file: &[u8], frames: &[u64], answers: &mut [u64]) -
 #[no_mangle]
 pub extern "C" fn pmn_score(file: &[u8], frames: &[u64], answer: &mut [u64]) -> u8
     ensures { λ r. ⌜ r ≡ codeOf (scorePlaces (now (file .entry)) (now (frames .entry)) (length (now (answer .entry)))) ⌝ }
-    ensures { λ _. ⌜ now (answer .exit) ≡ stored (scorePlaces (now (file .entry)) (now (frames .entry)) (length (now (answer .entry)))) (now (answer .entry)) ⌝ }
+    ensures { λ _. ⌜ now (answer .exit)
+        ≡ stored (scorePlaces (now (file .entry)) (now (frames .entry)) (length (now (answer .entry)))) (now (answer .entry)) ⌝ }
 {
     scorer::files::score_file(file, frames, answer)
 }
@@ -63,13 +59,7 @@ pub extern "C" fn pmn_pair(file: &[u8], u: u64, v: u64, answer: &mut [u64]) -> u
     ensures { λ r. ⌜ r ≡ codeOf (pairPlaces (now (file .entry)) u v (now (answer .entry))) ⌝ }
     ensures { λ _. ⌜ now (answer .exit) ≡ stored (pairPlaces (now (file .entry)) u v (now (answer .entry))) (now (answer .entry)) ⌝ }
 {
-    let loaded = pmn::read(file);
-    let code = opening::unchecked::refusal(file, loaded, answer.len(), 2);
-    if code != 0 {
-        return code;
-    }
-    let found = merging::pair(loaded.network, u as usize, v as usize);
-    opening::unchecked::places::put_two(answer, found.code, found.k as u64, found.l as u64)
+    fold_merge::files::pair_of_file(file, u, v, answer)
 }
 
 // A witness of a merge: the merge's own number; only where it is 15, the setting with the fewest ones that shows it goes into place 0 of
@@ -78,7 +68,7 @@ pub extern "C" fn pmn_pair(file: &[u8], u: u64, v: u64, answer: &mut [u64]) -> u
 pub extern "C" fn pmn_witness(file: &[u8], u: u64, v: u64, k: u64, l: u64, answer: &mut [u64]) -> u8
     ensures { λ r. ⌜ WitnessLeft (openNet (now (file .entry)) (length (now (answer .entry))) 1) u v k l (now (answer .entry)) (now (answer .exit)) r ⌝ }
 {
-    witness::files::witness_of_file(file, u, v, k, l, answer)
+    fold_witness::files::witness_of_file(file, u, v, k, l, answer)
 }
 
 // The distinct feeds of two gates: their number goes into place 0 of the answer, their signals into the places after it, rising.
@@ -87,7 +77,7 @@ pub extern "C" fn pmn_distinct(file: &[u8], u: u64, v: u64, answer: &mut [u64]) 
     ensures { λ r. ⌜ r ≡ codeOf (distinctPlaces (now (file .entry)) u v (now (answer .entry))) ⌝ }
     ensures { λ _. ⌜ now (answer .exit) ≡ stored (distinctPlaces (now (file .entry)) u v (now (answer .entry))) (now (answer .entry)) ⌝ }
 {
-    witness::files::distinct_of_file(file, u, v, answer)
+    fold_witness::files::distinct_of_file(file, u, v, answer)
 }
 
 // The size of the network: gates, cost and levels go into the first three places of the answer.
@@ -96,19 +86,7 @@ pub extern "C" fn pmn_report(file: &[u8], answer: &mut [u64]) -> u8
     ensures { λ r. ⌜ r ≡ codeOf (reportPlaces (now (file .entry)) (now (answer .entry))) ⌝ }
     ensures { λ _. ⌜ now (answer .exit) ≡ stored (reportPlaces (now (file .entry)) (now (answer .entry))) (now (answer .entry)) ⌝ }
 {
-    let loaded = pmn::read(file);
-    let code = opening::unchecked::refusal(file, loaded, answer.len(), 3);
-    if code != 0 {
-        return code;
-    }
-    let size = report::unchecked::size_of(loaded.network);
-    opening::unchecked::places::put_three(
-        answer,
-        size.code,
-        size.gates as u64,
-        size.cost,
-        size.levels as u64,
-    )
+    pmn_files::report_of_file(file, answer)
 }
 
 // What a collapse of the gate with a signal would give: gates, cost and levels go into the first three places of the answer.
@@ -117,7 +95,7 @@ pub extern "C" fn pmn_preview(file: &[u8], signal: u64, answer: &mut [u64]) -> u
     ensures { λ r. ⌜ r ≡ codeOf (previewPlaces (now (file .entry)) signal (now (answer .entry))) ⌝ }
     ensures { λ _. ⌜ now (answer .exit) ≡ stored (previewPlaces (now (file .entry)) signal (now (answer .entry))) (now (answer .entry)) ⌝ }
 {
-    preview::files::preview_of_file(file, signal, answer)
+    fold_preview::files::preview_of_file(file, signal, answer)
 }
 
 // The file is written anew into `out`, and its length goes into place 0 of the answer.
@@ -127,23 +105,19 @@ pub extern "C" fn pmn_write(file: &[u8], out: &mut [u8], answer: &mut [u64]) -> 
     ensures { λ _. ⌜ now (out .exit) ≡ stored (fileOut (now (file .entry)) (now (out .entry)) (now (answer .entry))) (now (out .entry)) ⌝ }
     ensures { λ _. ⌜ now (answer .exit) ≡ stored (lengthOf (fileOut (now (file .entry)) (now (out .entry)) (now (answer .entry)))) (now (answer .entry)) ⌝ }
 {
-    let loaded = pmn::read(file);
-    let code = opening::unchecked::refusal(file, loaded, answer.len(), 1);
-    if code != 0 {
-        return code;
-    }
-    let written = pmn_writer::unchecked::write_sound(loaded.network, out);
-    opening::unchecked::places::put_one(answer, written.code, written.length as u64)
+    pmn_files::write_file(file, out, answer)
 }
 
 // The file of the same network in the other version is put into `out`, and its length goes into place 0 of the answer.
 #[no_mangle]
 pub extern "C" fn pmn_convert(file: &[u8], out: &mut [u8], answer: &mut [u64]) -> u8
     ensures { λ r. ⌜ r ≡ codeOf (conversionPlaces (now (file .entry)) (length (now (out .entry))) (length (now (answer .entry)))) ⌝ }
-    ensures { λ _. ⌜ now (out .exit) ≡ stored (conversionPlaces (now (file .entry)) (length (now (out .entry))) (length (now (answer .entry)))) (now (out .entry)) ⌝ }
-    ensures { λ _. ⌜ now (answer .exit) ≡ stored (lengthOf (conversionPlaces (now (file .entry)) (length (now (out .entry))) (length (now (answer .entry))))) (now (answer .entry)) ⌝ }
+    ensures { λ _. ⌜ now (out .exit)
+        ≡ stored (conversionPlaces (now (file .entry)) (length (now (out .entry))) (length (now (answer .entry)))) (now (out .entry)) ⌝ }
+    ensures { λ _. ⌜ now (answer .exit)
+        ≡ stored (lengthOf (conversionPlaces (now (file .entry)) (length (now (out .entry))) (length (now (answer .entry))))) (now (answer .entry)) ⌝ }
 {
-    converting::files::convert_file(file, out, answer)
+    pmn_converter::files::convert_file(file, out, answer)
 }
 
 // The bytes of the gate with a signal are copied into `out`, and their number goes into place 0 of the answer.
@@ -151,32 +125,22 @@ pub extern "C" fn pmn_convert(file: &[u8], out: &mut [u8], answer: &mut [u64]) -
 pub extern "C" fn pmn_part(file: &[u8], signal: u64, out: &mut [u8], answer: &mut [u64]) -> u8
     ensures { λ r. ⌜ r ≡ codeOf (partOut (now (file .entry)) signal (now (out .entry)) (now (answer .entry))) ⌝ }
     ensures { λ _. ⌜ now (out .exit) ≡ stored (partOut (now (file .entry)) signal (now (out .entry)) (now (answer .entry))) (now (out .entry)) ⌝ }
-    ensures { λ _. ⌜ now (answer .exit) ≡ stored (lengthOf (partOut (now (file .entry)) signal (now (out .entry)) (now (answer .entry)))) (now (answer .entry)) ⌝ }
+    ensures { λ _. ⌜ now (answer .exit)
+        ≡ stored (lengthOf (partOut (now (file .entry)) signal (now (out .entry)) (now (answer .entry)))) (now (answer .entry)) ⌝ }
 {
-    let code = opening::unchecked::read_refusal(file, answer.len(), 1);
-    if code != 0 {
-        return code;
-    }
-    let part = pmn::gate_part(file, signal as usize);
-    let length = part.len();
-    if length == 0 {
-        return 11;
-    }
-    if out.len() < length {
-        return 18;
-    }
-    integers::unchecked::copy(part, out);
-    opening::unchecked::places::put_one(answer, 0, length as u64)
+    pmn_files::part_of_file(file, signal, out, answer)
 }
 
 // The file of the cut of an output, with the gates that it needs and no others, is put into `out`, and its length goes into place 0 of the answer.
 #[no_mangle]
 pub extern "C" fn pmn_cut(file: &[u8], output: u64, out: &mut [u8], answer: &mut [u64]) -> u8
     ensures { λ r. ⌜ r ≡ codeOf (cutPlaces (now (file .entry)) output (length (now (out .entry))) (length (now (answer .entry)))) ⌝ }
-    ensures { λ _. ⌜ now (out .exit) ≡ stored (cutPlaces (now (file .entry)) output (length (now (out .entry))) (length (now (answer .entry)))) (now (out .entry)) ⌝ }
-    ensures { λ _. ⌜ now (answer .exit) ≡ stored (lengthOf (cutPlaces (now (file .entry)) output (length (now (out .entry))) (length (now (answer .entry))))) (now (answer .entry)) ⌝ }
+    ensures { λ _. ⌜ now (out .exit)
+        ≡ stored (cutPlaces (now (file .entry)) output (length (now (out .entry))) (length (now (answer .entry)))) (now (out .entry)) ⌝ }
+    ensures { λ _. ⌜ now (answer .exit)
+        ≡ stored (lengthOf (cutPlaces (now (file .entry)) output (length (now (out .entry))) (length (now (answer .entry))))) (now (answer .entry)) ⌝ }
 {
-    cut::files::cut_file(file, output, out, answer)
+    cut_output::files::cut_file(file, output, out, answer)
 }
 
 // Line n of the question for two files is put into `out`, and its length goes into place 0 of the answer.
@@ -189,21 +153,12 @@ pub extern "C" fn pmn_line(
     answer: &mut [u64],
 ) -> u8
     ensures { λ r. ⌜ r ≡ codeOf (lineOut (now (first .entry)) (now (second .entry)) n (now (out .entry)) (now (answer .entry))) ⌝ }
-    ensures { λ _. ⌜ now (out .exit) ≡ stored (lineOut (now (first .entry)) (now (second .entry)) n (now (out .entry)) (now (answer .entry))) (now (out .entry)) ⌝ }
-    ensures { λ _. ⌜ now (answer .exit) ≡ stored (lengthOf (lineOut (now (first .entry)) (now (second .entry)) n (now (out .entry)) (now (answer .entry)))) (now (answer .entry)) ⌝ }
+    ensures { λ _. ⌜ now (out .exit)
+        ≡ stored (lineOut (now (first .entry)) (now (second .entry)) n (now (out .entry)) (now (answer .entry))) (now (out .entry)) ⌝ }
+    ensures { λ _. ⌜ now (answer .exit)
+        ≡ stored (lengthOf (lineOut (now (first .entry)) (now (second .entry)) n (now (out .entry)) (now (answer .entry)))) (now (answer .entry)) ⌝ }
 {
-    let one = pmn::read(first);
-    let code = opening::unchecked::refusal(first, one, 0, 0);
-    if code != 0 {
-        return code;
-    }
-    let other = pmn::read(second);
-    let refusal = opening::unchecked::refusal(second, other, answer.len(), 1);
-    if refusal != 0 {
-        return refusal;
-    }
-    let line = question::line(one.network, other.network, n as usize, out);
-    opening::unchecked::places::put_one(answer, line.code, line.length as u64)
+    question_text::files::line_of_files(first, second, n, out, answer)
 }
 
 // The list of calls is run: each call's code and three numbers go into the answers from place 1 on, the file of the network after the list
@@ -211,26 +166,12 @@ pub extern "C" fn pmn_line(
 #[no_mangle]
 pub extern "C" fn pmn_run(file: &[u8], calls: &[u64], answers: &mut [u64], out: &mut [u8]) -> u8
     ensures { λ r. ⌜ r ≡ codeOf (runAnswer (now (file .entry)) (now (calls .entry)) (now (answers .entry)) (now (out .entry))) ⌝ }
-    ensures { λ _. ⌜ now (answers .exit) ≡ stored (ranNumbers (runAnswer (now (file .entry)) (now (calls .entry)) (now (answers .entry)) (now (out .entry)))) (now (answers .entry)) ⌝ }
-    ensures { λ _. ⌜ now (out .exit) ≡ stored (ranFile (runAnswer (now (file .entry)) (now (calls .entry)) (now (answers .entry)) (now (out .entry)))) (now (out .entry)) ⌝ }
+    ensures { λ _. ⌜ now (answers .exit)
+        ≡ stored (ranNumbers (runAnswer (now (file .entry)) (now (calls .entry)) (now (answers .entry)) (now (out .entry)))) (now (answers .entry)) ⌝ }
+    ensures { λ _. ⌜ now (out .exit)
+        ≡ stored (ranFile (runAnswer (now (file .entry)) (now (calls .entry)) (now (answers .entry)) (now (out .entry)))) (now (out .entry)) ⌝ }
 {
-    let loaded = pmn::read(file);
-    let code = opening::unchecked::refusal(file, loaded, 0, 0);
-    if code != 0 {
-        return code;
-    }
-    if !runs::unchecked::is_well_formed(calls) {
-        return 14;
-    }
-    if answers.len() < 4 * (calls.len() / 5) + 1 {
-        return 18;
-    }
-    if !runs::unchecked::has_room(loaded.network, calls, out.len()) {
-        return 18;
-    }
-    let after = runs::unchecked::run_storing(loaded.network, calls, answers);
-    let written = pmn_writer::write(after, out);
-    opening::unchecked::places::put_one(answers, written.code, written.length as u64)
+    call_lists::files::run_on_file(file, calls, answers, out)
 }
 
 // The entry of a truth table of three feeds: 1, the three weights and T go into the first five places of the answer; or 0, two settings

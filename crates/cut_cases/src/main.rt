@@ -1,150 +1,129 @@
-// Cuts of one output. Each line names a network and an output, and gives the code that the cut answered; gates, cost and levels of the record
-// that it left; of small networks the gates with their signals and the outputs; and the output's bit on eight frames, before the cut and after
-// it. The whole output is kept in the file stdout.
-mod building;
+// Cuts of one output. The file stdin holds the networks and the cuts, one to a line. Each line of the output names a network and an output,
+// and gives the code that the cut answered; gates, cost and levels of the record that it left; of small networks the gates with their signals
+// and the outputs; and the output's bit on eight frames, before the cut and after it. The whole output is kept in the file stdout.
 mod show;
 
-use cut::CutAnswer;
-use integers::wide;
+use case_networks::is_record_line;
+use case_networks::with_line;
+use case_script::Numbers;
+use case_script::after;
+use case_script::byte_at;
+use case_script::find;
+use case_script::numbers_from;
+use cut_output::CutAnswer;
 use journal::Record;
 use journal::just_read;
-use network::Network;
-use show::end;
-use show::number;
-use show::text;
+use libc::STDIN_FILENO;
+use program_output::end;
+use program_output::labelled;
+use program_output::part;
+use program_output::text;
 
 // The cut of an output: its code and the size of what it left.
-fn cut(name: &[u8], held: Record, output: usize) -> Record {
-    let answer: CutAnswer = folder::cut(held, output);
-    let after = answer.after;
-    text(name);
-    text(b", output");
-    number(output);
-    text(b": code");
-    number(wide(answer.code));
-    show::size(after);
-    after
+fn cut(held: Record, output: usize) -> Record {
+    let answer: CutAnswer = front::cut(held, output);
+    let left = answer.after;
+    labelled(b", output", output as u64);
+    labelled(b": code", answer.code as u64);
+    show::size(left);
+    left
 }
 
-// The output's bit on eight frames, before the cut and after it.
-fn both_bits(held: Record, after: Record, output: usize, step: usize) {
+// The output's bit on eight frames so far apart, before the cut and after it.
+fn both_bits(held: Record, left: Record, output: usize, step: usize) {
     text(b" before");
     show::bits(held, output, step);
     text(b" after");
-    show::bits(after, 0, step);
-}
-
-// A small network, on every frame of its three inputs.
-fn small(name: &[u8], network: Network, output: usize) {
-    let held = just_read(network);
-    let after = cut(name, held, output);
-    show::network(after);
-    both_bits(held, after, output, 1);
-    end();
-}
-
-// A large network, on frames so far apart.
-fn large(name: &[u8], network: Network, output: usize, step: usize) {
-    let held = just_read(network);
-    let after = cut(name, held, output);
-    both_bits(held, after, output, step);
-    end();
-}
-
-// A cut that is refused: the record comes back.
-fn refused(name: &[u8], held: Record, output: usize) {
-    let after = cut(name, held, output);
-    show::network(after);
-    text(b" steps");
-    number(after.journal.count);
-    end();
+    show::bits(left, 0, step);
 }
 
 // The headers of the files before a cut and after it.
-fn headers(name: &[u8], network: Network, output: usize) {
-    let held = just_read(network);
-    let after = cut(name, held, output);
+fn headers(held: Record, left: Record) {
     text(b" before");
     show::header(held);
     text(b" after");
-    show::header(after);
-    end();
+    show::header(left);
 }
 
 // The steps in the journal before a cut and after it, each with the code of an undo.
-fn steps(name: &[u8], held: Record, output: usize) {
-    let after = cut(name, held, output);
+fn steps(held: Record, left: Record) {
     text(b" before");
-    number(held.journal.count);
-    number(wide(folder::undo(held).code));
+    show::steps(held);
     text(b" after");
-    number(after.journal.count);
-    number(wide(folder::undo(after).code));
+    show::steps(left);
+}
+
+// The gates and the outputs of a record, and the number of its steps.
+fn whole(left: Record) {
+    case_records::show::network(left.network);
+    case_records::show::steps(left.journal);
+}
+
+// The gates and the outputs of a small network after a cut, and the output's bit on every frame of its three inputs.
+fn small(held: Record, left: Record, output: usize) {
+    case_records::show::network(left.network);
+    both_bits(held, left, output, 1);
+}
+
+// What is shown of a cut, by its first letter.
+fn shown(letter: u8, held: Record, left: Record, n: Numbers) {
+    match letter {
+        b's' => small(held, left, n.first),
+        b'l' => both_bits(held, left, n.first, n.second),
+        b'h' => headers(held, left),
+        b'u' => steps(held, left),
+        _ => whole(left),
+    }
     end();
 }
 
-// The record with a journal that claims so many steps.
-fn claiming(held: Record, count: usize) -> Record {
-    let network = held.network;
-    let mut journal = held.journal;
-    journal.count = count;
-    Record { network, journal }
+// A case: a name, a colon, a space, what is shown, and the output.
+fn case(held: Record, script: &[u8], from: usize) {
+    let colon = find(script, from, b':');
+    let place = after(after(colon));
+    let numbers = numbers_from(script, place);
+    part(script, from, colon);
+    shown(
+        byte_at(script, place),
+        held,
+        cut(held, numbers.first),
+        numbers,
+    );
 }
 
-fn accepted_cuts() {
-    small(b"one gate", building::one_gate(), 0);
-    small(b"all gates", building::f(), 0);
-    let pins = building::pins();
-    small(b"a gate left out", pins, 0);
-    small(b"two outputs at one gate", pins, 1);
-    small(b"two outputs at one gate", pins, 3);
-    small(b"the lowest gate", pins, 2);
-    small(b"a signal that falls", pins, 4);
-    let tolerant = building::with_margins(building::tolerant(), 3, 4);
-    small(b"version 2", tolerant, 0);
-    small(b"version 2", tolerant, 1);
-    headers(b"headers of version 2", tolerant, 0);
-    headers(b"headers of version 2", tolerant, 1);
-    let chain = building::chain();
-    large(b"the deepest chain", chain, 0, 1);
-    large(b"the deepest chain", chain, 1, 1);
-    large(b"the deepest chain", chain, 2, 1);
-    let lattice = building::lattice();
-    large(b"the lattice", lattice, 0, 9362);
-    large(b"the lattice", lattice, 1, 9362);
-    large(b"the lattice", lattice, 2, 9362);
+// A record after a collapse.
+fn folded(held: Record, signal: usize) -> Record {
+    let answer = front::collapse(held, signal);
+    answer.after
 }
 
-fn refused_cuts() {
-    let pins = just_read(building::pins());
-    refused(b"no such output", pins, 5);
-    refused(b"no such output", pins, 16);
-    refused(b"no such output", pins, 255);
-    refused(b"no such output", pins, 256);
-    refused(b"no such output", pins, 4294967296);
-    refused(b"no such output", pins, 18446744073709551615);
-    let blank = just_read(network::blank());
-    refused(b"the blank record", blank, 0);
-    let stray = just_read(building::output(building::f(), 2));
-    refused(b"an output that is no gate", stray, 0);
-    refused(b"an output that is no gate", stray, 2);
-    let wide_margin = just_read(building::with_margins(building::tolerant(), 5, 4));
-    refused(b"a broken margin", wide_margin, 0);
-    refused(b"65 steps", claiming(pins, 65), 0);
-    refused(b"65 steps", claiming(pins, 65), 5);
+// One line, from its first byte on. The answer is the record for the next line.
+fn line(held: Record, script: &[u8], from: usize) -> Record {
+    let byte = byte_at(script, from);
+    if is_record_line(byte) {
+        return with_line(held, script, from);
+    }
+    if byte == b'F' {
+        return folded(held, numbers_from(script, from).first);
+    }
+    case(held, script, from);
+    held
 }
 
-fn journals() {
-    let f = just_read(building::f());
-    let folded = folder::collapse(f, 3).after;
-    steps(b"no steps", f, 0);
-    steps(b"two steps", folded, 0);
-    steps(b"two steps", folded, 1);
-    steps(b"64 steps", claiming(f, 64), 0);
+// The lines of a script after its first, which is a heading.
+fn lines(script: &[u8], length: usize) {
+    let mut held = just_read(network::blank());
+    let mut at: usize = 0;
+    while at < length {
+        if byte_at(script, at) == b'\n' {
+            held = line(held, script, at + 1);
+        }
+        at = at + 1;
+    }
 }
 
 fn main() {
-    accepted_cuts();
-    refused_cuts();
-    journals();
+    let mut script = [b'\n'; 4096];
+    let length = io::read_full(STDIN_FILENO, &mut script);
+    lines(&script, length);
 }

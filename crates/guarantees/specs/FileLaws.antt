@@ -4,18 +4,18 @@ use mathlib.Core.Bool.{true}
 use mathlib.Core.List.{List}
 use Prim.Native.Nat.{ℕ}
 use native.Mathlib.Omega.{arith}
-use Rattle.integers.specs.TestLaws.{T-is, is-true}
+use Rattle.basics.specs.TestLaws.{T-is, is-true}
 use Rattle.network.specs.Threshold.{Net}
 use Rattle.network.specs.Record.{netOf, layout, soundRecord}
 use Rattle.network.specs.Sound.{Sound}
-use Rattle.network.specs.RecordLaws.{Shaped, netOf-layout, layout-netOf, sound-net, sound-layout}
+use Rattle.network.specs.RecordLaws.{ArrayLengths, netOf-layout, layout-netOf, sound-net, sound-layout}
 use Rattle.network.specs.declared.Network.{Network}
-use Rattle.format.specs.Format.{Bytes, fileBytes}
-use Rattle.format.specs.WriteReadLaws.{file-read}
-use Rattle.format.specs.LengthLaws.{file-bytes}
-use Rattle.pmn.specs.Answers.{asLoaded, loaded}
-use Rattle.pmn.specs.OpenLaws.{opened, loaded-net, opened-sound, opened-bytes}
-use Rattle.pmn.specs.declared.Loaded.{Loaded}
+use Rattle.pmn_format.specs.Format.{Bytes, fileBytes}
+use Rattle.pmn_format.specs.WriteReadLaws.{file-read}
+use Rattle.pmn_format.specs.LengthLaws.{file-bytes}
+use Rattle.pmn_reader.specs.Answers.{asLoaded, loaded}
+use Rattle.pmn_reader.specs.OpenLaws.{read-opened, loaded-net, opened-sound, opened-bytes}
+use Rattle.pmn_reader.specs.declared.Loaded.{Loaded}
 use Rattle.journal.specs.Journals.{emptyJournal}
 use Rattle.journal.specs.Records.{justRead}
 use Rattle.journal.specs.AnswerLaws.{whole-network, whole-few, whole-of}
@@ -30,7 +30,7 @@ gives-net N s = ap asLoaded (file-read N s)
 
 -- ---- the claims
 
-net-is-read : (r : Network) → Shaped r → soundRecord r ≡ true → Gives (fileOf r) r
+net-is-read : (r : Network) → ArrayLengths r → soundRecord r ≡ true → Gives (fileOf r) r
 net-is-read r h e =
     let t = T-is (soundRecord r) e in
     gives-net (netOf r) (sound-net r t) ∙ ap (λ (x : Network). record { code = 0; network = x }) (layout-netOf r h t)
@@ -38,23 +38,23 @@ net-is-read r h e =
 -- a network just read is sound
 read-sound : (file : List ℕ) → Bytes file → Accepted file → soundRecord (loaded file .network) ≡ true
 read-sound file bs e =
-    let o = opened file e in
+    let o = read-opened file e in
     ap (λ (x : Loaded). soundRecord (x .network)) (loaded-net file o) ∙ is-true (soundRecord (layout (o .net))) (sound-layout (o .net) (opened-sound file bs o))
 
-pub written-is-read : (r : Record) → Shaped (r .network) → WrittenIsRead r
+pub written-is-read : (r : Record) → ArrayLengths (r .network) → WrittenIsRead r
 written-is-read r h e = net-is-read (r .network) h (whole-network r e)
 
 pub read-is-written : (file : List ℕ) → Bytes file → ReadIsWritten file
 unfolding justRead emptyJournal
 read-is-written file bs = record {
   same-bytes = λ e.
-      let o = opened file e in
+      let o = read-opened file e in
       ap (λ (x : Loaded). fileOf (x .network)) (loaded-net file o) ∙ ap fileBytes (netOf-layout (o .net) (opened-sound file bs o))
       ∙ sym (opened-bytes file bs o);
   sound-read = λ e. whole-of (justRead (loaded file .network)) (read-sound file bs e) (omega arith);
 }
 
-pub sound-is-described : (r : Record) → Shaped (r .network) → SoundIsDescribed r
+pub sound-is-described : (r : Record) → ArrayLengths (r .network) → SoundIsDescribed r
 sound-is-described r h = (
   (λ e.
       let n = whole-network r e in (

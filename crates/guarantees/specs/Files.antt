@@ -1,13 +1,9 @@
 -- What is claimed of files and records. Nothing is proved here.
-use mathlib.Core.Path.{_≡_}
-use mathlib.Core.Bool.{true}
-use mathlib.Core.List.{List}
-use mathlib.Core.Logic.{_↔_}
-use Prim.Native.Nat.{ℕ, _≤_}
+use Rattle.basics.specs.Library.{_≡_, true, List, _↔_, ℕ, _≤_}
 use Rattle.network.specs.Record.{netOf}
 use Rattle.network.specs.declared.Network.{Network}
-use Rattle.format.specs.Format.{Bytes, fileBytes}
-use Rattle.pmn.specs.Answers.{loaded}
+use Rattle.pmn_format.specs.Format.{Bytes, fileBytes}
+use Rattle.pmn_reader.specs.Answers.{loaded}
 use Rattle.journal.specs.Records.{soundWhole, justRead}
 use Rattle.journal.specs.declared.Record.{Record}
 

@@ -6,36 +6,37 @@ use mathlib.Core.Logic.{_≢_}
 use Prim.Native.Nat.{ℕ, zero, suc, _≤_}
 use native.Mathlib.Omega.{arith}
 use lib.ListN.{length}
-use Rattle.integers.specs.Refusals.{Answer, checks}
+use Rattle.basics.specs.Refusals.{Answer, checks}
 use Rattle.network.specs.Threshold.{Net, Assignment, frame, outputBits}
 use Rattle.network.specs.Record.{netOf, layout, soundRecord}
 use Rattle.network.specs.Sound.{Sound}
 use Rattle.network.specs.LimitLaws.{of-sound}
 use Rattle.network.specs.RecordLaws.{netOf-layout, holds-layout, holds-sound}
 use Rattle.network.specs.declared.Network.{Network}
-use Rattle.evaluation.specs.Reading.{frameAnswer, reading}
-use Rattle.history.specs.Steps.{Step, undoOf, State, opened}
-use Rattle.history.specs.Calls.{Given, plain, answer, leaves, calls, stepsAccepted, Ended, endOf, undoing}
-use Rattle.history.specs.Guarantee.{Claim}
-use Rattle.history.specs.TraceLaws.{Traced, traced-none, traced-some, undo-traced}
-use Rattle.history.specs.GuaranteeLaws.{opened-traced, call-traced, calls-traced, claim, traced-agree, list-kept}
-use Rattle.history.specs.declared.Call.{Call}
-use Rattle.history.specs.declared.Call.the-variants.{Undo}
+use Rattle.frame_reading.specs.Reading.{frameAnswer, reading}
+use Rattle.call_theory.specs.Steps.{Step, undoOf, State, justOpened}
+use Rattle.call_theory.specs.Calls.{Given, withoutFigures, answer, leaves, calls, stepsAccepted}
+use Rattle.call_theory.specs.Preserved.{Ended, endOf, undoing}
+use Rattle.call_theory.specs.Guarantee.{Claim}
+use Rattle.call_theory.specs.TraceLaws.{Traced, traced-none, traced-some, undo-traced}
+use Rattle.call_theory.specs.GuaranteeLaws.{opened-traced, call-traced, calls-traced, claim, traced-agree, list-kept}
+use Rattle.call_theory.specs.declared.Call.{Call}
+use Rattle.call_theory.specs.declared.Call.the-variants.{Undo}
 use Rattle.journal.specs.JournalLaws.{empty-journal}
 use Rattle.journal.specs.Records.{stateOf, soundWhole, recordOf, justRead}
 use Rattle.journal.specs.Answers.{applied}
 use Rattle.journal.specs.AnswerLaws.{applied-exact}
 use Rattle.journal.specs.declared.CallAnswer.{CallAnswer}
 use Rattle.journal.specs.declared.Record.{Record}
-use Rattle.constraints.specs.Question.{Solves, question, alike}
-use Rattle.constraints.specs.AlikeLaws.{alike-of}
-use Rattle.constraints.specs.Demand.{Differ, SolvesWritten}
-use Rattle.lists.specs.Answers.{answerOn}
-use Rattle.lists.specs.StateLaws.{state-record, record-sound, applied-record, record-left}
-use Rattle.format.specs.Format.{Bytes}
-use Rattle.pmn.specs.Answers.{loaded}
-use Rattle.pmn.specs.OpenLaws as files
-use Rattle.pmn.specs.declared.Loaded.{Loaded}
+use Rattle.question_theory.specs.Question.{Solves, question, alike}
+use Rattle.question_theory.specs.AlikeLaws.{alike-of}
+use Rattle.question_theory.specs.Demand.{Differ, SolvesWritten}
+use Rattle.call_apply.specs.Answers.{answerOn}
+use Rattle.call_apply.specs.StateLaws.{state-record, record-sound, applied-record, record-left}
+use Rattle.pmn_format.specs.Format.{Bytes}
+use Rattle.pmn_reader.specs.Answers.{loaded}
+use Rattle.pmn_reader.specs.OpenLaws as files
+use Rattle.pmn_reader.specs.declared.Loaded.{Loaded}
 use Rattle.guarantees.specs.Files.{Accepted}
 use Rattle.guarantees.specs.Questions.{QuestionClaim}
 use Rattle.guarantees.specs.Lists.{callsOn, onward, undoingOn, CallClaim, CallClaims, ListClaim}
@@ -68,7 +69,7 @@ call-claims R q (c ∷ cs) t = (
 undo-end : (R N : Net) (ss : List Step) (n : ℕ) → Traced R (record { net = N; steps = ss })
     → undoingOn n (recordOf (record { net = N; steps = ss }))
     ≡ record { last = recordOf (undoing n (record { net = N; steps = ss }) .state); code = undoing n (record { net = N; steps = ss }) .code }
-unfolding undoingOn undoing onward endOf answerOn plain
+unfolding undoingOn undoing onward endOf answerOn withoutFigures
 undo-end R N ss zero t = refl
 undo-end R N [] (suc n) t =
     let q : State = record { net = N; steps = [] } in
@@ -104,15 +105,15 @@ pub inputs-of : (r : Network) → netOf r .inputs ≡ r .inputs
 unfolding netOf
 inputs-of r = refl
 
-board-of : (r : Network) → netOf r .board ≡ r .board
+netOf-board : (r : Network) → netOf r .board ≡ r .board
 unfolding netOf
-board-of r = refl
+netOf-board r = refl
 
 -- the claim, of the record of a sound network just read, by what the list leaves
-list-claim : (N : Net) (cs : List Call) → Sound N → ListClaim (recordOf (opened N)) cs
-unfolding recordOf opened
+list-claim : (N : Net) (cs : List Call) → Sound N → ListClaim (recordOf (justOpened N)) cs
+unfolding recordOf justOpened
 list-claim N cs n =
-    let q₀ = opened N in
+    let q₀ = justOpened N in
     let o = opened-traced N n in
     let q = calls q₀ cs in
     let t = calls-traced N q₀ cs o in
@@ -138,8 +139,8 @@ list-claim N cs n =
     let net : callsOn r₀ cs .network ≡ layout M = ap (λ (x : Record). x .network) e in
     record {
       sound-after = ap soundWhole e ∙ record-sound N q t;
-      same-board = ap (λ (x : Network). x .board) net ∙ sym (board-of (layout M)) ∙ ap (λ (x : Net). x .board) m₀ ∙ k .same-board
-          ∙ sym (ap (λ (x : Net). x .board) n₀) ∙ board-of (layout N);
+      same-board = ap (λ (x : Network). x .board) net ∙ sym (netOf-board (layout M)) ∙ ap (λ (x : Net). x .board) m₀ ∙ k .same-board
+          ∙ sym (ap (λ (x : Net). x .board) n₀) ∙ netOf-board (layout N);
       state-after = ap stateOf e ∙ state-record N q t ∙ sym from;
       record-after = e ∙ sym (ap recordOf from);
       same-bits = λ x h. ap (λ (z : Network). outputBits (netOf z) (frame x)) net ∙ bits (frame x);
@@ -158,9 +159,9 @@ list-claim N cs n =
 
 -- from the record of any file that a read accepts
 pub accepted-claim : (file : List ℕ) → Bytes file → Accepted file → (cs : List Call) → ListClaim (justRead (loaded file .network)) cs
-unfolding justRead recordOf opened
+unfolding justRead recordOf justOpened
 accepted-claim file bs e cs =
-    let o = files.opened file e in
+    let o = files.read-opened file e in
     let n = ap (λ (x : Loaded). x .network) (files.loaded-net file o) in
-    let r : justRead (loaded file .network) ≡ recordOf (opened (o .net)) = λ x. record { network = n x; journal = empty-journal x } in
+    let r : justRead (loaded file .network) ≡ recordOf (justOpened (o .net)) = λ x. record { network = n x; journal = empty-journal x } in
     subst (λ (x : Record). ListClaim x cs) (sym r) (list-claim (o .net) cs (files.opened-sound file bs o))

@@ -1,25 +1,20 @@
 -- Demand 3, on records: what is claimed of every list of calls from the record of any file that a read accepts. Document 01, "A list of
 -- calls", and document 02, No. 1: "A list of calls may hold previews and still agrees with the network read", and No. 5: "Undo joins the calls in
 -- the list that no output may notice". Nothing is proved here.
-use mathlib.Core.Path.{_≡_}
-use mathlib.Core.Bool.{true, cond}
-use mathlib.Core.List.{List, [], _∷_}
-use mathlib.Core.Logic.{_≢_}
-use Prim.Native.Nat.{ℕ, zero, suc, _≤_}
-use lib.Dec.{eqb}
+use Rattle.basics.specs.Library.{_≡_, true, cond, List, [], _∷_, _≢_, ℕ, zero, suc, _≤_, eqb}
 use Rattle.network.specs.Threshold.{Assignment, frame, fitsFrame, outputBits}
 use Rattle.network.specs.Record.{netOf}
-use Rattle.evaluation.specs.Reading.{reading}
-use Rattle.history.specs.Calls.{answer, calls, stepsAccepted}
-use Rattle.history.specs.Guarantee.{Claim}
-use Rattle.history.specs.declared.Call.{Call}
-use Rattle.history.specs.declared.Call.the-variants.{Undo}
+use Rattle.frame_reading.specs.Reading.{reading}
+use Rattle.call_theory.specs.Calls.{answer, calls, stepsAccepted}
+use Rattle.call_theory.specs.Guarantee.{Claim}
+use Rattle.call_theory.specs.declared.Call.{Call}
+use Rattle.call_theory.specs.declared.Call.the-variants.{Undo}
 use Rattle.journal.specs.Records.{stateOf, soundWhole, recordOf}
 use Rattle.journal.specs.Answers.{asCallAnswer, applied}
 use Rattle.journal.specs.declared.CallAnswer.{CallAnswer}
 use Rattle.journal.specs.declared.Record.{Record}
-use Rattle.constraints.specs.Question.{Solves, question, alike}
-use Rattle.constraints.specs.Demand.{SolvesWritten}
+use Rattle.question_theory.specs.Question.{Solves, question, alike}
+use Rattle.question_theory.specs.Demand.{SolvesWritten}
 use Rattle.guarantees.specs.Questions.{QuestionClaim}
 
 -- the record after a list: "each later one the network that the call before it returned"

@@ -2,22 +2,23 @@
 use Prim.Native.Nat.{_-_, _<_}
 use native.Mathlib.Omega.{arith}
 use lib.ListN.{length}
-use Rattle.integers.specs.TestLaws.{T-is}
-use Rattle.integers.specs.ListLaws.{each-of, each-getD}
+use Rattle.basics.specs.TestLaws.{T-is}
+use Rattle.basics.specs.ListLaws.{each-of, each-getD}
 use Rattle.network.specs.Threshold.{Gate}
 use Rattle.network.specs.Limits.{keeps}
 use Rattle.network.specs.Changes.{gateAt}
-use Rattle.network.specs.LimitLaws.{gate-ok}
+use Rattle.network.specs.LimitLaws.{has-of, gate-ok}
 use Rattle.network.specs.Record.{netOf, noGate, soundRecord}
 use Rattle.network.specs.RecordLaws.{sound-net}
 use Rattle.network.specs.declared.Network.{Network}
-use Rattle.folding.specs.MarginLaws.{keeps-all}
+use Rattle.fold_theory.specs.MarginLaws.{keeps-all}
 use lib.Dec.{T}
 use Rattle.guarantees.specs.Margins.{MarginsHold}
 
 pub margins-hold : (r : Network) → MarginsHold r
 unfolding gateAt netOf
-margins-hold r e s h =
+margins-hold r e s t =
+    let h = has-of (netOf r) s t in
     let n = sound-net r (T-is (soundRecord r) e) in
     let kept = each-of (keeps (r .board)) (λ (g : Gate). T (keeps (r .board) g)) (λ g t. t) (netOf r .gates) (n .all-keep) in
     let i = s - r .inputs in

@@ -1,13 +1,11 @@
 -- Document 02, No. 1, on records. Nothing is proved here.
-use mathlib.Core.Path.{_≡_}
-use mathlib.Core.Logic.{_≢_}
-use Prim.Native.Nat.{ℕ, _≤_}
-use Rattle.report.specs.Size.{reported}
-use Rattle.history.specs.Calls.{figuresOf}
-use Rattle.history.specs.declared.Call.the-variants.{Collapse, Preview}
+use Rattle.basics.specs.Library.{_≡_, _≢_, ℕ, _≤_}
+use Rattle.network_report.specs.Size.{reported}
+use Rattle.call_theory.specs.Calls.{figuresOf}
+use Rattle.call_theory.specs.declared.Call.the-variants.{Collapse, Preview}
 use Rattle.journal.specs.Answers.{applied}
 use Rattle.journal.specs.declared.Record.{Record}
-use Rattle.preview.specs.Preview.{previewed}
+use Rattle.fold_preview.specs.Preview.{previewed}
 
 -- "The preview equals the report on a copy that was really collapsed", or it has the collapse's refusal and no figures; as a call of a list
 -- it hands back the record that it got, "The network in hand is as before", with the whole preview; a journal that claims more than 64 steps is

@@ -1,12 +1,12 @@
 -- The claims of the question hold. Assumes nothing.
-use Rattle.integers.specs.TestLaws.{T-is}
+use Rattle.basics.specs.TestLaws.{T-is}
 use Rattle.network.specs.Record.{netOf, soundRecord}
 use Rattle.network.specs.RecordLaws.{sound-net}
 use Rattle.network.specs.declared.Network.{Network}
-use Rattle.constraints.specs.SolutionLaws.{question-decides}
-use Rattle.constraints.specs.SizeLaws.{question-named, line-short}
-use Rattle.constraints.specs.MeaningLaws.{question-text-says, question-header-says, decides-written}
-use Rattle.constraints.specs.AlikeLaws.{alike-inputs, alike-outputs}
+use Rattle.question_theory.specs.SolutionLaws.{question-decides}
+use Rattle.question_theory.specs.SizeLaws.{question-named, line-short}
+use Rattle.question_theory.specs.MeaningLaws.{question-text-says, question-header-says, decides-written}
+use Rattle.question_theory.specs.AlikeLaws.{alike-inputs, alike-outputs}
 use Rattle.guarantees.specs.Questions.{Questions}
 
 pub questions : (a b : Network) → Questions a b

@@ -1,16 +1,12 @@
 -- Demand 2's last sentence, on records, and what the question's text says. Nothing is proved here.
-use mathlib.Core.Path.{_≡_}
-use mathlib.Core.Bool.{true}
-use mathlib.Core.Option.{some}
-use Prim.Native.Nat.{ℕ, suc, _≤_, _<_}
-use lib.ListN.{length, getD}
-use Rattle.integers.specs.Lists.{Each}
+use Rattle.basics.specs.Library.{_≡_, true, some, ℕ, suc, _≤_, _<_, length, getD}
+use Rattle.basics.specs.Lists.{Each}
 use Rattle.network.specs.Record.{netOf, soundRecord}
 use Rattle.network.specs.declared.Network.{Network}
-use Rattle.constraints.specs.Question.{question, variables, alike}
-use Rattle.constraints.specs.Text.{noLine, questionText}
-use Rattle.constraints.specs.Meaning.{lineOf, headerOf}
-use Rattle.constraints.specs.Demand.{Decides, DecidesWritten, Named}
+use Rattle.question_theory.specs.Question.{question, variables, alike}
+use Rattle.question_theory.specs.Text.{noLine, questionText}
+use Rattle.question_theory.specs.Meaning.{lineOf, headerOf}
+use Rattle.question_theory.specs.Demand.{Decides, DecidesWritten, Named}
 
 -- two sound records with equal input and output counts: the question has a 0/1 solution exactly when some frame makes their outputs
 -- differ, said of its lines and of what is written; the header's text says the number of variables and of lines after it, and the text

@@ -1,11 +1,10 @@
 -- Document 02, No. 2: "Number 13 can then never be given, and this is shown." Nothing is proved here.
-use mathlib.Core.Logic.{_≢_}
-use Prim.Native.Nat.{ℕ}
-use Rattle.history.specs.declared.Call.{Call}
+use Rattle.basics.specs.Library.{_≢_, ℕ}
+use Rattle.call_theory.specs.declared.Call.{Call}
 use Rattle.journal.specs.Answers.{applied}
 use Rattle.journal.specs.declared.Record.{Record}
-use Rattle.merging.specs.Answers.{mergeCode, pairFound}
-use Rattle.preview.specs.Preview.{previewed}
+use Rattle.fold_merge.specs.Answers.{mergeCode, pairFound}
+use Rattle.fold_preview.specs.Preview.{previewed}
 
 -- no call of a list (merge, drop, collapse, sweep, preview, undo), no witness, pair or preview, with any numbers, answers 13; the record may be broken
 pub record NeverThirteen (r : Record) : Type 0 where

@@ -2,22 +2,22 @@
 use mathlib.Core.List.{[], _∷_}
 use mathlib.Core.Logic.{_≢_}
 use native.Mathlib.Omega.{arith}
-use Rattle.integers.specs.Refusals.{Answer, accepted, refused, _else_, codeOf}
+use Rattle.basics.specs.Refusals.{Answer, accepted, refused, _else_, codeOf}
 use Rattle.network.specs.Threshold.{Net}
 use Rattle.network.specs.Record.{netOf, soundRecord}
 use Rattle.network.specs.declared.Network.{Network}
-use Rattle.folding.specs.Pair.{Pair}
-use Rattle.folding.specs.RefusalLaws.{NeverSays, checks-never}
-use Rattle.folding.specs.NumberLaws.{merge-never, pair-never, collapse-never}
-use Rattle.history.specs.Calls.{Given, answer}
-use Rattle.history.specs.NumberLaws.{answer-never}
-use Rattle.history.specs.declared.Call.{Call}
+use Rattle.fold_theory.specs.Pair.{Pair}
+use Rattle.fold_theory.specs.RefusalLaws.{NeverSays, checks-never}
+use Rattle.fold_theory.specs.NumberLaws.{merge-never, pair-never, collapse-never}
+use Rattle.call_theory.specs.Calls.{Given, answer}
+use Rattle.call_theory.specs.NumberLaws.{answer-never}
+use Rattle.call_theory.specs.declared.Call.{Call}
 use Rattle.journal.specs.Records.{stateOf, soundWhole}
 use Rattle.journal.specs.Answers.{asCallAnswer, applied}
 use Rattle.journal.specs.declared.Record.{Record}
-use Rattle.merging.specs.Answers.{onRecord, asPair, mergeCode, pairFound}
-use Rattle.report.specs.Size.{reportOf}
-use Rattle.preview.specs.Preview.{previewed}
+use Rattle.fold_merge.specs.Answers.{onRecord, asPair, mergeCode, pairFound}
+use Rattle.network_report.specs.Size.{reportOf}
+use Rattle.fold_preview.specs.Preview.{previewed}
 use Rattle.guarantees.specs.Thirteen.{NeverThirteen}
 
 -- the record's own refusal is another
@@ -26,10 +26,10 @@ unfolding onRecord
 record-never r call h = checks-never 13 ((soundRecord r else 20) ∷ []) (call (netOf r)) (omega arith, tt) h
 
 -- the code that a call gives
-code-never : (a : Answer Net) → NeverSays 13 a → codeOf a ≢ 13
+never-code : (a : Answer Net) → NeverSays 13 a → codeOf a ≢ 13
 unfolding codeOf
-code-never (accepted M) h = omega arith
-code-never (refused c) h = h
+never-code (accepted M) h = omega arith
+never-code (refused c) h = h
 
 found-never : (a : Answer Pair) → NeverSays 13 a → asPair a .code ≢ 13
 unfolding asPair
@@ -51,7 +51,7 @@ unfolding mergeCode pairFound previewed applied
 never-thirteen r =
     let n = r .network in
     record {
-      witnesses = λ u v k l. code-never _ (record-never n _ (merge-never (netOf n) u v k l));
+      witnesses = λ u v k l. never-code _ (record-never n _ (merge-never (netOf n) u v k l));
       pairs = λ u v. found-never _ (record-never n _ (pair-never (netOf n) u v));
       previews = λ s. report-never _ (record-never n _ (collapse-never (netOf n) s));
       calls = λ c. answered-never r c _ (checks-never 13 ((soundWhole r else 20) ∷ []) (answer (stateOf r) c) (omega arith, tt) (answer-never (stateOf r) c));

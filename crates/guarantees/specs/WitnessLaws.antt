@@ -4,10 +4,10 @@ use mathlib.Core.Path.{sym, _∙_}
 use Prim.Native.Nat.{ℕ}
 use Rattle.network.specs.Record.{netOf}
 use Rattle.network.specs.declared.Network.{Network}
-use Rattle.folding.specs.Merge.{edge}
-use Rattle.witness.specs.declared.Witnessed.{Witnessed}
-use Rattle.witness.specs.CallLaws.{disagreeing-edge}
-use Rattle.witness.specs.LitLaws.{fewest-lit}
+use Rattle.fold_theory.specs.Merge.{edge}
+use Rattle.fold_witness.specs.declared.Witnessed.{Witnessed}
+use Rattle.fold_witness.specs.CallLaws.{disagreeing-edge}
+use Rattle.fold_witness.specs.LitLaws.{fewest-lit}
 use Rattle.guarantees.specs.Witnesses.{LightsFewest}
 
 pub lights-fewest : (r : Network) (u v k l : ℕ) (w : Witnessed) → LightsFewest r u v k l w

@@ -1,13 +1,10 @@
 -- Document 02, No. 9: "with as few of them lit as any such setting has", counted signal by signal. Nothing is proved here.
-use mathlib.Core.Path.{_≡_}
-use mathlib.Core.Bool.{false}
-use Prim.Native.Nat.{ℕ, _^_, _≤_, _<_}
-use lib.ListN.{length}
+use Rattle.basics.specs.Library.{_≡_, false, ℕ, _^_, _≤_, _<_, length}
 use Rattle.network.specs.Record.{netOf}
 use Rattle.network.specs.declared.Network.{Network}
-use Rattle.folding.specs.Merge.{edge, distinct, agreesAt}
-use Rattle.witness.specs.Witness.{WitnessOf, lit}
-use Rattle.witness.specs.declared.Witnessed.{Witnessed}
+use Rattle.fold_theory.specs.Merge.{edge, distinct, agreesAt}
+use Rattle.fold_witness.specs.Witness.{WitnessOf, lit}
+use Rattle.fold_witness.specs.declared.Witnessed.{Witnessed}
 
 -- whatever answer with 15 meets the call's promise: of the distinct signals it lights no more than any setting on which the two differ
 pub record LightsFewest (r : Network) (u v k l : ℕ) (w : Witnessed) : Type 0 where

@@ -8,14 +8,14 @@ ghost use Prim.Native.Nat.{ℕ};
 ghost use lib.Dec.{T};
 ghost use Rattle.network.specs.Threshold.{Net};
 ghost use Rattle.network.specs.Limits.{sound};
-ghost use Rattle.format.specs.Format.{Bytes};
-ghost use Rattle.pmn.specs.Answers.{loaded};
-ghost use Rattle.folding.specs.Bench.{bench, reply};
-ghost use Rattle.folding.specs.Guarantee.{PairClaim};
-ghost use Rattle.history.specs.declared.Call.{Call};
-ghost use Rattle.cutting.specs.Claims.{CutClaim};
+ghost use Rattle.pmn_format.specs.Format.{Bytes};
+ghost use Rattle.pmn_reader.specs.Answers.{loaded};
+ghost use Rattle.fold_theory.specs.Bench.{bench, reply};
+ghost use Rattle.fold_theory.specs.Guarantee.{PairClaim};
+ghost use Rattle.call_theory.specs.declared.Call.{Call};
+ghost use Rattle.cut_theory.specs.Claims.{CutClaim};
 ghost use Rattle.journal.specs.Records.{justRead};
-ghost use Rattle.witness.specs.declared.Witnessed.{Witnessed};
+ghost use Rattle.fold_witness.specs.declared.Witnessed.{Witnessed};
 ghost use Rattle.guarantees.specs.Files.{Accepted, SoundIsDescribed, WrittenIsRead, ReadIsWritten};
 ghost use Rattle.guarantees.specs.Questions.{Questions};
 ghost use Rattle.guarantees.specs.Lists.{ListClaim};
@@ -65,8 +65,8 @@ pub fn pairs_are_least()
     ensures { λ _. ⌜ ((net : Net) (u v : ℕ) → PairClaim net u v) ⌝ }
 {}
 
-// Document 02, No. 1, for every record and any number: a preview is the report of the record that a collapse leaves, or the collapse's
-// refusal; as a call of a list it hands its record back as it was, with the whole preview.
+// Document 02, No. 1, for every record whose journal claims at most 64 steps, and any number: a preview is the report of the record that a
+// collapse leaves, or the collapse's refusal; as a call of a list it hands its record back as it was, with the whole preview.
 pub fn previews_are_reports(held: Record)
     ensures { λ _. ⌜ ((s : ℕ) → PreviewClaim held s) ⌝ }
 {}

@@ -6,16 +6,16 @@ use Prim.Native.Nat.{ℕ, _≤_}
 use borrow.Author.Tests.{le-leb, leb-true}
 use lib.Dec.{leb}
 use lib.ListN.{length}
-use Rattle.integers.specs.ListLaws.{length-tab}
-use Rattle.integers.specs.TestLaws.{both-true, and-left, and-right, and-false-left, and-false-right}
-use Rattle.integers.specs.Refusals.{refused}
-use Rattle.integers.specs.RefusalLaws.{checks-first, checks-next, checks-none}
+use Rattle.basics.specs.ListLaws.{length-tab}
+use Rattle.basics.specs.TestLaws.{both-true, and-left, and-right, and-false-left}
+use Rattle.basics.specs.Refusals.{refused}
+use Rattle.basics.specs.RefusalLaws.{checks-first, checks-next, checks-none}
 use Rattle.network.specs.Limits.{sound}
 use Rattle.network.specs.Record.{netOf, soundRecord}
 use Rattle.network.specs.declared.Network.{Network}
-use Rattle.history.specs.Steps.{soundState}
-use Rattle.history.specs.Calls.{noFigures, reply, answer}
-use Rattle.history.specs.declared.Call.{Call}
+use Rattle.call_theory.specs.Steps.{soundState}
+use Rattle.call_theory.specs.Calls.{noFigures, replyOf, answer}
+use Rattle.call_theory.specs.declared.Call.{Call}
 use Rattle.journal.specs.Journals.{stepsIn}
 use Rattle.journal.specs.Records.{stateOf, soundWhole}
 use Rattle.journal.specs.Answers.{asCallAnswer, applied}
@@ -24,7 +24,7 @@ use Rattle.journal.specs.declared.Record.{Record}
 
 -- ---- soundness
 
-pub count-steps : (j : Journal) → length (stepsIn j) ≡ j .count
+count-steps : (j : Journal) → length (stepsIn j) ≡ j .count
 unfolding stepsIn
 count-steps j = length-tab (j .count) _
 
@@ -46,10 +46,6 @@ pub broken-network : (r : Record) → soundRecord (r .network) ≡ false → sou
 unfolding soundWhole
 broken-network r e = and-false-left (soundRecord (r .network)) (leb (r .journal .count) 64) e
 
-pub broken-journal : (r : Record) → leb (r .journal .count) 64 ≡ false → soundWhole r ≡ false
-unfolding soundWhole
-broken-journal r e = and-false-right (soundRecord (r .network)) (leb (r .journal .count) 64) e
-
 -- the state of a sound record is sound
 net-sound : (n : Network) → soundRecord n ≡ true → sound (netOf n) ≡ true
 unfolding soundRecord
@@ -69,10 +65,10 @@ unfolding applied
 applied-exact r c e = ap (asCallAnswer r c) (checks-next (soundWhole r) 20 [] _ e ∙ checks-none (answer (stateOf r) c))
 
 -- by the call's own order
-pub applied-sound : (r : Record) (c : Call) → soundWhole r ≡ true → applied r c ≡ asCallAnswer r c (reply (stateOf r) c)
+pub applied-sound : (r : Record) (c : Call) → soundWhole r ≡ true → applied r c ≡ asCallAnswer r c (replyOf (stateOf r) c)
 unfolding answer
 applied-sound r c e = applied-exact r c e
-    ∙ ap (asCallAnswer r c) (checks-next (soundState (stateOf r)) 20 [] _ (whole-state r e) ∙ checks-none (reply (stateOf r) c))
+    ∙ ap (asCallAnswer r c) (checks-next (soundState (stateOf r)) 20 [] _ (whole-state r e) ∙ checks-none (replyOf (stateOf r) c))
 
 -- on a broken one it is 20
 pub applied-broken : (r : Record) (c : Call) → soundWhole r ≡ false → applied r c ≡ record { code = 20; after = r; figures = noFigures }
@@ -80,7 +76,7 @@ unfolding applied asCallAnswer
 applied-broken r c e = ap (asCallAnswer r c) (checks-first (soundWhole r) 20 [] (answer (stateOf r) c) e)
 
 -- a refusal hands the record back
-pub applied-refused : (r : Record) (c : Call) (k : ℕ) → soundWhole r ≡ true → reply (stateOf r) c ≡ refused k
+pub applied-refused : (r : Record) (c : Call) (k : ℕ) → soundWhole r ≡ true → replyOf (stateOf r) c ≡ refused k
     → applied r c ≡ record { code = k; after = r; figures = noFigures }
 unfolding asCallAnswer
 applied-refused r c k e h = applied-sound r c e ∙ ap (asCallAnswer r c) h

@@ -1,11 +1,11 @@
 -- What a call of a list on a record answers. Nothing is proved here.
-use mathlib.Core.List.{[], _∷_}
-use Rattle.integers.specs.Refusals.{Answer, accepted, refused, _else_, checks}
+use Rattle.basics.specs.Library.{[], _∷_}
+use Rattle.basics.specs.Refusals.{Answer, accepted, refused, _else_, checks}
 use Rattle.network.specs.Threshold.{Net}
 use Rattle.network.specs.Record.{netOf, layout}
-use Rattle.history.specs.Calls.{Given, noFigures, stepsOf, answer}
-use Rattle.history.specs.declared.Call.{Call}
-use Rattle.history.specs.declared.Call.the-variants.{Merge, Drop, Collapse, Sweep, Preview, Undo}
+use Rattle.call_theory.specs.Calls.{Given, noFigures, stepsOf, answer}
+use Rattle.call_theory.specs.declared.Call.{Call}
+use Rattle.call_theory.specs.declared.Call.the-variants.{Merge, Drop, Collapse, Sweep, Preview, Undo}
 use Rattle.journal.specs.Journals.{enterAll, withoutNewest}
 use Rattle.journal.specs.Records.{stateOf, soundWhole}
 use Rattle.journal.specs.declared.CallAnswer.{CallAnswer}

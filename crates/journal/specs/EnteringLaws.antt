@@ -10,20 +10,20 @@ use lib.IntN.{ℤ}
 use lib.ListN.{length, getD, take, set, length-append, length-set}
 use lib.Seq.{ext-getD, length-take-le, getD-take, getD-set-same, getD-set-other}
 use Rattle.network.specs.Places.{Pasted}
-use Rattle.places.specs.PasteLaws.{pasted-first}
+use Rattle.network_places.specs.PasteLaws.{pasted-first}
 use Rattle.network.specs.declared.GateRecord.{GateRecord}
 use Rattle.journal.specs.Journals.{withStep}
 use Rattle.journal.specs.Parts.{journalParts}
-use Rattle.journal.specs.Entering.{Raised, Entered}
+use Rattle.journal.specs.Entering.{ShiftedUp, StepEntered}
 use Rattle.journal.specs.ShiftLaws.{join-low, join-high}
 
 -- nothing moved
-pub raised-none : {A : Type 0} (d : A) (gap : ℕ) (l : List A) → Raised d gap (length l) l l
+pub raised-none : {A : Type 0} (d : A) (gap : ℕ) (l : List A) → ShiftedUp d gap (length l) l l
 raised-none d gap l = record { long = refl; below = λ i h. refl; above = λ i h k. absurd (omega arith) }
 
 -- one value more
-pub raised-more : {A : Type 0} {d : A} {gap p : ℕ} {old new : List A} (q r : ℕ) (v : A) → Raised d gap p old new → p ≤ length old → gap < p
-    → q ≡ p - 1 → r ≡ q - gap → v ≡ getD new r d → Raised d gap q old (set new q v)
+pub raised-more : {A : Type 0} {d : A} {gap p : ℕ} {old new : List A} (q r : ℕ) (v : A) → ShiftedUp d gap p old new → p ≤ length old → gap < p
+    → q ≡ p - 1 → r ≡ q - gap → v ≡ getD new r d → ShiftedUp d gap q old (set new q v)
 raised-more {A} {d} {gap} {p} {old} {new} q r v h k l e f ev = record {
   long = length-set new q v ∙ h .long;
   below = λ i j. getD-set-other new q i v d (λ x. omega arith) ∙ h .below i (omega arith);
@@ -42,7 +42,7 @@ raised-more {A} {d} {gap} {p} {old} {new} q r v h k l e f ev = record {
 
 -- the values moved up, and a front written into the places below
 pub raised-entered : {A : Type 0} {d : A} {old mid new : List A} (front : List A) → length front ≤ length old
-    → Raised d (length front) (length front) old mid → Pasted d 0 (length front) (λ i. getD front i d) mid new → new ≡ take (length old) (front ++ old)
+    → ShiftedUp d (length front) (length front) old mid → Pasted d 0 (length front) (λ i. getD front i d) mid new → new ≡ take (length old) (front ++ old)
 raised-entered {A} {d} {old} {mid} {new} front few h k =
     let size : ℕ = length old in
     let room : size ≤ length (front ++ old) = omega (arith, length-append front old) in
@@ -57,8 +57,9 @@ raised-entered {A} {d} {old} {mid} {new} front few h k =
 -- a step entered into lent arrays is one entered into their journal
 pub entered-parts : (count : ℕ) {kind signal more : ℕ} {row : GateRecord} {kinds signals fanins feeds kinds′ signals′ fanins′ feeds′ : List ℕ}
     {thresholds weights thresholds′ weights′ : List ℤ} → more ≡ cond (ltb count 64) (count + 1) 64
-    → Entered kind signal row kinds signals fanins thresholds feeds weights kinds′ signals′ fanins′ thresholds′ feeds′ weights′
-    → journalParts more kinds′ signals′ fanins′ thresholds′ feeds′ weights′ ≡ withStep (journalParts count kinds signals fanins thresholds feeds weights) kind signal row
+    → StepEntered kind signal row kinds signals fanins thresholds feeds weights kinds′ signals′ fanins′ thresholds′ feeds′ weights′
+    → journalParts more kinds′ signals′ fanins′ thresholds′ feeds′ weights′
+    ≡ withStep (journalParts count kinds signals fanins thresholds feeds weights) kind signal row
 unfolding withStep
 entered-parts count m e = λ x. record {
   count = m x;

@@ -11,13 +11,12 @@ use lib.Dec.{ltb}
 use lib.IntN.{pos}
 use lib.ListN.{length, getD, take, drop, replicate, length-take, List·getD-map, List·getD-eq-default}
 use lib.Seq.{getD-take}
-use Rattle.integers.specs.Lists.{tab, Each}
-use Rattle.integers.specs.ListLaws.{length-tab, getD-tab, tab-of, tab-same, tab-replicate, each-getD}
+use Rattle.basics.specs.Lists.{tab, Each}
+use Rattle.basics.specs.ListLaws.{length-tab, getD-tab, tab-of, tab-same, tab-replicate, each-getD}
 use Rattle.network.specs.Threshold.{Feed, Gate}
-use Rattle.network.specs.Record.{noFeed, nthGate, placeOf, gateRecord}
-use Rattle.network.specs.Places.{rowAt}
+use Rattle.network.specs.Record.{noFeed, nthGate, placeOf, gateRecord, rowAt}
 use Rattle.network.specs.PlaceLaws.{gateIn-gateRecord}
-use Rattle.history.specs.Steps.{Step, merging, dropping, oldGate, entered, enteredAll}
+use Rattle.call_theory.specs.Steps.{Step, merging, dropping, oldGate, entered, enteredAll}
 use Rattle.journal.specs.Journals.{stepOf, rowOf, stepAt, stepsIn, kindOf, signalOf, journalOf, emptyJournal}
 use Rattle.journal.specs.Journals.{withStep, enter, enterAll, withoutNewest}
 use Rattle.journal.specs.StepPlaces.{spareStep, nth, feedIn, tabled}
@@ -131,7 +130,7 @@ tabled-entered s ss h = λ x. record {
 }
 
 -- a step entered into the journal of a list is entered into the list
-pub enter-journal : (ss : List Step) (s : Step) → length ss ≤ 64 → enter (journalOf ss) s ≡ journalOf (entered s ss)
+enter-journal : (ss : List Step) (s : Step) → length ss ≤ 64 → enter (journalOf ss) s ≡ journalOf (entered s ss)
 unfolding entered
 enter-journal ss s h = ap (λ (j : Journal). enter j s) (journal-tabled ss) ∙ tabled-entered s ss h ∙ sym (journal-tabled (take 64 (s ∷ ss)))
 

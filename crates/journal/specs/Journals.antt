@@ -1,15 +1,9 @@
 -- The journal's arrays: the steps that they stand for, a step entered, and the newest taken out. Document 02, No. 5. Nothing is proved here.
-use mathlib.Core.Bool.{cond}
-use mathlib.Core.List.{List, [], _∷_, _++_, map}
-use Prim.Native.Nat.{ℕ, _+_, _-_}
-use lib.Dec.{ltb, eqb}
-use lib.IntN.{pos}
-use lib.ListN.{length, getD, take, drop, replicate}
-use Rattle.integers.specs.Lists.{tab}
-use Rattle.network.specs.Record.{nthGate, placeOf, gateIn, gateRecord}
-use Rattle.network.specs.Places.{rowAt}
+use Rattle.basics.specs.Library.{cond, List, [], _∷_, _++_, map, ℕ, _+_, _-_, ltb, eqb, pos, length, getD, take, drop, replicate}
+use Rattle.basics.specs.Lists.{tab}
+use Rattle.network.specs.Record.{nthGate, placeOf, gateIn, gateRecord, rowAt}
 use Rattle.network.specs.declared.GateRecord.{GateRecord}
-use Rattle.history.specs.Steps.{Step, merging, dropping, oldGate}
+use Rattle.call_theory.specs.Steps.{Step, merging, dropping, oldGate}
 use Rattle.journal.specs.declared.Journal.{Journal}
 
 -- ---- the steps that a journal stands for

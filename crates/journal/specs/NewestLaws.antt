@@ -6,14 +6,14 @@ use native.Mathlib.Decide.{decLt}
 use native.Mathlib.Omega.{arith}
 use lib.IntN.{ℤ, pos}
 use lib.ListN.{length, getD, replicate, length-replicate, List·getD-eq-default}
-use Rattle.integers.specs.Lists.{tab}
-use Rattle.integers.specs.ListLaws.{getD-tab, tab-of, getD-spare}
+use Rattle.basics.specs.Lists.{tab}
+use Rattle.basics.specs.ListLaws.{getD-tab, tab-of, getD-spare}
 use Rattle.network.specs.Threshold.{Feed}
-use Rattle.network.specs.Record.{feedAt, noFeed, gateIn, gateRecord}
-use Rattle.network.specs.Places.{Pasted, rowAt}
+use Rattle.network.specs.Record.{feedAt, noFeed, gateIn, gateRecord, rowAt}
+use Rattle.network.specs.Places.{Pasted}
 use Rattle.network.specs.PlaceLaws.{length-feeds, feeds-at}
 use Rattle.network.specs.declared.GateRecord.{GateRecord}
-use Rattle.places.specs.PasteLaws.{pasted-first}
+use Rattle.network_places.specs.PasteLaws.{pasted-first}
 use Rattle.journal.specs.Journals.{rowOf}
 use Rattle.journal.specs.declared.Journal.{Journal}
 

@@ -1,12 +1,12 @@
--- A record by its parts, where its arrays are lent, and what a call of a list leaves of them. Nothing is proved here.
+-- Internal: a record by its parts, where its arrays are lent, and what a call of a list leaves of them. Nothing is proved here.
 use mathlib.Core.Path.{_≡_}
 use mathlib.Core.Bool.{true}
 use mathlib.Core.List.{List}
 use Prim.Native.Nat.{ℕ}
 use lib.IntN.{ℤ}
 use Rattle.network.specs.declared.Network.{Network}
-use Rattle.places.specs.Parts.{fromParts, counting, Lengths}
-use Rattle.places.specs.declared.Head.{Head}
+use Rattle.network_places.specs.Parts.{fromParts, counting, Lengths}
+use Rattle.network_places.specs.declared.Head.{Head}
 use Rattle.journal.specs.Records.{soundWhole}
 use Rattle.journal.specs.declared.CallAnswer.{CallAnswer}
 use Rattle.journal.specs.declared.CallLeft.{CallLeft}

@@ -4,13 +4,14 @@ use mathlib.Core.List.{List}
 use Prim.Native.Nat.{ℕ}
 use lib.IntN.{ℤ}
 use Rattle.network.specs.declared.Network.{Network}
-use Rattle.places.specs.Parts.{fromParts, counting}
-use Rattle.places.specs.declared.Head.{Head}
+use Rattle.network_places.specs.Parts.{fromParts, counting}
+use Rattle.network_places.specs.declared.Head.{Head}
 use Rattle.journal.specs.Parts.{journalParts, recordParts, answerParts, leaving, refusing, answered}
 use Rattle.journal.specs.declared.CallLeft.{CallLeft}
 use Rattle.journal.specs.declared.Journal.{Journal}
 
-module _ (head : Head) {fanins signals drivers kinds step-signals step-fanins feeds : List ℕ} {thresholds weights step-thresholds step-weights : List ℤ} {o : CallLeft} where
+module _ (head : Head) {fanins signals drivers kinds step-signals step-fanins feeds : List ℕ}
+    {thresholds weights step-thresholds step-weights : List ℤ} {o : CallLeft} where
   -- a refusal leaving the record
   pub refused-parts : {code count : ℕ} → o ≡ leaving code (head .gates) count 0
       → answerParts o head fanins thresholds signals weights drivers kinds step-signals step-fanins step-thresholds feeds step-weights

@@ -1,11 +1,9 @@
 -- The record: a network with its journal. Document 02, No. 5, "The record gains a journal". Nothing is proved here.
-use mathlib.Core.Bool.{Bool, _&&_}
-use mathlib.Core.List.{[], _∷_}
-use lib.Dec.{leb}
-use Rattle.integers.specs.Refusals.{Answer, _else_, checks}
+use Rattle.basics.specs.Library.{Bool, _&&_, [], _∷_, leb}
+use Rattle.basics.specs.Refusals.{Answer, _else_, checks}
 use Rattle.network.specs.Record.{netOf, layout, soundRecord}
 use Rattle.network.specs.declared.Network.{Network}
-use Rattle.history.specs.Steps.{State}
+use Rattle.call_theory.specs.Steps.{State}
 use Rattle.journal.specs.Journals.{stepsIn, journalOf, emptyJournal}
 use Rattle.journal.specs.declared.Record.{Record}
 

@@ -6,13 +6,13 @@ use native.Mathlib.Decide.{decLt}
 use native.Mathlib.Omega.{arith}
 use lib.ListN.{length, getD, take, drop, replicate, length-drop, length-append, length-replicate, getD-replicate, List·getD-append, List·getD-eq-default}
 use lib.Seq.{length-take-le, getD-take, getD-drop, getD-append-add}
-use Rattle.integers.specs.Lists.{tab}
-use Rattle.integers.specs.ListLaws.{length-tab, getD-tab, tab-of, tab-same}
-use Rattle.integers.specs.TableLaws.{tab-any}
+use Rattle.basics.specs.Lists.{tab}
+use Rattle.basics.specs.ListLaws.{length-tab, getD-tab, tab-of, tab-same}
+use Rattle.basics.specs.TableLaws.{tab-any}
 
 module _ {A : Type 0} (d : A) where
   -- the first members of a list, as a table
-  pub tab-take : (n : ℕ) (zs : List A) → n ≤ length zs → tab n (λ p. getD zs p d) ≡ take n zs
+  tab-take : (n : ℕ) (zs : List A) → n ≤ length zs → tab n (λ p. getD zs p d) ≡ take n zs
   tab-take n zs h = tab-of d n (λ p. getD zs p d) (take n zs) (sym (length-take-le n zs h)) λ i k.
       sym (getD-take n zs i d (omega (arith, length-take-le n zs h)))
 

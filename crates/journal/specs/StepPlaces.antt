@@ -1,11 +1,11 @@
--- A journal by the step of each of its places. Nothing is proved here.
+-- Internal: a journal by the step of each of its places. Nothing is proved here.
 use mathlib.Core.List.{List}
 use Prim.Native.Nat.{ℕ, _/_, _%_}
 use lib.ListN.{length, getD}
-use Rattle.integers.specs.Lists.{tab}
+use Rattle.basics.specs.Lists.{tab}
 use Rattle.network.specs.Threshold.{Feed}
 use Rattle.network.specs.Record.{noFeed, noGate}
-use Rattle.history.specs.Steps.{Step, merging, oldGate}
+use Rattle.call_theory.specs.Steps.{Step, merging, oldGate}
 use Rattle.journal.specs.Journals.{kindOf, signalOf}
 use Rattle.journal.specs.declared.Journal.{Journal}
 

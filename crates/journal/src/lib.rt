@@ -1,7 +1,7 @@
 // The record: a network with the journal of its last 64 accepted steps, by value; and what a call of a list on it answers.
 pub mod unchecked;
 
-use history::Figures;
+use call_theory::Figures;
 use network::Network;
 use network::soundness;
 ghost use mathlib.Core.Path.{_≡_};

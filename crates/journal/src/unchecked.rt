@@ -1,9 +1,9 @@
 // A step entered into a journal, and the newest taken out of it. Each function asks for what its arrays hold.
 use crate::Journal;
-use integers::wide;
+use basics::wide;
 use network::GateRecord;
-use places::unchecked::byte_at;
-use places::unchecked::integer_at;
+use network_places::unchecked::byte_at;
+use network_places::unchecked::integer_at;
 ghost use mathlib.Core.Path.{_≡_};
 ghost use mathlib.Core.Bool.{cond};
 ghost use mathlib.Core.List.{_++_};
@@ -14,12 +14,12 @@ ghost use lib.ListN.{length, getD, take, drop, replicate};
 ghost use Rattle.network.specs.Record.{gateIn, gateRecord};
 ghost use Rattle.network.specs.Places.{Pasted};
 ghost use Rattle.journal.specs.Journals.{rowOf, withoutNewest};
-ghost use Rattle.journal.specs.Entering.{Raised, Entered};
+ghost use Rattle.journal.specs.Entering.{ShiftedUp, StepEntered};
 
 // The bytes moved up by gap places; the first gap ones stay, the last gap ones go.
 fn raise_bytes(bytes: &mut [u8], gap: usize)
     requires { ⌜ gap ≤ length (now bytes) ⌝ }
-    ensures { λ _. ⌜ Raised 0 gap gap (now (bytes .entry)) (now (bytes .exit)) ⌝ }
+    ensures { λ _. ⌜ ShiftedUp 0 gap gap (now (bytes .entry)) (now (bytes .exit)) ⌝ }
 {
     let mut p = bytes.len();
     while gap < p {
@@ -32,7 +32,7 @@ fn raise_bytes(bytes: &mut [u8], gap: usize)
 // The integers moved up by gap places; the first gap ones stay, the last gap ones go.
 fn raise_integers(integers: &mut [i32], gap: usize)
     requires { ⌜ gap ≤ length (now integers) ⌝ }
-    ensures { λ _. ⌜ Raised (pos 0) gap gap (now (integers .entry)) (now (integers .exit)) ⌝ }
+    ensures { λ _. ⌜ ShiftedUp (pos 0) gap gap (now (integers .entry)) (now (integers .exit)) ⌝ }
 {
     let mut p = integers.len();
     while gap < p {
@@ -95,7 +95,7 @@ pub fn enter_step(
     signal: u8,
     gate: GateRecord,
 )
-    ensures { λ _. ⌜ Entered kind signal gate
+    ensures { λ _. ⌜ StepEntered kind signal gate
         (now (kinds .entry)) (now (signals .entry)) (now (fanins .entry)) (now (thresholds .entry)) (now (feeds .entry)) (now (weights .entry))
         (now (kinds .exit)) (now (signals .exit)) (now (fanins .exit)) (now (thresholds .exit)) (now (feeds .exit)) (now (weights .exit)) ⌝ }
 {

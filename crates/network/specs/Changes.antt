@@ -1,10 +1,6 @@
 -- A network made from another: gates replaced, a gate removed, and a removed gate put back. Document 01, "It replaces v" and "Drop";
 -- document 02, No. 5, "restores the network as it was before it, signals included". Nothing is proved here.
-use mathlib.Core.Bool.{cond}
-use mathlib.Core.List.{List, [], _∷_, map}
-use Prim.Native.Nat.{ℕ, zero, suc, _-_}
-use lib.Dec.{ltb}
-use lib.ListN.{set, getD}
+use Rattle.basics.specs.Library.{cond, List, [], _∷_, map, ℕ, zero, suc, _-_, ltb, set, getD}
 use Rattle.network.specs.Threshold.{Feed, Gate, Net}
 use Rattle.network.specs.Record.{noGate}
 

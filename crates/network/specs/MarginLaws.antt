@@ -9,15 +9,17 @@ use lib.Dec.{T}
 use lib.IntN.{ℤ, pos, natAbs, _+ℤ_}
 use lib.ListN.{length, getD, set, take, drop, length-map}
 use lib.Seq.{drop-cons}
-use Rattle.integers.specs.Lists.{all, below, keep, range, tab, Each, Small}
-use Rattle.integers.specs.ListLaws.{at-below, length-range, length-tab, getD-tab, all-tab}
-use Rattle.integers.specs.TestLaws.{is-true, T-is, T-and, and-T}
-use Rattle.margins.specs.Sums.{everySum, outside, OnScale}
-use Rattle.margins.specs.SumLaws.{every-zero, margins-always}
+use Rattle.basics.specs.Lists.{all, below, keep, range, tab, Each}
+use Rattle.basics.specs.SizeLaws.{SizesWithin}
+use Rattle.basics.specs.ListLaws.{at-below, length-range, length-tab, getD-tab, all-tab}
+use Rattle.basics.specs.TestLaws.{is-true, T-is, T-and, and-T}
+use Rattle.gate_margins.specs.Sums.{everySum, outside}
+use Rattle.gate_margins.specs.Tables.{OnScale}
+use Rattle.gate_margins.specs.SumLaws.{every-zero, margins-always}
 use Rattle.network.specs.Threshold.{Feed, Gate, Net}
-use Rattle.network.specs.Limits.{isZero, stays, scaleOk, weightsOf, keeps}
+use Rattle.network.specs.Limits.{scale, isZero, weighs, scaleOk, weightsOf, keeps}
 use Rattle.network.specs.LimitLaws.{zero-is, gate-sizes, gates-at}
-use Rattle.network.specs.Sound.{GateOk, Gates}
+use Rattle.network.specs.Sound.{GateOk, GatesOk}
 use Rattle.network.specs.Record.{feedAt, feedsFrom, gateFrom, gateOf, gateIn, noGate}
 use Rattle.network.specs.Changes.{loweredFeed, loweredGate, removeAt, withGate, without}
 use Rattle.network.specs.Margins.{weightsFrom, placesKeep, GatesOnScale}
@@ -38,25 +40,25 @@ all-plain b (g ∷ gs) e f = and-T (keeps b g) (all (keeps b) gs) (T-is (keeps b
 -- ---- what a fold does to gates
 
 -- feeds of weight 0
-pub every-stays : (p : ℤ → Bool) (fs : List Feed) → everySum p (weightsOf (keep stays fs)) ≡ everySum p (weightsOf fs)
-unfolding everySum weightsOf keep stays
+pub every-stays : (p : ℤ → Bool) (fs : List Feed) → everySum p (weightsOf (keep weighs fs)) ≡ everySum p (weightsOf fs)
+unfolding everySum weightsOf keep weighs
 every-stays p [] = refl
 every-stays p (f ∷ fs) = elim (isZero (f .weight)) as
-    (λ b. (T b → f .weight ≡ pos 0) → everySum p (weightsOf (cond (not b) (f ∷ keep stays fs) (keep stays fs))) ≡ everySum p (f .weight ∷ weightsOf fs)) [
+    (λ b. (T b → f .weight ≡ pos 0) → everySum p (weightsOf (cond (not b) (f ∷ keep weighs fs) (keep weighs fs))) ≡ everySum p (f .weight ∷ weightsOf fs)) [
       | true ↦ λ e. every-stays p fs ∙ sym (every-zero p (weightsOf fs)) ∙ ap (λ (w : ℤ). everySum p (w ∷ weightsOf fs)) (sym (e tt))
       | false ↦ λ e. ap₂ _&&_ (every-stays p fs) (every-stays (λ z. p (f .weight +ℤ z)) fs)
     ]
     (zero-is (f .weight))
 
 -- "higher signals fall by one"
-weights-lowered : (u : ℕ) (fs : List Feed) → weightsOf (map (loweredFeed u) fs) ≡ weightsOf fs
+weightsOf-lowered : (u : ℕ) (fs : List Feed) → weightsOf (map (loweredFeed u) fs) ≡ weightsOf fs
 unfolding weightsOf loweredFeed
-weights-lowered u [] = refl
-weights-lowered u (f ∷ fs) = ap (λ (ws : List ℤ). f .weight ∷ ws) (weights-lowered u fs)
+weightsOf-lowered u [] = refl
+weightsOf-lowered u (f ∷ fs) = ap (λ (ws : List ℤ). f .weight ∷ ws) (weightsOf-lowered u fs)
 
-pub keeps-lowered : (b : Board) (u : ℕ) (g : Gate) → keeps b (loweredGate u g) ≡ keeps b g
+keeps-lowered : (b : Board) (u : ℕ) (g : Gate) → keeps b (loweredGate u g) ≡ keeps b g
 unfolding keeps loweredGate
-keeps-lowered b u g = ap (everySum (outside (b .on) (b .off) (g .threshold))) (weights-lowered u (g .feeds))
+keeps-lowered b u g = ap (everySum (outside (b .on) (b .off) (g .threshold))) (weightsOf-lowered u (g .feeds))
 
 all-lowered : (b : Board) (u : ℕ) (gs : List Gate) → all (keeps b) (map (loweredGate u) gs) ≡ all (keeps b) gs
 unfolding all
@@ -89,7 +91,7 @@ module _ (N : Net) (t : T (all (keeps (N .board)) (N .gates))) where
       subst T (sym (all-lowered (N .board) u gs)) (all-remove (keeps (N .board)) (u - N .inputs) (N .gates) t)
 
 -- ---- the weights at the places
-pub weights-from : (signals : List ℕ) (weights : List ℤ) (p count : ℕ) → weightsOf (feedsFrom signals weights p count) ≡ weightsFrom weights p count
+weights-from : (signals : List ℕ) (weights : List ℤ) (p count : ℕ) → weightsOf (feedsFrom signals weights p count) ≡ weightsFrom weights p count
 unfolding weightsOf feedsFrom weightsFrom feedAt
 weights-from signals weights p count = map-map (λ f. f .weight) (feedAt signals weights) (range p count)
 
@@ -110,11 +112,11 @@ unfolding gateIn
 gate-weights r = weights-from (r .signals) (r .weights) 0 (r .fanin)
 
 -- ---- what a gate within the limits gives
-weights-small : (fs : List Feed) → Each (λ f. natAbs (f .weight) ≤ 1000000) fs → Small 1000000 (weightsOf fs)
+weightsOf-small : (fs : List Feed) → Each (λ f. natAbs (f .weight) ≤ scale) fs → SizesWithin scale (weightsOf fs)
 unfolding weightsOf
-weights-small [] h i = omega arith
-weights-small (f ∷ fs) h zero = h .0
-weights-small (f ∷ fs) h (suc i) = weights-small fs (h .1) i
+weightsOf-small [] h i = omega arith
+weightsOf-small (f ∷ fs) h zero = h .0
+weightsOf-small (f ∷ fs) h (suc i) = weightsOf-small fs (h .1) i
 
 pub on-scale : (g : Gate) → length (g .feeds) ≤ 16 → T (scaleOk g) → OnScale (weightsOf (g .feeds)) (g .threshold)
 unfolding weightsOf
@@ -122,7 +124,7 @@ on-scale g few t =
     let z = gate-sizes g t in
     record {
       few = subst (λ (n : ℕ). n ≤ 16) (sym (length-map (g .feeds) (λ f. f .weight))) few;
-      weights-small = weights-small (g .feeds) (z .1);
+      weights-small = weightsOf-small (g .feeds) (z .1);
       threshold-small = z .0;
     }
 
@@ -153,7 +155,7 @@ pub gates-keep : (r : Network)
     → all (keeps (r .board)) (tab (r .gates) (gateOf r)) ≡ below (r .gates) (placesKeep (r .board) (r .fanins) (r .thresholds) (r .weights))
 gates-keep r = all-tab (keeps (r .board)) (r .gates) (gateOf r) ∙ ap (below (r .gates)) (fun-ext (places-keep r))
 
-pub gates-on-scale : (r : Network) → r .gates ≤ 128 → Gates (r .inputs) (tab (r .gates) (gateOf r))
+pub gates-on-scale : (r : Network) → r .gates ≤ 128 → GatesOk (r .inputs) (tab (r .gates) (gateOf r))
     → GatesOnScale (r .fanins) (r .thresholds) (r .weights) (r .gates)
 unfolding gateFrom
 gates-on-scale r few s = record {

@@ -1,18 +1,13 @@
--- The margins of gates by the places of a record, as the code tests them. Nothing is proved here.
+-- Internal: the margins of gates by the places of a record, as the code tests them. Nothing is proved here.
 use mathlib.Core.Bool.{Bool}
 use mathlib.Core.List.{List, map}
 use Prim.Native.Nat.{ℕ, _*_, _≤_, _<_}
-use lib.Dec.{T}
 use lib.IntN.{ℤ, pos}
 use lib.ListN.{getD}
-use Rattle.integers.specs.Lists.{range}
-use Rattle.margins.specs.Sums.{everySum, outside, OnScale}
-use Rattle.network.specs.Threshold.{Gate, Assignment, sum}
+use Rattle.basics.specs.Lists.{range}
+use Rattle.gate_margins.specs.Sums.{everySum, outside}
+use Rattle.gate_margins.specs.Tables.{OnScale}
 use Rattle.network.specs.declared.Board.{Board}
-
--- a gate keeps the margins in the document's words: over every assignment of bits to signals. A law says that this is the test `keeps`
-abbrev pub Keeps : Board → Gate → Type 0
-Keeps b g = (ρ : Assignment) → T (outside (b .on) (b .off) (g .threshold) (sum ρ (g .feeds)))
 
 -- count weights, from a place on
 unfoldable pub weightsFrom : List ℤ → ℕ → ℕ → List ℤ

@@ -5,10 +5,10 @@ use mathlib.Core.List.{List, [], _∷_, map}
 use native.Mathlib.Omega.{arith}
 use lib.Dec.{T}
 use lib.IntN.{ℤ, pos, negℤ, _+ℤ_, +ℤ-idl}
-use Rattle.integers.specs.Lists.{keep}
-use Rattle.integers.specs.IntegerLaws.{#, nat, _⊕_, minus, eq-of}
+use Rattle.basics.specs.Lists.{keep}
+use Rattle.basics.specs.IntegerLaws.{#, nat, _⊕_, minus, eq-of}
 use Rattle.network.specs.Threshold.{Feed, negated, Assignment, sum}
-use Rattle.network.specs.Limits.{isZero, stays}
+use Rattle.network.specs.Limits.{isZero, weighs}
 use Rattle.network.specs.LimitLaws.{zero-is}
 
 -- minus a weight that counts or not, and minus the rest
@@ -30,10 +30,10 @@ pub no-weight : (b : Bool) (w x : ℤ) → w ≡ pos 0 → cond b w (pos 0) +ℤ
 no-weight b w x e = rw (e, cond-zero b) (+ℤ-idl x)
 
 -- a feed of weight 0 adds nothing
-pub sum-stays : (ρ : Assignment) (fs : List Feed) → sum ρ (keep stays fs) ≡ sum ρ fs
-unfolding sum keep stays
+pub sum-stays : (ρ : Assignment) (fs : List Feed) → sum ρ (keep weighs fs) ≡ sum ρ fs
+unfolding sum keep weighs
 sum-stays ρ [] = refl
 sum-stays ρ (f ∷ fs) = elim (isZero (f .weight)) as
-    (λ b. (T b → f .weight ≡ pos 0) → sum ρ (cond (not b) (f ∷ keep stays fs) (keep stays fs)) ≡ cond (ρ (f .signal)) (f .weight) (pos 0) +ℤ sum ρ fs)
+    (λ b. (T b → f .weight ≡ pos 0) → sum ρ (cond (not b) (f ∷ keep weighs fs) (keep weighs fs)) ≡ cond (ρ (f .signal)) (f .weight) (pos 0) +ℤ sum ρ fs)
     [ true ↦ λ e. sum-stays ρ fs ∙ sym (no-weight (ρ (f .signal)) (f .weight) (sum ρ fs) (e tt)) | false ↦ λ e. rw (sum-stays ρ fs) ]
     (zero-is (f .weight))

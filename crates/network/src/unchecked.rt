@@ -1,11 +1,12 @@
 // The margins of gates at their places. Each call asks for gates whose feed counts, weights and thresholds are within the limits.
 use super::Board;
 use super::GateRecord;
-use margins::unchecked::keeps_margins;
+use gate_margins::unchecked::keeps_margins;
 ghost use mathlib.Core.Path.{_≡_};
 ghost use Prim.Native.Nat.{_+_, _≤_};
-ghost use Rattle.integers.specs.Lists.{below};
-ghost use Rattle.margins.specs.Sums.{everySum, outside, OnScale};
+ghost use Rattle.basics.specs.Lists.{below};
+ghost use Rattle.gate_margins.specs.Sums.{everySum, outside};
+ghost use Rattle.gate_margins.specs.Tables.{OnScale};
 ghost use Rattle.network.specs.Limits.{weightsOf, keeps};
 ghost use Rattle.network.specs.Record.{gateIn};
 ghost use Rattle.network.specs.Margins.{weightsFrom, placesKeep, GatesOnScale};
@@ -42,7 +43,7 @@ pub fn gate_keeps(gate: GateRecord, board: Board) -> bool
     requires { ⌜ OnScale (weightsOf (gateIn gate .feeds)) (gate .threshold) ⌝ }
     ensures { λ r. ⌜ r ≡ keeps board (gateIn gate) ⌝ }
 {
-    let count = integers::wide(gate.fanin);
+    let count = basics::wide(gate.fanin);
     let threshold = gate.threshold;
     first_keep(&gate.weights, count, threshold, board)
 }
@@ -59,7 +60,7 @@ fn each_keeps<'a>(
     ensures { λ r. ⌜ r ≡ below gates (placesKeep board (now (fanins .entry)) (now (thresholds .entry)) (now (weights .entry))) ⌝ }
 {
     for g in 0..gates {
-        let count = integers::wide(fanins[g]);
+        let count = basics::wide(fanins[g]);
         if !places_keep(weights, 16 * g, count, thresholds[g], board) {
             return false;
         }

@@ -1,13 +1,10 @@
 -- What `write` answers, as document 01 has it: "A refusal hands the record back unchanged (a refused read: blank), with 0 for every other
 -- number, and touches no lent byte." Nothing is proved here.
-use mathlib.Core.List.{List, [], _∷_}
-use Prim.Native.Nat.{ℕ}
-use lib.Dec.{leb}
-use lib.ListN.{length}
-use Rattle.integers.specs.Refusals.{Answer, accepted, refused, stored, _else_, checks}
+use Rattle.basics.specs.Library.{List, [], _∷_, ℕ, leb, length}
+use Rattle.basics.specs.Refusals.{Answer, accepted, refused, stored, _else_, checks}
 use Rattle.network.specs.Record.{netOf, soundRecord}
 use Rattle.network.specs.declared.Network.{Network}
-use Rattle.format.specs.Format.{fileBytes}
+use Rattle.pmn_format.specs.Format.{fileBytes}
 use Rattle.pmn_writer.specs.declared.Written.{Written}
 
 -- order 20, 18: the bytes of the file, where the lent bytes have room for it

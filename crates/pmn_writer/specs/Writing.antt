@@ -1,20 +1,11 @@
--- What the writer puts, as lists: the header, the gates of a record's arrays, and the outputs. Nothing is proved here.
-use mathlib.Core.List.{List, [], _∷_, _++_}
-use Prim.Native.Nat.{ℕ, zero, suc, _+_, _*_, _≤_, _<_}
+-- Internal: what the writer puts after the header, as lists: the gates of a record's arrays, and the outputs. Nothing is proved here.
+use mathlib.Core.List.{List}
+use Prim.Native.Nat.{ℕ, zero, suc, _+_, _*_}
 use lib.IntN.{ℤ}
 use lib.ListN.{getD}
-use Rattle.integers.specs.Lists.{tab}
+use Rattle.basics.specs.Lists.{tab}
 use Rattle.network.specs.Record.{feedsFrom, gateFrom}
-use Rattle.network.specs.declared.Board.{Board}
-use Rattle.format.specs.Format.{feedsBytes, gatesBytes, boardBytes}
-
--- the mark, the version and the margins of a board
-abbrev pub marked : Board → List ℕ
-marked b = 80 ∷ 77 ∷ 78 ∷ boardBytes b
-
--- the header of a board with these counts
-abbrev pub header : Board → ℕ → ℕ → ℕ → List ℕ
-header b inputs gates outputs = marked b ++ (inputs ∷ gates ∷ outputs ∷ [])
+use Rattle.pmn_format.specs.Format.{feedsBytes, gatesBytes}
 
 -- the first n feeds of a gate's places
 unfoldable pub firstFeeds : List ℕ → List ℤ → ℕ → List ℕ
@@ -32,8 +23,3 @@ gatesLength fanins (suc g) = gatesLength fanins g + (5 + 5 * getD fanins g 0)
 -- the first n outputs
 unfoldable pub firstOutputs : List ℕ → ℕ → List ℕ
 firstOutputs drivers n = tab n (λ j. getD drivers j 0)
-
--- the gates and their feeds are within the limits
-pub record Counted (fanins : List ℕ) (gates : ℕ) : Type 0 where
-  pub few-gates : gates ≤ 128
-  pub few-feeds : (g : ℕ) → g < gates → getD fanins g 0 ≤ 16

@@ -8,24 +8,24 @@ use native.Mathlib.Omega.{arith}
 use borrow.Author.Tests.{eq-eqb, ne-eqb}
 use lib.IntN.{ℤ, pos}
 use lib.ListN.{length, getD, length-append}
-use Rattle.integers.specs.Lists.{range, tab}
-use Rattle.integers.specs.ListLaws.{length-tab, getD-tab, tab-same, range-more}
-use Rattle.integers.specs.Word.{intBytes}
+use Rattle.basics.specs.Lists.{range, tab}
+use Rattle.basics.specs.ListLaws.{length-tab, getD-tab, tab-same, range-more}
+use Rattle.basics.specs.Word.{intBytes}
 use Rattle.network.specs.declared.Board.{Board}
 use Rattle.network.specs.declared.GateRecord.{GateRecord}
 use Rattle.network.specs.declared.Network.{Network}
 use Rattle.network.specs.Threshold.{Feed}
-use Rattle.network.specs.Record.{feedAt, feedsFrom, gateFrom, gateOf, netOf, gateIn}
-use Rattle.network.specs.Places.{rowAt}
-use Rattle.integers.specs.TableLaws.{range-tab}
-use Rattle.network.specs.PlaceLaws.{length-feeds}
-use Rattle.format.specs.Format.{feedBytes, feedsBytes, gateBytes, gatesBytes, headerLength, fileBytes}
-use Rattle.format.specs.BoardLaws.{boardBytes-length}
-use Rattle.format.specs.LengthLaws.{feedsBytes-length, feedsBytes-append, gateBytes-length, gatesBytes-append}
-use Rattle.pmn_writer.specs.Writing.{marked, header, firstFeeds, firstGates, gatesLength, firstOutputs}
+use Rattle.network.specs.Record.{feedAt, feedsFrom, gateFrom, gateOf, netOf, gateIn, rowAt}
+use Rattle.basics.specs.TableLaws.{range-tab}
+use Rattle.network.specs.PlaceLaws.{length-feeds, length-gateFrom}
+use Rattle.network.specs.RecordLaws.{count-outputs}
+use Rattle.pmn_format.specs.Format.{feedBytes, feedsBytes, gateBytes, gatesBytes, markBytes, countedHeader, fileBytes}
+use Rattle.pmn_format.specs.Lengths.{headerLength}
+use Rattle.pmn_format.specs.LengthLaws.{feedsBytes-length, feedsBytes-append, gateBytes-length, gatesBytes-append, fileBytes-length}
+use Rattle.pmn_writer.specs.Writing.{firstFeeds, firstGates, gatesLength, firstOutputs}
 
 -- a table with one member more
-pub tab-more : {A : Type 0} (f : ℕ → A) (n : ℕ) → tab (n + 1) f ≡ tab n f ++ (f n ∷ [])
+tab-more : {A : Type 0} (f : ℕ → A) (n : ℕ) → tab (n + 1) f ≡ tab n f ++ (f n ∷ [])
 tab-more f n = ap (map f) (range-more 0 n ∙ ap (λ (k : ℕ). range 0 n ++ (k ∷ [])) (zero-add n)) ∙ map-append f (range 0 n) (n ∷ [])
 
 -- ---- feeds
@@ -45,7 +45,8 @@ module _ (ss : List ℕ) (ws : List ℤ) where
 -- a gate's bytes: its feed count, its threshold and its feeds
 pub gateIn-bytes : (g : GateRecord) → gateBytes (gateIn g) ≡ (g .fanin ∷ intBytes (g .threshold)) ++ firstFeeds (g .signals) (g .weights) (g .fanin)
 unfolding gateIn firstFeeds
-gateIn-bytes g = ap (λ (k : ℕ). (k ∷ intBytes (g .threshold)) ++ feedsBytes (feedsFrom (g .signals) (g .weights) 0 (g .fanin))) (length-feeds (g .signals) (g .weights) 0 (g .fanin))
+gateIn-bytes g = ap (λ (k : ℕ). (k ∷ intBytes (g .threshold)) ++ feedsBytes (feedsFrom (g .signals) (g .weights) 0 (g .fanin)))
+    (length-feeds (g .signals) (g .weights) 0 (g .fanin))
 
 -- ---- lengths of gates
 pub gatesLength-none : (fs : List ℕ) → gatesLength fs 0 ≡ 0
@@ -84,13 +85,13 @@ module _ (fs : List ℕ) (ts : List ℤ) (ss : List ℕ) (ws : List ℤ) where
       ap gatesBytes (tab-more f g) ∙ gatesBytes-append (tab g f) (f g ∷ []) ∙ ap (λ (l : List ℕ). gatesBytes (tab g f) ++ l) (append-nil (gateBytes (f g)))
 
   pub gateFrom-length : (g : ℕ) → length (gateBytes (gateFrom fs ts ss ws g)) ≡ 5 + 5 * getD fs g 0
-  unfolding gateFrom
-  gateFrom-length g = gateBytes-length (gateFrom fs ts ss ws g) ∙ ap (λ (k : ℕ). 5 + 5 * k) (length-feeds ss ws (16 * g) (getD fs g 0))
+  gateFrom-length g = gateBytes-length (gateFrom fs ts ss ws g) ∙ ap (λ (k : ℕ). 5 + 5 * k) (length-gateFrom fs ts ss ws g)
 
   pub firstGates-length : (n : ℕ) → length (firstGates fs ts ss ws n) ≡ gatesLength fs n
   firstGates-length zero = ap length firstGates-none ∙ sym (gatesLength-none fs)
   firstGates-length (suc n) =
-      let e = ap (λ (k : ℕ). length (firstGates fs ts ss ws k)) (sym (add-one n)) ∙ ap length (firstGates-more n) ∙ length-append (firstGates fs ts ss ws n) (gateBytes (gateFrom fs ts ss ws n)) in
+      let e = ap (λ (k : ℕ). length (firstGates fs ts ss ws k)) (sym (add-one n)) ∙ ap length (firstGates-more n)
+      ∙ length-append (firstGates fs ts ss ws n) (gateBytes (gateFrom fs ts ss ws n)) in
       let f = ap (gatesLength fs) (sym (add-one n)) ∙ gatesLength-more fs n in
       let g = gateFrom-length n in
       let h = firstGates-length n in
@@ -123,17 +124,11 @@ module _ (ds : List ℕ) where
   firstOutputs-length n = length-tab n (λ k. getD ds k 0)
 
 -- ---- the header
-pub marked-second : (b : Board) → b .version ≡ 2 → marked b ≡ 80 ∷ 77 ∷ 78 ∷ 2 ∷ 0 ∷ b .on ∷ b .off ∷ []
+pub marked-second : (b : Board) → b .version ≡ 2 → markBytes b ≡ 80 ∷ 77 ∷ 78 ∷ 2 ∷ 0 ∷ b .on ∷ b .off ∷ []
 marked-second b e = rw (eq-eqb (b .version) 2 e)
 
-pub marked-first : (b : Board) → (b .version ≡ 2 → ⊥) → marked b ≡ 80 ∷ 77 ∷ 78 ∷ 1 ∷ 0 ∷ []
+pub marked-first : (b : Board) → (b .version ≡ 2 → ⊥) → markBytes b ≡ 80 ∷ 77 ∷ 78 ∷ 1 ∷ 0 ∷ []
 marked-first b e = rw (ne-eqb (b .version) 2 e)
-
-pub marked-length : (b : Board) → length (marked b) + 3 ≡ headerLength b
-marked-length b = let e = boardBytes-length b in omega arith
-
-pub header-length : (b : Board) (inputs gates outputs : ℕ) → length (header b inputs gates outputs) ≡ headerLength b
-header-length b inputs gates outputs = length-append (marked b) (inputs ∷ gates ∷ outputs ∷ []) ∙ marked-length b
 
 -- ---- the file of a record
 module _ (r : Network) where
@@ -141,20 +136,18 @@ module _ (r : Network) where
   recordGates = firstGates (r .fanins) (r .thresholds) (r .signals) (r .weights) (r .gates)
 
   -- its parts
-  pub file-parts : fileBytes (netOf r) ≡ header (r .board) (r .inputs) (r .gates) (r .outputs) ++ (recordGates ++ firstOutputs (r .drivers) (r .outputs))
+  pub file-parts : fileBytes (netOf r) ≡ countedHeader (r .board) (r .inputs) (r .gates) (r .outputs) ++ (recordGates ++ firstOutputs (r .drivers) (r .outputs))
   unfolding netOf firstGates firstOutputs
   file-parts =
       let rest = recordGates ++ firstOutputs (r .drivers) (r .outputs) in
-      ap (λ (k : ℕ). header (r .board) (r .inputs) k (length (netOf r .outputs)) ++ rest) (length-tab (r .gates) (gateOf r))
-      ∙ ap (λ (k : ℕ). header (r .board) (r .inputs) (r .gates) k ++ rest) (length-tab (r .outputs) (λ j. getD (r .drivers) j 0))
+      ap (λ (k : ℕ). countedHeader (r .board) (r .inputs) k (length (netOf r .outputs)) ++ rest) (length-tab (r .gates) (gateOf r))
+      ∙ ap (λ (k : ℕ). countedHeader (r .board) (r .inputs) (r .gates) k ++ rest) (length-tab (r .outputs) (λ j. getD (r .drivers) j 0))
 
   -- its length
   pub file-length : length (fileBytes (netOf r)) ≡ headerLength (r .board) + gatesLength (r .fanins) (r .gates) + r .outputs
+  unfolding netOf firstGates
   file-length =
-      let rest = recordGates ++ firstOutputs (r .drivers) (r .outputs) in
-      let d = header-length (r .board) (r .inputs) (r .gates) (r .outputs) in
-      let e = ap length file-parts ∙ length-append (header (r .board) (r .inputs) (r .gates) (r .outputs)) rest in
-      let f = length-append recordGates (firstOutputs (r .drivers) (r .outputs)) in
-      let g = firstGates-length (r .fanins) (r .thresholds) (r .signals) (r .weights) (r .gates) in
-      let h = firstOutputs-length (r .drivers) (r .outputs) in
+      let e = fileBytes-length (netOf r) in
+      let f = firstGates-length (r .fanins) (r .thresholds) (r .signals) (r .weights) (r .gates) in
+      let g = count-outputs r in
       omega arith

@@ -1,20 +1,22 @@
 // Writing the parts of a file, each at the front of the lent bytes. The bytes after a part stay as they were. Each public function asks for
 // what its caller has tested.
 use crate::Written;
-use format::header_length;
 use network::Board;
 use network::GateRecord;
 use network::Network;
+use pmn_format::header_length;
 ghost use mathlib.Core.Path.{_≡_};
 ghost use mathlib.Core.Bool.{true};
 ghost use mathlib.Core.List.{[], _∷_, _++_};
 ghost use Prim.Native.Nat.{_+_, _*_, _≤_, _<_};
 ghost use lib.ListN.{length, drop};
-ghost use Rattle.integers.specs.Word.{intBytes};
+ghost use Rattle.basics.specs.Word.{intBytes};
 ghost use Rattle.network.specs.Record.{gateIn, soundRecord};
-ghost use Rattle.format.specs.Format.{gateBytes, headerLength};
+ghost use Rattle.network.specs.Places.{Counted};
+ghost use Rattle.pmn_format.specs.Format.{gateBytes, markBytes, countedHeader};
+ghost use Rattle.pmn_format.specs.Lengths.{headerLength};
 ghost use Rattle.pmn_writer.specs.Answers.{written, bytesAfter};
-ghost use Rattle.pmn_writer.specs.Writing.{marked, header, firstFeeds, firstGates, gatesLength, firstOutputs, Counted};
+ghost use Rattle.pmn_writer.specs.Writing.{firstFeeds, firstGates, gatesLength, firstOutputs};
 
 // A byte and a signed number.
 fn put_pair(out: &mut [u8], byte: u8, number: i32)
@@ -22,7 +24,7 @@ fn put_pair(out: &mut [u8], byte: u8, number: i32)
     ensures { λ _. ⌜ now (out .exit) ≡ (byte ∷ intBytes number) ++ drop 5 (now (out .entry)) ⌝ }
 {
     out[0] = byte;
-    integers::unchecked::put_int(&mut out[1..], number);
+    basics::unchecked::put_int(&mut out[1..], number);
 }
 
 // The first count feeds of a gate's places.
@@ -42,7 +44,7 @@ pub fn put_gate(out: &mut [u8], gate: GateRecord) -> usize
     ensures { λ r. ⌜ r ≡ 5 + 5 * gate .fanin ⌝ }
     ensures { λ r. ⌜ now (out .exit) ≡ gateBytes (gateIn gate) ++ drop r (now (out .entry)) ⌝ }
 {
-    let count = integers::wide(gate.fanin);
+    let count = basics::wide(gate.fanin);
     put_pair(out, gate.fanin, gate.threshold);
     put_feeds(&mut out[5..], &gate.signals, &gate.weights, count);
     5 + 5 * count
@@ -60,11 +62,12 @@ fn put_gates<'a>(
     requires { ⌜ Counted (now fanins) gates ⌝ }
     requires { ⌜ gatesLength (now fanins) gates ≤ length (now out) ⌝ }
     ensures { λ r. ⌜ r ≡ gatesLength (now (fanins .entry)) gates ⌝ }
-    ensures { λ r. ⌜ now (out .exit) ≡ firstGates (now (fanins .entry)) (now (thresholds .entry)) (now (signals .entry)) (now (weights .entry)) gates ++ drop r (now (out .entry)) ⌝ }
+    ensures { λ r. ⌜ now (out .exit) ≡ firstGates (now (fanins .entry)) (now (thresholds .entry)) (now (signals .entry)) (now (weights .entry)) gates
+        ++ drop r (now (out .entry)) ⌝ }
 {
     let mut at: usize = 0;
     for g in 0..gates {
-        let gate = places::unchecked::gate_at(fanins, thresholds, signals, weights, g);
+        let gate = network_places::unchecked::gate_at(fanins, thresholds, signals, weights, g);
         let step = put_gate(&mut out[at..], gate);
         at += step;
     }
@@ -73,9 +76,9 @@ fn put_gates<'a>(
 
 // The mark, the version and the margins of a board. The answer is their length.
 fn put_board(out: &mut [u8], board: Board) -> usize
-    requires { ⌜ length (marked board) ≤ length (now out) ⌝ }
-    ensures { λ r. ⌜ r ≡ length (marked board) ⌝ }
-    ensures { λ r. ⌜ now (out .exit) ≡ marked board ++ drop r (now (out .entry)) ⌝ }
+    requires { ⌜ length (markBytes board) ≤ length (now out) ⌝ }
+    ensures { λ r. ⌜ r ≡ length (markBytes board) ⌝ }
+    ensures { λ r. ⌜ now (out .exit) ≡ markBytes board ++ drop r (now (out .entry)) ⌝ }
 {
     out[0] = 80;
     out[1] = 77;
@@ -108,7 +111,7 @@ fn put_header(out: &mut [u8], board: Board, inputs: usize, gates: usize, outputs
     requires { ⌜ (inputs < 256) × (gates < 256) × (outputs < 256) ⌝ }
     requires { ⌜ headerLength board ≤ length (now out) ⌝ }
     ensures { λ r. ⌜ r ≡ headerLength board ⌝ }
-    ensures { λ r. ⌜ now (out .exit) ≡ header board inputs gates outputs ++ drop r (now (out .entry)) ⌝ }
+    ensures { λ r. ⌜ now (out .exit) ≡ countedHeader board inputs gates outputs ++ drop r (now (out .entry)) ⌝ }
 {
     let at = put_board(out, board);
     put_counts(&mut out[at..], inputs, gates, outputs);
@@ -133,7 +136,7 @@ fn file_length(fanins: &[u8; 128], board: Board, gates: usize, outputs: usize) -
 {
     let mut total = header_length(board.version);
     for g in 0..gates {
-        total += 5 + 5 * integers::wide(fanins[g]);
+        total += 5 + 5 * basics::wide(fanins[g]);
     }
     total + outputs
 }

@@ -1,8 +1,6 @@
 -- "Scores before and after folding are equal for every game": the claim, over every list of calls. Nothing is proved here.
-use mathlib.Core.Path.{_≡_}
-use mathlib.Core.List.{List}
-use Prim.Native.Nat.{ℕ}
-use Rattle.history.specs.declared.Call.{Call}
+use Rattle.basics.specs.Library.{_≡_, List, ℕ}
+use Rattle.call_theory.specs.declared.Call.{Call}
 use Rattle.journal.specs.declared.Record.{Record}
 use Rattle.guarantees.specs.Lists.{callsOn}
 use Rattle.scorer.specs.Answers.{scoring}

@@ -5,25 +5,27 @@ use mathlib.Core.List.{List, [], _∷_}
 use Prim.Native.Nat.{ℕ}
 use lib.Dec.{leb}
 use lib.ListN.{length}
-use Rattle.integers.specs.Refusals.{Answer, accepted, _else_, checks}
+use Rattle.basics.specs.Refusals.{Answer, accepted, _else_, checks}
 use Rattle.network.specs.Threshold.{Net, frame, fitsFrame, outputBits}
 use Rattle.network.specs.Record.{netOf}
-use Rattle.history.specs.declared.Call.{Call}
+use Rattle.call_theory.specs.declared.Call.{Call}
 use Rattle.journal.specs.Records.{soundWhole, justRead}
 use Rattle.journal.specs.declared.Record.{Record}
-use Rattle.constraints.specs.AlikeLaws.{alike-inputs, alike-outputs}
-use Rattle.format.specs.Format.{Bytes}
-use Rattle.pmn.specs.Answers.{loaded}
+use Rattle.question_theory.specs.AlikeLaws.{alike-inputs, alike-outputs}
+use Rattle.pmn_format.specs.Format.{Bytes}
+use Rattle.pmn_reader.specs.Answers.{loaded}
 use Rattle.guarantees.specs.Files.{Accepted}
 use Rattle.guarantees.specs.FileLaws.{read-is-written}
 use Rattle.guarantees.specs.Lists.{callsOn, ListClaim}
 use Rattle.guarantees.specs.ListLaws.{inputs-of, accepted-claim}
-use Rattle.scorer.specs.Rules.{Pins, pinsOf, start, felledFrom}
-use Rattle.scorer.specs.Answers.{pinsOn, game, asSheet, scoring}
+use Rattle.scorer_theory.specs.Rules.{Pins, pinsOf, firstFrame, felledFrom}
+use Rattle.scorer_theory.specs.NetworkGames.{pinsOn, game}
+use Rattle.scorer_tally.specs.Sheets.{asSheet}
+use Rattle.scorer.specs.Answers.{scoring}
 use Rattle.scorer.specs.Folding.{SameScores}
 
 -- two networks with as many inputs and outputs that have the same output bits on every frame that is not too long
-record Alike (N M : Net) : Type 0 where
+record ReadAlike (N M : Net) : Type 0 where
   inputs : M .inputs ≡ N .inputs
   outputs : length (M .outputs) ≡ length (N .outputs)
   bits : (x : ℕ) → fitsFrame (N .inputs) x ≡ true → outputBits M (frame x) ≡ outputBits N (frame x)
@@ -35,22 +37,22 @@ unfolding checks
 pins-same false bits bits′ h = refl
 pins-same true bits bits′ h = ap (λ (bs : List Bool). accepted (pinsOf bs)) (h refl)
 
-pins-alike : {N M : Net} → Alike N M → (x : ℕ) → pinsOn M x ≡ pinsOn N x
+pins-alike : {N M : Net} → ReadAlike N M → (x : ℕ) → pinsOn M x ≡ pinsOn N x
 unfolding pinsOn
 pins-alike {N} {M} a x =
     ap (λ (n : ℕ). checks ((fitsFrame n x else 10) ∷ []) (accepted (pinsOf (outputBits M (frame x))))) (a .inputs)
     ∙ pins-same (fitsFrame (N .inputs) x) (outputBits M (frame x)) (outputBits N (frame x)) (a .bits x)
 
 -- and their games
-game-alike : {N M : Net} → Alike N M → (frames : List ℕ) → game M frames ≡ game N frames
+game-alike : {N M : Net} → ReadAlike N M → (frames : List ℕ) → game M frames ≡ game N frames
 unfolding game
 game-alike {N} {M} a frames =
-    ap (λ (n : ℕ). checks ((leb 10 n else 27) ∷ []) (felledFrom (pinsOn M) start frames)) (a .outputs)
-    ∙ ap (λ (pins : ℕ → Answer Pins). checks ((leb 10 (length (N .outputs)) else 27) ∷ []) (felledFrom pins start frames)) (fun-ext (pins-alike a))
+    ap (λ (n : ℕ). checks ((leb 10 n else 27) ∷ []) (felledFrom (pinsOn M) firstFrame frames)) (a .outputs)
+    ∙ ap (λ (pins : ℕ → Answer Pins). checks ((leb 10 (length (N .outputs)) else 27) ∷ []) (felledFrom pins firstFrame frames)) (fun-ext (pins-alike a))
 
 -- ---- a list of calls
 
-list-alike : (r : Record) (calls : List Call) → ListClaim r calls → Alike (netOf (r .network)) (netOf (callsOn r calls .network))
+list-alike : (r : Record) (calls : List Call) → ListClaim r calls → ReadAlike (netOf (r .network)) (netOf (callsOn r calls .network))
 list-alike r calls c =
     let N = netOf (r .network) in
     let M = netOf (callsOn r calls .network) in

@@ -1,9 +1,9 @@
 // The scorer on a whole file.
-use crate::places::put_sheet;
-use crate::unchecked::score_sound;
+use scorer_places::unchecked::put_sheet;
+use scorer_play::unchecked::score_sound;
 ghost use mathlib.Core.Path.{_≡_};
 ghost use lib.ListN.{length};
-ghost use Rattle.integers.specs.Refusals.{codeOf, stored};
+ghost use Rattle.basics.specs.Refusals.{codeOf, stored};
 ghost use Rattle.scorer.specs.Answers.{scorePlaces};
 
 // The sheet of a game goes into the first 33 places of the answer: the number of balls, the number of scores known, 21 places for the pins
@@ -11,10 +11,11 @@ ghost use Rattle.scorer.specs.Answers.{scorePlaces};
 // The record that was read is sound, and not tested again.
 pub fn score_file(file: &[u8], frames: &[u64], answer: &mut [u64]) -> u8
     ensures { λ r. ⌜ r ≡ codeOf (scorePlaces (now (file .entry)) (now (frames .entry)) (length (now (answer .entry)))) ⌝ }
-    ensures { λ _. ⌜ now (answer .exit) ≡ stored (scorePlaces (now (file .entry)) (now (frames .entry)) (length (now (answer .entry)))) (now (answer .entry)) ⌝ }
+    ensures { λ _. ⌜ now (answer .exit)
+        ≡ stored (scorePlaces (now (file .entry)) (now (frames .entry)) (length (now (answer .entry)))) (now (answer .entry)) ⌝ }
 {
-    let loaded = pmn::read(file);
-    let code = opening::unchecked::refusal(file, loaded, answer.len(), 33);
+    let loaded = pmn_reader::read(file);
+    let code = pmn_opening::unchecked::refusal(file, loaded, answer.len(), 33);
     if code != 0 {
         return code;
     }

@@ -1,67 +1,27 @@
 // The scorer: pins felled and running scores of one bowler's game, from the frames after each ball.
 pub mod files;
-mod places;
-mod tally;
-mod turn;
-pub mod unchecked;
 
 use journal::Record;
 use journal::is_sound;
-use unchecked::refused;
-use unchecked::score_sound;
+use scorer_play::unchecked::score_sound;
+use scorer_tally::Sheet;
+use scorer_tally::unchecked::refused;
 ghost use mathlib.Core.Path.{_≡_};
 ghost use mathlib.Core.List.{List, map};
 ghost use Prim.Native.Nat.{ℕ};
-ghost use Rattle.integers.specs.Refusals.{accepted};
+ghost use Rattle.basics.specs.Refusals.{accepted};
 ghost use Rattle.network.specs.Threshold.{Net};
-ghost use Rattle.history.specs.declared.Call.{Call};
+ghost use Rattle.call_theory.specs.declared.Call.{Call};
 ghost use Rattle.journal.specs.Records.{justRead};
-ghost use Rattle.format.specs.Format.{Bytes};
-ghost use Rattle.pmn.specs.Answers.{loaded};
+ghost use Rattle.pmn_format.specs.Format.{Bytes};
+ghost use Rattle.pmn_reader.specs.Answers.{loaded};
 ghost use Rattle.guarantees.specs.Files.{Accepted};
-ghost use Rattle.scorer.specs.Answers.{game, scoring};
-ghost use Rattle.scorer.specs.Frames.{MadeOfFrames};
+ghost use Rattle.scorer_theory.specs.NetworkGames.{game};
+ghost use Rattle.scorer.specs.Answers.{scoring};
+ghost use Rattle.scorer_theory.specs.Frames.{MadeOfFrames};
 ghost use Rattle.scorer.specs.Folding.{SameScores};
-ghost use Rattle.scorer.specs.Games.{cameTo, games};
-ghost use Rattle.scorer.specs.Highest.{Highest};
-
-// What `score` answers: 0 or the refusal; how many balls, and the pins felled by each; how many frames have a score, and their running
-// scores. Spare places hold 0.
-pub struct Sheet {
-    pub code: u8,
-    pub balls: usize,
-    pub felled: [u8; 21],
-    pub scored: usize,
-    pub scores: [u16; 10],
-}
-
-// Running scores: of how many frames, and each of them; spare places hold 0.
-struct Scored {
-    frames: usize,
-    scores: [u16; 10],
-}
-
-// A frame that counts: its balls before the bonus, its balls with the bonus, and the pins that these felled.
-struct FrameCount {
-    own: usize,
-    counted: usize,
-    score: usize,
-}
-
-// The game under way before a ball: the frame (1 to 10, 11 after the game's end), its balls so far, the pins that they felled, and the
-// pins that stand, pin j in bit j.
-struct Lane {
-    frame: usize,
-    balls: usize,
-    down: usize,
-    rack: u64,
-}
-
-// A ball on the lane: 0 or its refusal, and the pins that stand after it.
-struct Throw {
-    code: u8,
-    after: u64,
-}
+ghost use Rattle.scorer_theory.specs.Games.{cameTo, games};
+ghost use Rattle.scorer_theory.specs.Highest.{Highest};
 
 // The sheet of a game, from the frames after each ball. Refusals: 20 broken record, 27 fewer than ten outputs; then ball by ball 10 long
 // frame, 28 a ball after the game's end, 29 a pin that stands after a ball without having stood before it in the same rack.

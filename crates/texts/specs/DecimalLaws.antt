@@ -9,9 +9,9 @@ use native.Mathlib.Omega.{arith}
 use borrow.Author.Tests.{eq-eqb, lt-ltb, le-ltb}
 use lib.Dec.{T, ltb, lt→ltb, ltb→lt}
 use lib.ListN.{length, length-append}
-use Rattle.integers.specs.Lists.{Each, all}
-use Rattle.integers.specs.ListLaws.{each-append, of-each}
-use Rattle.integers.specs.TestLaws.{is-true, eqb-no, of-between}
+use Rattle.basics.specs.Lists.{Each, all}
+use Rattle.basics.specs.ListLaws.{each-append, of-each}
+use Rattle.basics.specs.TestLaws.{is-true, eqb-no, of-between}
 use Rattle.texts.specs.Texts.{digits, decimal, prepend, parts, numberAfter, isDigit, number}
 
 -- ---- one digit, and one digit more

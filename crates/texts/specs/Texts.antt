@@ -1,10 +1,7 @@
 -- Text in ASCII: numbers as decimal digits, and what a text says when it is read back, strictly. Nothing is proved here.
-use mathlib.Core.Bool.{Bool, true, false, cond, _&&_}
-use mathlib.Core.List.{List, [], _∷_, _++_}
-use mathlib.Core.Option.{Option, some, none}
-use Prim.Native.Nat.{ℕ, zero, suc, _+_, _-_, _*_, _/_, _%_}
-use lib.Dec.{ltb, eqb}
-use Rattle.integers.specs.Lists.{all, between}
+use Rattle.basics.specs.Library.{Bool, true, false, cond, _&&_, List, [], _∷_, _++_, Option, some, none, ℕ, zero, suc, _+_, _-_, _*_, _/_, _%_, ltb}
+use Rattle.basics.specs.Library.{eqb}
+use Rattle.basics.specs.Lists.{all, between}
 
 -- ---- writing
 

@@ -4,21 +4,21 @@ ghost use mathlib.Core.List.{_++_};
 ghost use Prim.Native.Nat.{_+_, _≤_};
 ghost use lib.ListN.{length};
 ghost use Rattle.texts.specs.Texts.{decimal};
-ghost use Rattle.texts.specs.Writes.{Put};
+ghost use Rattle.texts.specs.Writes.{TextPut};
 
 // Bytes as they are.
 pub fn put_bytes(out: &mut [u8], bytes: &[u8]) -> usize
     requires { ⌜ length (now bytes) ≤ length (now out) ⌝ }
-    ensures { λ r. ⌜ Put (now (bytes .entry)) r (now (out .entry)) (now (out .exit)) ⌝ }
+    ensures { λ r. ⌜ TextPut (now (bytes .entry)) r (now (out .entry)) (now (out .exit)) ⌝ }
 {
-    integers::unchecked::copy(bytes, out);
+    basics::unchecked::copy(bytes, out);
     bytes.len()
 }
 
 // The decimal digits of a number.
 pub fn put_decimal(out: &mut [u8], n: usize) -> usize
     requires { ⌜ length (decimal n) ≤ length (now out) ⌝ }
-    ensures { λ r. ⌜ Put (decimal n) r (now (out .entry)) (now (out .exit)) ⌝ }
+    ensures { λ r. ⌜ TextPut (decimal n) r (now (out .entry)) (now (out .exit)) ⌝ }
 {
     if n < 10 {
         out[0] = 48 + n as u8;
@@ -32,7 +32,7 @@ pub fn put_decimal(out: &mut [u8], n: usize) -> usize
 // A word, and the decimal digits of a number after it.
 pub fn put_number(out: &mut [u8], word: &[u8], n: usize) -> usize
     requires { ⌜ length (now word) + length (decimal n) ≤ length (now out) ⌝ }
-    ensures { λ r. ⌜ Put (now (word .entry) ++ decimal n) r (now (out .entry)) (now (out .exit)) ⌝ }
+    ensures { λ r. ⌜ TextPut (now (word .entry) ++ decimal n) r (now (out .entry)) (now (out .exit)) ⌝ }
 {
     let at = put_bytes(out, word);
     at + put_decimal(&mut out[at..], n)

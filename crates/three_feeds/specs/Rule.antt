@@ -1,13 +1,8 @@
 -- What an entry of the three-feed table says: document 02, No. 7, "The three-feed table". Nothing is proved here.
-use mathlib.Core.Path.{_≡_}
-use mathlib.Core.Bool.{Bool, true, false, not, Bool·beq}
-use mathlib.Core.List.{List, [], _∷_}
-use Prim.Native.Nat.{ℕ, _+_, _≤_, _<_}
-use lib.Dec.{leb, ltb, eqb}
-use lib.IntN.{ℤ, pos, natAbs}
-use Rattle.integers.specs.Lists.{below, every, keep, Each}
+use Rattle.basics.specs.Library.{_≡_, Bool, true, false, List, [], _∷_, ℕ, _+_, _≤_, _<_, ℤ, pos, natAbs}
+use Rattle.basics.specs.Lists.{keep, Each}
 use Rattle.network.specs.Threshold.{Feed, Gate, Assignment, bit, frame, digit, wordOf}
-use Rattle.network.specs.Limits.{stays}
+use Rattle.network.specs.Limits.{weighs}
 use Rattle.three_feeds.specs.declared.TableEntry.{TableEntry}
 use Rattle.three_feeds.specs.declared.TableEntry.the-variants.{HasGate, NoGate}
 
@@ -22,22 +17,18 @@ HasFunction table g = (s : ℕ) → s < 8 → bit (frame s) g ≡ frame table s
 abbrev pub OverThree : Gate → Type 0
 OverThree g = Each (λ f. f .signal < 3) (g .feeds)
 
--- "no gate of any weights has that function"
-abbrev pub NoneHas : ℕ → Type 0
-NoneHas table = (g : Gate) → OverThree g → HasFunction table g → ⊥
-
 -- ---- the gate of an entry
 
 abbrev pub feed : ℕ → ℤ → Feed
 feed i w = record { signal = i; weight = w }
 
 -- the gate with three weights and T on three signals; "0 leaves that feed out"
-unfoldable pub gateOn : ℕ → ℕ → ℕ → ℤ → ℤ → ℤ → ℤ → Gate
-gateOn i j k a b c t = record { feeds = keep stays (feed i a ∷ feed j b ∷ feed k c ∷ []); threshold = t }
+unfoldable pub gateOnSignals : ℕ → ℕ → ℕ → ℤ → ℤ → ℤ → ℤ → Gate
+gateOnSignals i j k a b c t = record { feeds = keep weighs (feed i a ∷ feed j b ∷ feed k c ∷ []); threshold = t }
 
 -- that of an entry, on the feeds 0, 1 and 2
 unfoldable pub entryGate : ℤ → ℤ → ℤ → ℤ → Gate
-entryGate a b c t = gateOn 0 1 2 a b c t
+entryGate a b c t = gateOnSignals 0 1 2 a b c t
 
 -- the setting that three signals have
 unfoldable pub settingOf : Assignment → ℕ → ℕ → ℕ → ℕ
@@ -76,21 +67,6 @@ EntryRule table (NoGate x y u v) = WitnessRule table x y u v
 
 -- ---- the rule as a test that can be computed
 
-unfoldable pub gateTests : ℕ → ℤ → ℤ → ℤ → ℤ → List Bool
-gateTests table a b c t =
-    leb (natAbs a) 2 ∷ leb (natAbs b) 2 ∷ leb (natAbs c) 2 ∷ leb (natAbs t) 4
-    ∷ below 8 (λ s. Bool·beq (bit (frame s) (entryGate a b c t)) (frame table s)) ∷ []
-
-unfoldable pub witnessTests : ℕ → ℕ → ℕ → ℕ → ℕ → List Bool
-witnessTests table x y u v =
-    ltb x 8 ∷ ltb y 8 ∷ ltb u 8 ∷ ltb v 8
-    ∷ frame table x ∷ frame table y ∷ not (frame table u) ∷ not (frame table v)
-    ∷ below 3 (λ i. eqb (together x y i) (together u v i)) ∷ []
-
-unfoldable pub isRight : ℕ → TableEntry → Bool
-isRight table (HasGate a b c t) = every (gateTests table a b c t)
-isRight table (NoGate x y u v) = every (witnessTests table x y u v)
-
 -- ---- an entry as numbers
 
 -- the entry has a gate
@@ -99,6 +75,6 @@ hasGate (HasGate a b c t) = true
 hasGate (NoGate x y u v) = false
 
 -- the weights of feeds 0, 1 and 2, and T; or the two settings that are 1, and the two that are 0
-unfoldable pub numbersOf : TableEntry → List ℤ
-numbersOf (HasGate a b c t) = a ∷ b ∷ c ∷ t ∷ []
-numbersOf (NoGate x y u v) = pos x ∷ pos y ∷ pos u ∷ pos v ∷ []
+unfoldable pub entryNumbers : TableEntry → List ℤ
+entryNumbers (HasGate a b c t) = a ∷ b ∷ c ∷ t ∷ []
+entryNumbers (NoGate x y u v) = pos x ∷ pos y ∷ pos u ∷ pos v ∷ []

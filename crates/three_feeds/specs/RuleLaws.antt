@@ -1,25 +1,44 @@
 -- Laws of the rule: the test says it, and two settings that are 1 and two that are 0 with equal sums leave no gate. Assumes nothing.
 use mathlib.Core.Path.{_≡_, refl, sym, ap, _∙_}
-use mathlib.Core.Bool.{Bool, true, false, cond, Bool·beq}
+use mathlib.Core.Bool.{Bool, true, false, cond, Bool·beq, not}
 use mathlib.Core.List.{List, [], _∷_}
 use mathlib.Core.Logic.{_↔_}
 use Prim.Native.Nat.{ℕ, _+_, _<_}
 use native.Mathlib.Omega.{arith}
-use lib.Dec.{T, eqb, eqb→eq, leb→le, ltb→lt}
+use lib.Dec.{T, eqb, eqb→eq, leb→le, ltb→lt, leb, ltb}
 use lib.IntN.{ℤ, pos, natAbs, _+ℤ_, _*ℤ_}
 use lib.Signed.{leZ}
-use Rattle.integers.specs.Lists.{Each}
-use Rattle.integers.specs.TestLaws.{is-true, is-false, beq-eq, every-of}
-use Rattle.integers.specs.ListLaws.{below-at, each-imp, each-keep}
-use Rattle.integers.specs.IntegerLaws.{hi, lo, #, nat, _⊕_, _⊙_, law, le-yes, le-no, eq-of}
+use Rattle.basics.specs.Lists.{Each, below, every}
+use Rattle.basics.specs.TestLaws.{is-true, is-false, beq-eq, every-of}
+use Rattle.basics.specs.ListLaws.{below-at, each-imp, each-keep}
+use Rattle.basics.specs.IntegerLaws.{hi, lo, #, nat, _⊕_, _⊙_, law, le-yes, le-no, eq-of}
 use Rattle.network.specs.Threshold.{Feed, Gate, Assignment, sum, bit, frame, digit, wordOf}
-use Rattle.network.specs.Limits.{stays}
+use Rattle.network.specs.Limits.{weighs}
 use Rattle.network.specs.SumLaws.{sum-stays}
 use Rattle.network.specs.WordLaws.{word-below}
-use Rattle.three_feeds.specs.Rule.{HasFunction, OverThree, NoneHas, feed, gateOn, entryGate, settingOf, hasGate}
-use Rattle.three_feeds.specs.Rule.{GateRule, together, WitnessRule, EntryRule, gateTests, witnessTests, isRight}
+use Rattle.three_feeds.specs.Rule.{HasFunction, OverThree, feed, gateOnSignals, entryGate, settingOf, hasGate}
+use Rattle.three_feeds.specs.Rule.{GateRule, together, WitnessRule, EntryRule}
 use Rattle.three_feeds.specs.declared.TableEntry.{TableEntry}
 use Rattle.three_feeds.specs.declared.TableEntry.the-variants.{HasGate, NoGate}
+
+-- "no gate of any weights has that function"
+abbrev pub NoneHas : ℕ → Type 0
+NoneHas table = (g : Gate) → OverThree g → HasFunction table g → ⊥
+
+unfoldable pub gateTests : ℕ → ℤ → ℤ → ℤ → ℤ → List Bool
+gateTests table a b c t =
+    leb (natAbs a) 2 ∷ leb (natAbs b) 2 ∷ leb (natAbs c) 2 ∷ leb (natAbs t) 4
+    ∷ below 8 (λ s. Bool·beq (bit (frame s) (entryGate a b c t)) (frame table s)) ∷ []
+
+unfoldable pub witnessTests : ℕ → ℕ → ℕ → ℕ → ℕ → List Bool
+witnessTests table x y u v =
+    ltb x 8 ∷ ltb y 8 ∷ ltb u 8 ∷ ltb v 8
+    ∷ frame table x ∷ frame table y ∷ not (frame table u) ∷ not (frame table v)
+    ∷ below 3 (λ i. eqb (together x y i) (together u v i)) ∷ []
+
+unfoldable pub isRight : ℕ → TableEntry → Bool
+isRight table (HasGate a b c t) = every (gateTests table a b c t)
+isRight table (NoGate x y u v) = every (witnessTests table x y u v)
 
 -- ---- the test says the rule
 gate-right : (table : ℕ) (a b c t : ℤ) → T (isRight table (HasGate a b c t)) → GateRule table a b c t
@@ -108,7 +127,7 @@ module _ {table x y u v : ℕ} (w : WitnessRule table x y u v) where
       each-imp (λ f. f .signal < 3) (Same (frame x) (frame y) (frame u) (frame v)) (λ f k. w .sums (f .signal) (omega arith)) fs h
 
   -- 2T is at most the sum on the ones, which is the sum on the zeros, at most 2T − 2
-  pub none-has : NoneHas table
+  none-has : NoneHas table
   unfolding bit
   none-has g over has =
       let fs = g .feeds in
@@ -127,9 +146,9 @@ module _ {table x y u v : ℕ} (w : WitnessRule table x y u v) where
       )
 
 -- ---- the gate of an entry reads none but the three feeds
-pub gate-over : (a b c t : ℤ) → OverThree (entryGate a b c t)
-unfolding entryGate gateOn
-gate-over a b c t = each-keep (λ f. f .signal < 3) stays _ (omega arith, (omega arith, (omega arith, tt)))
+gate-over : (a b c t : ℤ) → OverThree (entryGate a b c t)
+unfolding entryGate gateOnSignals
+gate-over a b c t = each-keep (λ f. f .signal < 3) weighs _ (omega arith, (omega arith, (omega arith, tt)))
 
 -- an entry that follows the rule has a gate exactly where some gate over the three feeds has the function
 pub exactly : (table : ℕ) (e : TableEntry) → EntryRule table e → T (hasGate e) ↔ ((g : Gate) × OverThree g × HasFunction table g)
@@ -159,8 +178,8 @@ setting-bits false false false = (refl, refl, refl)
 
 -- a gate of the table, put on any three signals, has the truth table's bit of their setting
 pub on-signals : {table : ℕ} {a b c t : ℤ} → GateRule table a b c t → (ρ : Assignment) (i j k : ℕ)
-    → bit ρ (gateOn i j k a b c t) ≡ frame table (settingOf ρ i j k)
-unfolding bit entryGate gateOn settingOf
+    → bit ρ (gateOnSignals i j k a b c t) ≡ frame table (settingOf ρ i j k)
+unfolding bit entryGate gateOnSignals settingOf
 on-signals {table} {a} {b} {c} {t} r ρ i j k =
     let s = settingOf ρ i j k in
     let e = setting-bits (ρ i) (ρ j) (ρ k) in

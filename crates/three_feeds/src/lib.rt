@@ -1,6 +1,6 @@
 // The three-feed table: for each truth table of three feeds a gate with that function, or settings that show that no gate has it.
 // Document 02, No. 7.
-use integers::wide;
+use basics::wide;
 use table::HAS_GATE;
 use table::NUMBERS;
 ghost use mathlib.Core.Path.{_≡_};
@@ -10,8 +10,9 @@ ghost use Prim.Native.Nat.{_+_, _*_, _<_};
 ghost use lib.IntN.{pos};
 ghost use lib.ListN.{getD};
 ghost use Rattle.three_feeds.specs.Rule.{EntryRule, hasGate};
-ghost use Rattle.three_feeds.specs.Table.{entries, entryOf, numbersOfAll};
-ghost use Rattle.three_feeds.specs.Claims.{EveryEntry, Gates, EveryGate};
+ghost use Rattle.three_feeds.specs.Table.{tableEntries, tableEntry};
+ghost use Rattle.three_feeds.specs.TableLaws.{numbersOfAll};
+ghost use Rattle.three_feeds.specs.Claims.{EveryEntry, Exactly104, EveryGate};
 
 // What the table holds for a truth table: a gate with that function, of which a weight 0 leaves its feed out; or two settings that are 1
 // and two that are 0, whose feed-by-feed sums are equal.
@@ -32,22 +33,22 @@ pub enum TableEntry {
 
 // Whether the entry of a truth table has a gate.
 fn has_gate(table: u8) -> bool
-    ensures { λ r. ⌜ r ≡ getD (map hasGate entries) table false ⌝ }
+    ensures { λ r. ⌜ r ≡ getD (map hasGate tableEntries) table false ⌝ }
 {
     HAS_GATE[wide(table)]
 }
 
 // Number `place` of the four of an entry. The table's numbers are lent, since each look at a constant array would copy all of it.
 fn number(numbers: &[i8; 1024], table: u8, place: usize) -> i32
-    requires { ⌜ (now numbers ≡ numbersOfAll entries) × (place < 4) ⌝ }
-    ensures { λ r. ⌜ r ≡ getD (numbersOfAll entries) (4 * table + place) (pos 0) ⌝ }
+    requires { ⌜ (now numbers ≡ numbersOfAll tableEntries) × (place < 4) ⌝ }
+    ensures { λ r. ⌜ r ≡ getD (numbersOfAll tableEntries) (4 * table + place) (pos 0) ⌝ }
 {
     numbers[4 * wide(table) + place] as i32
 }
 
 // The entry of a truth table: bit s is the value on setting s, and bit i of s is feed i.
 pub fn entry(table: u8) -> TableEntry
-    ensures { λ r. ⌜ r ≡ entryOf table ⌝ }
+    ensures { λ r. ⌜ r ≡ tableEntry table ⌝ }
     ensures { λ r. ⌜ EntryRule table r ⌝ }
 {
     let numbers = NUMBERS;
@@ -78,7 +79,7 @@ pub fn every_entry_is_right()
 
 // Exactly 104 of the 256 have a gate, and for no other truth table is there a gate of any weights.
 pub fn exactly_104_have_a_gate()
-    ensures { λ _. ⌜ Gates ⌝ }
+    ensures { λ _. ⌜ Exactly104 ⌝ }
 {}
 
 // A gate of the table serves any three signals.

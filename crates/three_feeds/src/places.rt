@@ -1,13 +1,13 @@
 // An entry as numbers in lent places: 1, the three weights and T; or 0, the two settings that are 1 and the two that are 0.
 use crate::TableEntry;
 use crate::entry;
-use integers::widened;
+use basics::widened;
 ghost use mathlib.Core.Path.{_≡_};
 ghost use mathlib.Core.List.{[], _∷_, _++_};
 ghost use Prim.Native.Nat.{_≤_};
 ghost use lib.IntN.{pos};
 ghost use lib.ListN.{length, drop};
-ghost use Rattle.integers.specs.Refusals.{codeOf, stored};
+ghost use Rattle.basics.specs.Refusals.{codeOf, stored};
 ghost use Rattle.three_feeds.specs.Places.{placesOf, entryPlaces};
 
 // A setting, in 64 bits.

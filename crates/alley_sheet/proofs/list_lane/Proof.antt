@@ -4,10 +4,10 @@ use mathlib.Core.Bool.{true}
 use borrow.Author.Needs.{needs}
 use borrow.Author.Tests.{not-true, not-false}
 use lib.ListN.{length}
-use Rattle.integers.specs.Refusals.{Answer, stored}
-use Rattle.alley_sheet.specs.Alley.{Size}
-use Rattle.alley_sheet.specs.Answers.{Step, soundTotals, listed, written, asListed, textOf}
-use Rattle.alley_sheet.specs.AnswerLaws.{refused-gives, idle-gives, unsound, shut, none-found, lane-found}
+use Rattle.basics.specs.Refusals.{Answer, stored}
+use Rattle.alley_theory.specs.Alley.{Size}
+use Rattle.alley_theory.specs.Answers.{LaneStep, soundTotals, listed, roomTested, asListed, textOf}
+use Rattle.alley_theory.specs.AnswerLaws.{refused-gives, idle-gives, unsound, shut, none-found, lane-found}
 use Rattle.alley_sheet.proofs.list_lane.Statement.{statement}
 use Rattle.alley_sheet.proofs.list_lane.Tie as tie
 
@@ -79,11 +79,11 @@ returns-4 c =
     let a = at-else .before .before .before .before .args in
     let room = length (a .out .now) in
     let f = found .find-lane .result in
-    let e = ap (λ (x : Answer Size). written room (listed (a .totals) (f .taken) x)) (read .lane-entry .ensures .is)
+    let e = ap (λ (x : Answer Size). roomTested room (listed (a .totals) (f .taken) x)) (read .lane-entry .ensures .is)
     ∙ sym (lane-found (a .totals) (a .last) (a .bytes .now) room (sound at-else) (found .before .if2 .left) f (found .find-lane .ensures)
     (at-lane .if3 .left)) in (
       done .write-lane .ensures .0 ∙ ap (asListed (a .totals)) e,
-      done .write-lane .ensures .1 ∙ ap (λ (x : Answer Step). stored (textOf x) (a .out .now)) e,
+      done .write-lane .ensures .1 ∙ ap (λ (x : Answer LaneStep). stored (textOf x) (a .out .now)) e,
     )
 
 pub list-lane-spec : {M : Type 1} → statement M

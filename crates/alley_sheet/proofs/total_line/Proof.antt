@@ -7,9 +7,9 @@ use lib.ListN.{length, take, drop}
 use lib.Seq.{take-at}
 use borrow.Author.Needs.{needs}
 use Rattle.texts.specs.PutLaws.{put-text, put-length}
-use Rattle.alley_sheet.specs.Alley.{totalText}
-use Rattle.alley_sheet.specs.Answers.{sums, asLineWritten}
-use Rattle.alley_sheet.specs.AnswerLaws.{total-long, total-given}
+use Rattle.alley_theory.specs.Alley.{totalText}
+use Rattle.alley_theory.specs.Answers.{sums, asSheetLine}
+use Rattle.alley_theory.specs.AnswerLaws.{total-long, total-given}
 use Rattle.alley_sheet.proofs.total_line.Statement.{statement}
 use Rattle.alley_sheet.proofs.total_line.Tie as tie
 
@@ -30,7 +30,7 @@ put-total-requires : tie.Need-put-total-requires
 put-total-requires c κs = search needs
 
 returns : tie.Need-returns
-unfolding asLineWritten
+unfolding asSheetLine
 returns c =
     let done = c .before .before in
     let a = done .before .before .before .args in
@@ -51,7 +51,7 @@ same-length : tie.Need-same-length
 same-length c = search needs
 
 returns-2 : tie.Need-returns-2
-unfolding asLineWritten
+unfolding asSheetLine
 returns-2 c =
     let copied = c .before .before in
     let done = copied .before .before .before .before .before in

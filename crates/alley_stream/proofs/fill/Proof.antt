@@ -4,7 +4,7 @@ use Prim.Native.Nat.{_+_, _-_, _≤_, _<_}
 use native.Mathlib.Decide.{decLt}
 use native.Mathlib.Omega.{arith}
 use lib.ListN.{length}
-use Rattle.integers.specs.WriteLaws.{tail-length}
+use Rattle.basics.specs.WriteLaws.{tail-length}
 use borrow.Author.Needs.{needs}
 use borrow.Rule.Slice.PartMut.{putMid, same-len-mid}
 use Rattle.alley_stream.proofs.fill.Statement.{statement}
@@ -57,7 +57,9 @@ returns c = search needs
 
 add-end : tie.Need-add-end Inv-loop μ-loop
 add-end c =
-    record { fits = omega (arith, few (c .before .before .before), c .before .before .before .before .before .before .before .before .before .good .0 .0) }
+    let got = c .before .before .before in
+    let start = got .before .before .before .before .before .before in
+    record { fits = omega (arith, few got, start .good .0 .0) }
 
 -- the read gave something
 positive : (c : tie.Else1 Inv-loop μ-loop) → 0 < c .before .before .before .read-some .result

@@ -14,12 +14,12 @@ abbrev μ-loop : tie.MeasureT-loop
 μ-loop input₀ output₀ place₀ turns₀ input output place turns = 131072 - turns
 
 -- a turn leaves as many bytes as there were
-kept-input : (c : tie.After-turn Inv-loop μ-loop)
-    → length (c .turn .last .0) ≡ length (c .before .before .before .before .before .before .before .args .input .now)
+kept-input : (c : tie.After-turn Inv-loop μ-loop) → let l = c .before .before .before .before in
+    length (c .turn .last .0) ≡ length (l .before .before .before .args .input .now)
 kept-input c = c .turn .kept .0 ∙ c .before .before .before .before .loop .inv .1
 
-kept-output : (c : tie.After-turn Inv-loop μ-loop)
-    → length (c .turn .last .1 .0) ≡ length (c .before .before .before .before .before .before .before .args .output .now)
+kept-output : (c : tie.After-turn Inv-loop μ-loop) → let l = c .before .before .before .before in
+    length (c .turn .last .1 .0) ≡ length (l .before .before .before .args .output .now)
 kept-output c = c .turn .kept .1 .0 ∙ c .before .before .before .before .loop .inv .2
 
 loop-holds : tie.Need-loop-holds Inv-loop μ-loop

@@ -1,5 +1,5 @@
 -- By the law of pairs. Assumes nothing.
-use Rattle.folding.specs.GuaranteeLaws.{pair-claim}
+use Rattle.fold_theory.specs.GuaranteeLaws.{pair-claim}
 use Rattle.guarantees.proofs.pairs_are_least.Statement.{statement}
 use Rattle.guarantees.proofs.pairs_are_least.Tie as tie
 

@@ -2,12 +2,12 @@
 use mathlib.Core.Path.{_≡_}
 use lib.ListN.{length}
 use borrow.Author.Needs.{needs}
-use Rattle.network.specs.RecordLaws.{Shaped}
+use Rattle.network.specs.RecordLaws.{ArrayLengths}
 use Rattle.guarantees.specs.FileLaws.{written-is-read}
 use Rattle.guarantees.proofs.written_is_read.Statement.{statement}
 use Rattle.guarantees.proofs.written_is_read.Tie as tie
 
-shaped : (c : tie.Start) → Shaped (c .args .held .network)
+shaped : (c : tie.Start) → ArrayLengths (c .args .held .network)
 shaped c =
     let f : length (c .args .held .network .fanins) ≡ 128 = search needs in
     let s : length (c .args .held .network .signals) ≡ 2048 = search needs in

@@ -34,4 +34,15 @@ returns-2 : tie.Need-returns-2
 returns-2 c = search needs
 
 pub line-prefix-spec : {M : Type 1} → statement M
-line-prefix-spec = tie.close (tie.spec slice-relend-prefix-line slice-aggregate-line line-requires cast-number number-requires number-requires-2 same-length returns returns-2)
+line-prefix-spec =
+    tie.close
+    (tie.spec
+    slice-relend-prefix-line
+    slice-aggregate-line
+    line-requires
+    cast-number
+    number-requires
+    number-requires-2
+    same-length
+    returns
+    returns-2)

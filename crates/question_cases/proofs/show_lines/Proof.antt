@@ -5,10 +5,10 @@ use Rattle.question_cases.proofs.show_lines.Statement.{statement}
 use Rattle.question_cases.proofs.show_lines.Tie as tie
 
 abbrev Inv-loop : tie.InvT-loop
-Inv-loop first second count n₀ n = n ≤ count
+Inv-loop before after count n₀ n = n ≤ count
 
 abbrev μ-loop : tie.MeasureT-loop
-μ-loop first second count n₀ n = count - n
+μ-loop before after count n₀ n = count - n
 
 loop-holds : tie.Need-loop-holds Inv-loop μ-loop
 loop-holds c = search needs

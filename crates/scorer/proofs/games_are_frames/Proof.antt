@@ -1,5 +1,5 @@
 -- By the law of games made of frames. Assumes nothing.
-use Rattle.scorer.specs.GrammarLaws.{made-of-frames}
+use Rattle.scorer_theory.specs.GrammarLaws.{made-of-frames}
 use Rattle.scorer.proofs.games_are_frames.Statement.{statement}
 use Rattle.scorer.proofs.games_are_frames.Tie as tie
 

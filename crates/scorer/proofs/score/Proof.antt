@@ -3,9 +3,10 @@ use mathlib.Core.Path.{ap, sym, _∙_}
 use mathlib.Core.List.{[]}
 use borrow.Author.Needs.{needs}
 use borrow.Author.Tests.{not-true, not-false}
-use Rattle.integers.specs.RefusalLaws.{checks-first, checks-next, checks-none}
+use Rattle.basics.specs.RefusalLaws.{checks-first, checks-next, checks-none}
 use Rattle.journal.specs.AnswerLaws.{whole-network}
-use Rattle.scorer.specs.Answers.{asSheet, scoring}
+use Rattle.scorer_tally.specs.Sheets.{asSheet}
+use Rattle.scorer.specs.Answers.{scoring}
 use Rattle.scorer.proofs.score.Statement.{statement}
 use Rattle.scorer.proofs.score.Tie as tie
 

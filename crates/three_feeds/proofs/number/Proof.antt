@@ -8,7 +8,8 @@ use mir.Facts.{sfits-widen, toZ-ofZ}
 use mir.Syntax.{w8}
 use mir.Val.{SFits}
 use borrow.Author.Needs.{needs}
-use Rattle.three_feeds.specs.Table.{entries, numbersOfAll}
+use Rattle.three_feeds.specs.Table.{tableEntries}
+use Rattle.three_feeds.specs.TableLaws.{numbersOfAll}
 use Rattle.three_feeds.proofs.number.Statement.{statement}
 use Rattle.three_feeds.proofs.number.Tie as tie
 
@@ -39,7 +40,7 @@ returns c =
     let start = c .before .before in
     rw (toZ-ofZ (small c)) (toZ-ofZ (sfits-widen tt (small c))
     ∙ ap (λ (l : List ℤ). getD l (4 * c .before .wide .result + start .args .place) (pos 0)) (start .pre .0)
-    ∙ ap (λ (n : ℕ). getD (numbersOfAll entries) (4 * n + start .args .place) (pos 0)) (c .before .wide .ensures .0))
+    ∙ ap (λ (n : ℕ). getD (numbersOfAll tableEntries) (4 * n + start .args .place) (pos 0)) (c .before .wide .ensures .0))
 
 pub number-spec : {M : Type 1} → statement M
 number-spec =

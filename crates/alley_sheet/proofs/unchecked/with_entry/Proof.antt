@@ -1,8 +1,8 @@
 -- A refused lane adds nothing, and sums of an alley's totals fit 64 bits.
 use native.Mathlib.Omega.{arith}
 use borrow.Author.Needs.{needs}
-use Rattle.alley_sheet.specs.EntryLaws.{with-refused, with-size}
-use Rattle.alley_sheet.specs.StepLaws.{sound-bounds}
+use Rattle.alley_theory.specs.EntryLaws.{with-refused, with-size}
+use Rattle.alley_theory.specs.StepLaws.{sound-bounds}
 use Rattle.alley_sheet.proofs.unchecked.with_entry.Statement.{statement}
 use Rattle.alley_sheet.proofs.unchecked.with_entry.Tie as tie
 
@@ -20,7 +20,8 @@ add-t5 c =
 
 add-t6 : tie.Need-add-t6
 add-t6 c =
-    let start = c .before .before .before .before .before .before .before in
+    let at-else = c .before .before .before .before in
+    let start = at-else .before .before .before in
     let b = sound-bounds (start .args .totals) (start .pre .0 .sound) in
     record { fits = omega (arith, b .lanes, b .cost, start .pre .1 .small-cost) }
 

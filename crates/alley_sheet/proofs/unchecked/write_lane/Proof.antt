@@ -6,20 +6,21 @@ use native.Mathlib.Omega.{arith}
 use lib.ListN.{length, take, drop}
 use lib.Seq.{take-at}
 use borrow.Author.Needs.{needs}
-use Rattle.integers.specs.Refusals.{accepted}
+use Rattle.basics.specs.Refusals.{accepted}
 use Rattle.texts.specs.PutLaws.{put-text, put-length}
-use Rattle.alley_sheet.specs.Alley.{laneText}
-use Rattle.alley_sheet.specs.Answers.{Step, asEntry, entryIn, withEntry, listed, asListed}
-use Rattle.alley_sheet.specs.AnswerLaws.{refused-gives, accepted-gives, too-long, has-room}
-use Rattle.alley_sheet.specs.EntryLaws.{listable-fair}
-use Rattle.alley_sheet.specs.TextLaws.{lane-short}
-use Rattle.alley_sheet.specs.declared.Entry.{Entry}
-use Rattle.alley_sheet.specs.declared.Totals.{Totals}
+use Rattle.alley_theory.specs.Alley.{laneText}
+use Rattle.alley_theory.specs.Answers.{LaneStep, asEntry, withEntry, listed, asListed}
+use Rattle.alley_theory.specs.Writes.{entryIn}
+use Rattle.alley_theory.specs.AnswerLaws.{refused-gives, accepted-gives, too-long, has-room}
+use Rattle.alley_theory.specs.EntryLaws.{listable-fair}
+use Rattle.alley_theory.specs.TextLaws.{lane-short}
+use Rattle.alley_theory.specs.declared.Entry.{Entry}
+use Rattle.alley_theory.specs.declared.Totals.{Totals}
 use Rattle.alley_sheet.proofs.unchecked.write_lane.Statement.{statement}
 use Rattle.alley_sheet.proofs.unchecked.write_lane.Tie as tie
 
 -- the lane's step, and its line
-abbrev stepOf : tie.Start → Step
+abbrev stepOf : tie.Start → LaneStep
 stepOf c = listed (c .args .totals) (c .args .taken) (entryIn (c .args .entry))
 
 abbrev textIn : tie.Start → List ℕ
@@ -82,7 +83,8 @@ put-bytes-requires c κs =
 
 with-entry-requires : tie.Need-with-entry-requires
 with-entry-requires c κs =
-    let start = c .before .before .before .before .before .before .before .before .before .before .before in
+    let done = c .before .before .before .before .before .before in
+    let start = done .before .before .before .before .before in
     (start .pre .0, start .pre .1)
 
 same-length : tie.Need-same-length

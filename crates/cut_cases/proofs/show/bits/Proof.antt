@@ -5,22 +5,16 @@ use Rattle.cut_cases.proofs.show.bits.Statement.{statement}
 use Rattle.cut_cases.proofs.show.bits.Tie as tie
 
 abbrev Inv-loop : tie.InvT-loop
-Inv-loop held output step j frame₀ k₀ frame k = k ≤ 8
+Inv-loop held output step frame₀ k₀ frame k = k ≤ 8
 
 abbrev μ-loop : tie.MeasureT-loop
-μ-loop held output step j frame₀ k₀ frame k = 8 - k
+μ-loop held output step frame₀ k₀ frame k = 8 - k
 
 loop-holds : tie.Need-loop-holds Inv-loop μ-loop
 loop-holds c = search needs
 
-read-frame-requires : tie.Need-read-frame-requires Inv-loop μ-loop
-read-frame-requires c κs = search needs
-
-shr-bit : tie.Need-shr-bit Inv-loop μ-loop
-shr-bit c = search needs
-
-number-requires : tie.Need-number-requires Inv-loop μ-loop
-number-requires c κs = search needs
+bit-requires : tie.Need-bit-requires Inv-loop μ-loop
+bit-requires c κs = search needs
 
 wrapping-add-usize-requires : tie.Need-wrapping-add-usize-requires Inv-loop μ-loop
 wrapping-add-usize-requires c κs = search needs
@@ -44,9 +38,7 @@ bits-spec =
     Inv-loop
     μ-loop
     loop-holds
-    read-frame-requires
-    shr-bit
-    number-requires
+    bit-requires
     wrapping-add-usize-requires
     add-k
     loop-less

@@ -6,7 +6,7 @@ use native.Mathlib.Omega.{arith}
 use lib.ListN.{getD, length}
 use denote.Ref.{now}
 use Rattle.network.specs.Places.{Pasted}
-use Rattle.places.specs.PasteLaws.{pasted-none, pasted-more, pasted-tab}
+use Rattle.network_places.specs.PasteLaws.{pasted-none, pasted-more, pasted-tab}
 use Rattle.journal.specs.ShiftLaws.{tab-drop}
 use Rattle.journal.proofs.unchecked.bytes_after.Statement.{statement}
 use Rattle.journal.proofs.unchecked.bytes_after.Tie as tie

@@ -16,9 +16,10 @@ same-length c = search needs
 
 returns : tie.Need-returns
 returns c =
-    let start = c .before .before .before .before .before .before .before .before .before .before in
-    let store = c .before .before in
-    raised-entered (now (start .args .front)) (start .pre) (store .before .before .before .before .raise-bytes .ensures) (store .store-bytes .ensures)
+    let at-store = c .before .before in
+    let at-raise = at-store .before .before .before .before in
+    let start = at-raise .before .before .before .before in
+    raised-entered (now (start .args .front)) (start .pre) (at-raise .raise-bytes .ensures) (at-store .store-bytes .ensures)
 
 pub enter-bytes-spec : {M : Type 1} → statement M
 enter-bytes-spec =

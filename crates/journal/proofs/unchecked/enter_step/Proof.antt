@@ -9,7 +9,7 @@ use lib.ListN.{length, take}
 use denote.Ref.{now}
 use mir.Syntax.{w32}
 use mir.Val.{toZ, ofZ}
-use Rattle.integers.specs.SizeLaws.{read-back}
+use Rattle.basics.specs.SizeLaws.{read-back}
 use Rattle.journal.proofs.unchecked.enter_step.Statement.{statement}
 use Rattle.journal.proofs.unchecked.enter_step.Tie as tie
 
@@ -23,6 +23,14 @@ long-row-weights c = search needs
 -- the threshold is the one that was handed over
 threshold-back : (c : tie.Start) → toZ w32 (ofZ w32 (c .args .gate .threshold)) ≡ c .args .gate .threshold
 threshold-back c = read-back w32 {r = c .args .gate .threshold} (search needs) refl
+
+-- the start, from where the threshold is entered
+abbrev start-of : tie.After-enter-integers → tie.Start
+start-of c =
+    let fanins = c .before .before .before .before in
+    let signals = fanins .before .before .before in
+    let kinds = signals .before .before .before in
+    kinds .before .before .before
 
 slice-aggregate-enter-bytes : tie.Need-slice-aggregate-enter-bytes
 slice-aggregate-enter-bytes c = search needs
@@ -53,18 +61,17 @@ slice-aggregate-enter-bytes-4 c = search needs
 
 enter-bytes-requires-4 : tie.Need-enter-bytes-requires-4
 enter-bytes-requires-4 c κs =
-    let early = c .before .before .before .before .before .before .before in
-    let start = early .before .before .before .before .before .before .before .before .before in
-    omega (arith, c .before .enter-bytes-arg4 .given .0 .1, long-row-signals start)
+    let thresholds = c .before .before .before in
+    omega (arith, c .before .enter-bytes-arg4 .given .0 .1, long-row-signals (start-of thresholds))
 
 slice-aggregate-enter-integers-2 : tie.Need-slice-aggregate-enter-integers-2
 slice-aggregate-enter-integers-2 c = search needs
 
 enter-integers-requires-2 : tie.Need-enter-integers-requires-2
 enter-integers-requires-2 c κs =
-    let early = c .before .before .before .before .before .before .before .before .before .before .before in
-    let start = early .before .before .before .before .before .before .before .before .before in
-    omega (arith, c .before .enter-integers-arg2 .given .0 .1, long-row-weights start)
+    let feeds = c .before .before .before in
+    let thresholds = feeds .before .before .before .before in
+    omega (arith, c .before .enter-integers-arg2 .given .0 .1, long-row-weights (start-of thresholds))
 
 returns : tie.Need-returns
 returns c =

@@ -5,7 +5,7 @@ use Prim.Native.Nat.{_-_, _≤_}
 use native.Mathlib.Omega.{arith}
 use lib.ListN.{getD, replicate}
 use Rattle.network.specs.Places.{Pasted}
-use Rattle.places.specs.PasteLaws.{pasted-none, pasted-more}
+use Rattle.network_places.specs.PasteLaws.{pasted-none, pasted-more}
 use Rattle.journal.proofs.unchecked.first_signals.Statement.{statement}
 use Rattle.journal.proofs.unchecked.first_signals.Tie as tie
 

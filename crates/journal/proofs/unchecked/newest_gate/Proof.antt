@@ -6,7 +6,7 @@ use lib.IntN.{ℤ, pos}
 use lib.ListN.{getD, replicate}
 use mir.Syntax.{w32}
 use mir.Val.{toZ, ofZ}
-use Rattle.integers.specs.SizeLaws.{read-back}
+use Rattle.basics.specs.SizeLaws.{read-back}
 use Rattle.network.specs.Places.{Pasted}
 use Rattle.journal.specs.NewestLaws.{newest-row}
 use Rattle.journal.proofs.unchecked.newest_gate.Statement.{statement}

@@ -4,13 +4,13 @@ use mathlib.Core.Path.{_≡_, refl}
 use Prim.Native.Nat.{_≤_}
 use native.Mathlib.Omega.{arith}
 use lib.ListN.{length}
-use Rattle.journal.specs.Entering.{Raised}
+use Rattle.journal.specs.Entering.{ShiftedUp}
 use Rattle.journal.specs.EnteringLaws.{raised-none, raised-more}
 use Rattle.journal.proofs.unchecked.raise_bytes.Statement.{statement}
 use Rattle.journal.proofs.unchecked.raise_bytes.Tie as tie
 
 abbrev Inv-loop : tie.InvT-loop
-Inv-loop bytes₀ gap p₀ bytes p = (gap ≤ p) × (p ≤ length bytes₀) × Raised 0 gap p bytes₀ bytes
+Inv-loop bytes₀ gap p₀ bytes p = (gap ≤ p) × (p ≤ length bytes₀) × ShiftedUp 0 gap p bytes₀ bytes
 
 abbrev μ-loop : tie.MeasureT-loop
 μ-loop bytes₀ gap p₀ bytes p = p

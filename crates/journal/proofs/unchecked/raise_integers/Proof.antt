@@ -6,14 +6,14 @@ use native.Mathlib.Omega.{arith}
 use lib.IntN.{pos}
 use lib.ListN.{length}
 use mir.Syntax.{w32}
-use Rattle.integers.specs.SizeLaws.{read-back}
-use Rattle.journal.specs.Entering.{Raised}
+use Rattle.basics.specs.SizeLaws.{read-back}
+use Rattle.journal.specs.Entering.{ShiftedUp}
 use Rattle.journal.specs.EnteringLaws.{raised-none, raised-more}
 use Rattle.journal.proofs.unchecked.raise_integers.Statement.{statement}
 use Rattle.journal.proofs.unchecked.raise_integers.Tie as tie
 
 abbrev Inv-loop : tie.InvT-loop
-Inv-loop integers₀ gap p₀ integers p = (gap ≤ p) × (p ≤ length integers₀) × Raised (pos 0) gap p integers₀ integers
+Inv-loop integers₀ gap p₀ integers p = (gap ≤ p) × (p ≤ length integers₀) × ShiftedUp (pos 0) gap p integers₀ integers
 
 abbrev μ-loop : tie.MeasureT-loop
 μ-loop integers₀ gap p₀ integers p = p

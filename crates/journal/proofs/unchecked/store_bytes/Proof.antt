@@ -6,7 +6,7 @@ use native.Mathlib.Omega.{arith}
 use lib.ListN.{getD, length}
 use denote.Ref.{now}
 use Rattle.network.specs.Places.{Pasted}
-use Rattle.places.specs.PasteLaws.{pasted-none, pasted-more}
+use Rattle.network_places.specs.PasteLaws.{pasted-none, pasted-more}
 use Rattle.journal.proofs.unchecked.store_bytes.Statement.{statement}
 use Rattle.journal.proofs.unchecked.store_bytes.Tie as tie
 

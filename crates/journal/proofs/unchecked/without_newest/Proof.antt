@@ -37,7 +37,8 @@ integers-after-requires-2 c κs = search needs
 returns : tie.Need-returns
 unfolding withoutNewest
 returns c =
-    let feeds = c .before .before .before .before .before .before .before in
+    let weights = c .before in
+    let feeds = weights .before .before .before .before .before .before in
     let thresholds = feeds .before .before .before .before .before .before in
     let fanins = thresholds .before .before .before .before .before in
     let signals = fanins .before .before .before in
@@ -49,7 +50,7 @@ returns c =
       fanins = fanins .later-bytes3 .ensures x;
       thresholds = thresholds .integers-after .ensures x;
       feeds = feeds .bytes-after .ensures x;
-      weights = c .before .integers-after2 .ensures x;
+      weights = weights .integers-after2 .ensures x;
     }
 
 pub without-newest-spec : {M : Type 1} → statement M

@@ -10,11 +10,12 @@ use lib.ListN.{getD}
 use mir.Syntax.{w32}
 use mir.Val.{toZ, ofZ}
 use mir.Facts.{toZ-ofZ}
-use Rattle.integers.specs.Lists.{below}
-use Rattle.integers.specs.ListLaws.{below-none, below-more, below-no}
-use Rattle.integers.specs.SizeLaws.{size-fits}
-use Rattle.integers.specs.TestLaws.{both-true}
-use Rattle.margins.specs.Sums.{everySum, outside, OnScale}
+use Rattle.basics.specs.Lists.{below}
+use Rattle.basics.specs.ListLaws.{below-none, below-more, below-no}
+use Rattle.basics.specs.SizeLaws.{size-fits}
+use Rattle.basics.specs.TestLaws.{both-true}
+use Rattle.gate_margins.specs.Sums.{everySum, outside}
+use Rattle.gate_margins.specs.Tables.{OnScale}
 use Rattle.network.specs.Margins.{weightsFrom, placesKeep, GatesOnScale}
 use Rattle.network.specs.MarginLaws.{length-weights}
 use borrow.Author.Needs.{needs}

@@ -7,10 +7,11 @@ use lib.IntN.{ℤ}
 use mir.Syntax.{w32}
 use mir.Val.{toZ, ofZ}
 use mir.Facts.{toZ-ofZ}
-use Rattle.integers.specs.SizeLaws.{size-fits}
+use Rattle.basics.specs.SizeLaws.{size-fits}
 use Rattle.network.specs.Record.{gateIn}
 use Rattle.network.specs.declared.GateRecord.{GateRecord}
-use Rattle.margins.specs.Sums.{everySum, outside, OnScale}
+use Rattle.gate_margins.specs.Sums.{everySum, outside}
+use Rattle.gate_margins.specs.Tables.{OnScale}
 use Rattle.network.specs.Limits.{weightsOf, keeps}
 use Rattle.network.specs.Margins.{weightsFrom}
 use Rattle.network.specs.MarginLaws.{gate-weights, length-weights}

@@ -2,7 +2,7 @@
 use mathlib.Core.Path.{sym}
 use lib.Dec.{eqb, eqb→eq}
 use borrow.Author.Needs.{needs}
-use Rattle.integers.specs.TestLaws.{T-is, T-and}
+use Rattle.basics.specs.TestLaws.{T-is, T-and}
 use Rattle.network.specs.MarginLaws.{places-plain}
 use Rattle.network.proofs.unchecked.gates_keep.Statement.{statement}
 use Rattle.network.proofs.unchecked.gates_keep.Tie as tie

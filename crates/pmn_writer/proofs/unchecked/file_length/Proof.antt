@@ -3,8 +3,8 @@ use mathlib.Core.Path.{_≡_, ap}
 use Prim.Native.Nat.{_+_, _*_, _-_, _≤_, zero-le}
 use native.Mathlib.Omega.{arith}
 use borrow.Author.Needs.{needs}
-use Rattle.format.specs.Format.{headerLength}
-use Rattle.format.specs.BoardLaws.{header-long}
+use Rattle.pmn_format.specs.Lengths.{headerLength}
+use Rattle.pmn_format.specs.BoardLaws.{header-long}
 use Rattle.pmn_writer.specs.Writing.{gatesLength}
 use Rattle.pmn_writer.specs.WritingLaws.{gatesLength-none, gatesLength-more}
 use Rattle.pmn_writer.proofs.unchecked.file_length.Statement.{statement}

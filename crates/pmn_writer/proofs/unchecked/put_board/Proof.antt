@@ -6,16 +6,16 @@ use native.Mathlib.Omega.{arith}
 use lib.ListN.{length, drop, length-set}
 use lib.Seq.{sets-eq}
 use borrow.Author.Needs.{needs}
-use Rattle.pmn_writer.specs.Writing.{marked}
+use Rattle.pmn_format.specs.Format.{markBytes}
 use Rattle.pmn_writer.specs.WritingLaws.{marked-first, marked-second}
 use Rattle.pmn_writer.proofs.unchecked.put_board.Statement.{statement}
 use Rattle.pmn_writer.proofs.unchecked.put_board.Tie as tie
 
 -- the bytes of either version
-second : (c : tie.Then1) → let b = c .before .before .args .board in marked b ≡ 80 ∷ 77 ∷ 78 ∷ 2 ∷ 0 ∷ b .on ∷ b .off ∷ []
+second : (c : tie.Then1) → let b = c .before .before .args .board in markBytes b ≡ 80 ∷ 77 ∷ 78 ∷ 2 ∷ 0 ∷ b .on ∷ b .off ∷ []
 second c = marked-second (c .before .before .args .board) (c .if1 .taken)
 
-first : (c : tie.Else1) → marked (c .before .before .args .board) ≡ 80 ∷ 77 ∷ 78 ∷ 1 ∷ 0 ∷ []
+first : (c : tie.Else1) → markBytes (c .before .before .args .board) ≡ 80 ∷ 77 ∷ 78 ∷ 1 ∷ 0 ∷ []
 first c = marked-first (c .before .before .args .board) (c .if1 .left)
 
 slice-write-out : tie.Need-slice-write-out

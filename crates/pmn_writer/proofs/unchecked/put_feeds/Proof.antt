@@ -8,10 +8,10 @@ use lib.IntN.{ℤ, pos}
 use mir.Syntax.{w32}
 use mir.Facts.{toZ-ofZ}
 use borrow.Author.Needs.{needs}
-use Rattle.integers.specs.Word.{intBytes}
-use Rattle.integers.specs.WriteLaws.{write-on}
+use Rattle.basics.specs.Word.{intBytes}
+use Rattle.basics.specs.WriteLaws.{write-on}
 use Rattle.network.specs.Record.{feedAt}
-use Rattle.format.specs.Format.{feedBytes}
+use Rattle.pmn_format.specs.Format.{feedBytes}
 use Rattle.pmn_writer.specs.Writing.{firstFeeds}
 use Rattle.pmn_writer.specs.WritingLaws.{firstFeeds-none, firstFeeds-more, firstFeeds-length}
 use Rattle.pmn_writer.proofs.unchecked.put_feeds.Statement.{statement}
@@ -71,9 +71,11 @@ loop-again c =
     let f = feedAt ss ws (l .i) in
     let n : 5 * (l .i + 1) ≡ 5 * l .i + 5 = omega arith in (
       omega arith,
-      write-on x₀ (l .out) (put .put-pair .last .0) (firstFeeds ss ws (l .i)) (feedBytes f) (5 * l .i) 5 (l .inv .1) (firstFeeds-length ss ws (l .i)) refl (omega arith)
+      write-on x₀ (l .out) (put .put-pair .last .0) (firstFeeds ss ws (l .i)) (feedBytes f) (5 * l .i) 5 (l .inv .1) (firstFeeds-length ss ws (l .i)) refl
+          (omega arith)
           (put .put-pair .ensures
-          ∙ ap (λ (z : ℤ). (getD ss (l .i) 0 ∷ intBytes z) ++ drop 5 (take (length (l .out) - 5 * l .i) (drop (5 * l .i) (l .out)))) (toZ-ofZ {w = w32} {z = getD ws (l .i) (pos 0)} (record { sfits = put .before .put-pair-arg3 .given })))
+          ∙ ap (λ (z : ℤ). (getD ss (l .i) 0 ∷ intBytes z) ++ drop 5 (take (length (l .out) - 5 * l .i) (drop (5 * l .i) (l .out))))
+          (toZ-ofZ {w = w32} {z = getD ws (l .i) (pos 0)} (record { sfits = put .before .put-pair-arg3 .given })))
           ∙ ap (λ (p : List ℕ). p ++ drop (5 * l .i + 5) x₀) (sym (firstFeeds-more ss ws (l .i)))
           ∙ ap (λ (k : ℕ). firstFeeds ss ws (l .i + 1) ++ drop k x₀) (sym n),
       c .before .out .given .1 ∙ l .inv .2,
@@ -86,7 +88,8 @@ returns : tie.Need-returns Inv-loop μ-loop
 returns c =
     let l = c .before .loop in
     let start = c .before .before .before in
-    l .inv .1 ∙ ap (λ (k : ℕ). firstFeeds (start .args .signals .now) (start .args .weights .now) k ++ drop (5 * k) (start .args .out .now)) (let e : l .i ≡ start .args .count = omega arith in e)
+    l .inv .1 ∙ ap (λ (k : ℕ). firstFeeds (start .args .signals .now) (start .args .weights .now) k ++ drop (5 * k) (start .args .out .now))
+    (let e : l .i ≡ start .args .count = omega arith in e)
 
 pub put-feeds-spec : {M : Type 1} → statement M
 put-feeds-spec =

@@ -8,8 +8,8 @@ use lib.IntN.{ℤ}
 use mir.Syntax.{w32}
 use mir.Facts.{toZ-ofZ}
 use borrow.Author.Needs.{needs}
-use Rattle.integers.specs.Word.{intBytes}
-use Rattle.integers.specs.WriteLaws.{write-on}
+use Rattle.basics.specs.Word.{intBytes}
+use Rattle.basics.specs.WriteLaws.{write-on}
 use Rattle.pmn_writer.specs.Writing.{firstFeeds}
 use Rattle.pmn_writer.specs.WritingLaws.{firstFeeds-length, gateIn-bytes}
 use Rattle.pmn_writer.proofs.unchecked.put_gate.Statement.{statement}
@@ -45,7 +45,8 @@ same-length c = search needs
 returns : tie.Need-returns
 returns c =
     let feeds = c .before .before in
-    let pair = feeds .before .before .before .before .before .before .before in
+    let lent = feeds .before .before in
+    let pair = lent .before .before .before .before .before in
     let start = pair .before .before .before .before .before in
     let gate = start .args .t2 in
     let x₀ = start .args .out .now in
@@ -54,7 +55,8 @@ returns c =
     let head = gate .fanin ∷ intBytes (gate .threshold) in (
       omega arith,
       write-on x₀ (pair .put-pair .last .0) (feeds .put-feeds .last .0) head (firstFeeds (gate .signals) (gate .weights) count) 5 (5 * count)
-          (pair .put-pair .ensures ∙ ap (λ (z : ℤ). (gate .fanin ∷ intBytes z) ++ drop 5 x₀) (toZ-ofZ {w = w32} {z = gate .threshold} (record { sfits = pair .before .struct-told .given .1 .0 .1 })))
+          (pair .put-pair .ensures ∙ ap (λ (z : ℤ). (gate .fanin ∷ intBytes z) ++ drop 5 x₀)
+          (toZ-ofZ {w = w32} {z = gate .threshold} (record { sfits = pair .before .struct-told .given .1 .0 .1 })))
           refl (firstFeeds-length (gate .signals) (gate .weights) count) (omega arith) (feeds .put-feeds .ensures)
           ∙ ap (λ (k : ℕ). (head ++ firstFeeds (gate .signals) (gate .weights) k) ++ drop (5 + 5 * count) x₀) e
           ∙ ap (λ (l : List ℕ). l ++ drop (5 + 5 * count) x₀) (sym (gateIn-bytes gate)),

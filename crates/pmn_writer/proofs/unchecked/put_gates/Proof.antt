@@ -6,14 +6,14 @@ use Prim.Native.Nat.{ℕ, _+_, _*_, _-_, _≤_, zero-le}
 use native.Mathlib.Omega.{arith}
 use lib.ListN.{length, drop, getD}
 use borrow.Author.Needs.{needs}
-use Rattle.integers.specs.WriteLaws.{tail-length, write-on}
+use Rattle.basics.specs.WriteLaws.{tail-length, write-on}
 use Rattle.network.specs.declared.GateRecord.{GateRecord}
 use Rattle.network.specs.Threshold.{Gate}
-use Rattle.network.specs.Record.{gateIn, gateFrom}
-use Rattle.network.specs.Places.{rowAt}
-use Rattle.format.specs.Format.{gateBytes}
+use Rattle.network.specs.Record.{gateIn, gateFrom, rowAt}
+use Rattle.pmn_format.specs.Format.{gateBytes}
 use Rattle.pmn_writer.specs.Writing.{firstGates, gatesLength}
-use Rattle.pmn_writer.specs.WritingLaws.{gatesLength-none, gatesLength-more, gatesLength-room, firstGates-none, firstGates-more, firstGates-length, gateFrom-length, gateIn-row}
+use Rattle.pmn_writer.specs.WritingLaws.{gatesLength-none, gatesLength-more, gatesLength-room, firstGates-none, firstGates-more, firstGates-length}
+use Rattle.pmn_writer.specs.WritingLaws.{gateFrom-length, gateIn-row}
 use Rattle.pmn_writer.proofs.unchecked.put_gates.Statement.{statement}
 use Rattle.pmn_writer.proofs.unchecked.put_gates.Tie as tie
 
@@ -29,7 +29,8 @@ few : (c : tie.In-loop Inv-loop μ-loop) → getD (c .before .before .before .ar
 few c = c .before .before .before .pre .0 .few-feeds (c .before .loop .g) (omega arith)
 
 -- the loop's gate has room after its predecessors
-room : (c : tie.In-loop Inv-loop μ-loop) → c .before .loop .at + (5 + 5 * getD (c .before .before .before .args .fanins .now) (c .before .loop .g) 0) ≤ length (c .before .loop .out)
+room : (c : tie.In-loop Inv-loop μ-loop)
+    → c .before .loop .at + (5 + 5 * getD (c .before .before .before .args .fanins .now) (c .before .loop .g) 0) ≤ length (c .before .loop .out)
 room c =
     let l = c .before .loop in
     let start = c .before .before .before in
@@ -37,15 +38,20 @@ room c =
     omega (arith, l .inv .1, l .inv .3, start .pre .1)
 
 -- its feed count
-fanin-is : (c : tie.After-gate-at Inv-loop μ-loop) → c .gate-at .result .fanin ≡ getD (c .before .before .before .before .args .fanins .now) (c .before .before .loop .g) 0
+fanin-is : (c : tie.After-gate-at Inv-loop μ-loop)
+    → c .gate-at .result .fanin ≡ getD (c .before .before .before .before .args .fanins .now) (c .before .before .loop .g) 0
 unfolding rowAt
 fanin-is c = ap (λ (x : GateRecord). x .fanin) (c .gate-at .ensures)
 
 loop-holds : tie.Need-loop-holds Inv-loop μ-loop
 loop-holds c =
     let a = c .before .args in
-    let e = gatesLength-none (a .fanins .now) in
-    (zero-le, sym e, sym (ap (λ (l : List ℕ). l ++ a .out .now) (firstGates-none (a .fanins .now) (a .thresholds .now) (a .signals .now) (a .weights .now))), refl)
+    let e = gatesLength-none (a .fanins .now) in (
+      zero-le,
+      sym e,
+      sym (ap (λ (l : List ℕ). l ++ a .out .now) (firstGates-none (a .fanins .now) (a .thresholds .now) (a .signals .now) (a .weights .now))),
+      refl,
+    )
 
 gate-at-requires : tie.Need-gate-at-requires Inv-loop μ-loop
 gate-at-requires c κs = let h = c .before .before .before .pre .0 .few-gates in omega arith
@@ -104,7 +110,8 @@ loop-again c =
       omega arith,
       omega arith,
       write-on x₀ (l .out) (put .put-gate .last .0) (firstGates fs ts ss ws (l .g)) b (l .at) step (l .inv .2)
-          (firstGates-length fs ts ss ws (l .g) ∙ sym (l .inv .1)) (ap (λ (x : Gate). length (gateBytes x)) e ∙ gateFrom-length fs ts ss ws (l .g) ∙ sym s) (omega arith) (put .put-gate .ensures .1)
+          (firstGates-length fs ts ss ws (l .g) ∙ sym (l .inv .1)) (ap (λ (x : Gate). length (gateBytes x)) e ∙ gateFrom-length fs ts ss ws (l .g) ∙ sym s)
+          (omega arith) (put .put-gate .ensures .1)
           ∙ ap (λ (x : Gate). (firstGates fs ts ss ws (l .g) ++ gateBytes x) ++ drop (l .at + step) x₀) e
           ∙ ap (λ (p : List ℕ). p ++ drop (l .at + step) x₀) (sym (firstGates-more fs ts ss ws (l .g))),
       c .before .out .given .1 ∙ l .inv .3,

@@ -5,19 +5,18 @@ use Prim.Native.Nat.{_+_, _≤_}
 use lib.ListN.{length}
 use native.Mathlib.Omega.{arith}
 use borrow.Author.Needs.{needs}
-use Rattle.integers.specs.WriteLaws.{tail-length, write-on}
-use Rattle.format.specs.BoardLaws.{header-long}
-use Rattle.pmn_writer.specs.Writing.{marked}
-use Rattle.pmn_writer.specs.WritingLaws.{marked-length}
+use Rattle.basics.specs.WriteLaws.{tail-length, write-on}
+use Rattle.pmn_format.specs.BoardLaws.{markBytes-length, header-long}
+use Rattle.pmn_format.specs.Format.{markBytes}
 use Rattle.pmn_writer.proofs.unchecked.put_header.Statement.{statement}
 use Rattle.pmn_writer.proofs.unchecked.put_header.Tie as tie
 
 put-board-requires : tie.Need-put-board-requires
-put-board-requires c κs = omega (arith, marked-length (c .before .before .args .board))
+put-board-requires c κs = omega (arith, markBytes-length (c .before .before .args .board))
 
 -- the counts have room
 room : (c : tie.After-put-board) → c .put-board .result + 3 ≤ length (c .put-board .last .0)
-room c = omega (arith, c .put-board .ensures .0, c .put-board .kept .0, marked-length (c .before .before .before .args .board))
+room c = omega (arith, c .put-board .ensures .0, c .put-board .kept .0, markBytes-length (c .before .before .before .args .board))
 
 sub-put-counts : tie.Need-sub-put-counts
 sub-put-counts c = omega (arith, room (c .before .before))
@@ -39,7 +38,7 @@ add-result : tie.Need-add-result
 add-result c =
     let put = c .before .before .before .before .before .before in
     let b = put .before .before .before .args .board in
-    omega (arith, put .put-board .ensures .0, marked-length b, header-long b)
+    omega (arith, put .put-board .ensures .0, markBytes-length b, header-long b)
 
 same-length : tie.Need-same-length
 same-length c = search needs
@@ -52,9 +51,9 @@ returns c =
     let a = start .args in
     let at = put .put-board .result in
     let e = put .put-board .ensures .0 in
-    let l = marked-length (a .board) in (
+    let l = markBytes-length (a .board) in (
       omega arith,
-      write-on (a .out .now) (put .put-board .last .0) (counts .put-counts .last .0) (marked (a .board)) (a .inputs ∷ a .gates ∷ a .outputs ∷ []) at 3
+      write-on (a .out .now) (put .put-board .last .0) (counts .put-counts .last .0) (markBytes (a .board)) (a .inputs ∷ a .gates ∷ a .outputs ∷ []) at 3
           (put .put-board .ensures .1) (sym (put .put-board .ensures .0)) refl (omega arith) (counts .put-counts .ensures),
     )
 

@@ -5,7 +5,7 @@ use Prim.Native.Nat.{ℕ, _+_, _-_, _≤_, zero-le}
 use native.Mathlib.Omega.{arith}
 use lib.ListN.{length, drop, getD, length-set}
 use borrow.Author.Needs.{needs}
-use Rattle.integers.specs.WriteLaws.{store-on}
+use Rattle.basics.specs.WriteLaws.{store-on}
 use Rattle.pmn_writer.specs.Writing.{firstOutputs}
 use Rattle.pmn_writer.specs.WritingLaws.{firstOutputs-none, firstOutputs-more, firstOutputs-length}
 use Rattle.pmn_writer.proofs.unchecked.put_outputs.Statement.{statement}
@@ -51,7 +51,8 @@ returns : tie.Need-returns Inv-loop μ-loop
 returns c =
     let l = c .before .loop in
     let start = c .before .before in
-    l .inv .1 ∙ ap (λ (k : ℕ). firstOutputs (start .args .drivers .now) k ++ drop k (start .args .out .now)) (let e : l .j ≡ start .args .outputs = omega arith in e)
+    l .inv .1 ∙ ap (λ (k : ℕ). firstOutputs (start .args .drivers .now) k ++ drop k (start .args .out .now))
+    (let e : l .j ≡ start .args .outputs = omega arith in e)
 
 pub put-outputs-spec : {M : Type 1} → statement M
 put-outputs-spec =

@@ -7,8 +7,8 @@ use lib.ListN.{length, length-set, set, drop, take}
 use lib.IntN.{ℤ}
 use mir.Facts.{toZ-ofZ}
 use borrow.Author.Needs.{needs}
-use Rattle.integers.specs.Word.{intBytes}
-use Rattle.integers.specs.WriteLaws.{tail-length, first-put, write-on}
+use Rattle.basics.specs.Word.{intBytes}
+use Rattle.basics.specs.WriteLaws.{tail-length, first-put, write-on}
 use Rattle.pmn_writer.proofs.unchecked.put_pair.Statement.{statement}
 use Rattle.pmn_writer.proofs.unchecked.put_pair.Tie as tie
 

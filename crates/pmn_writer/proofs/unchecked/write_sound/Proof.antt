@@ -7,18 +7,21 @@ use native.Mathlib.Omega.{arith}
 use lib.ListN.{length, drop, length-append}
 use borrow.Rule.Slice.PartMut.{putMid}
 use borrow.Author.Needs.{needs}
-use Rattle.integers.specs.WriteLaws.{tail-length, write-on}
+use Rattle.basics.specs.WriteLaws.{tail-length, write-on}
 use Rattle.network.specs.Record.{netOf}
-use Rattle.format.specs.Format.{headerLength, fileBytes}
-use Rattle.pmn_writer.specs.Writing.{header, firstGates, gatesLength, firstOutputs}
-use Rattle.pmn_writer.specs.WritingLaws.{firstGates-length, firstOutputs-length, header-length, file-parts, file-length}
-use Rattle.pmn_writer.specs.WriteAnswerLaws.{Bounded, sound-bounded, write-short, write-whole, written-refused, written-whole}
+use Rattle.network.specs.SoundLaws.{CountsInArrays, sized-of, counted-of}
+use Rattle.pmn_format.specs.Format.{countedHeader, fileBytes}
+use Rattle.pmn_format.specs.Lengths.{headerLength}
+use Rattle.pmn_format.specs.LengthLaws.{countedHeader-length}
+use Rattle.pmn_writer.specs.Writing.{firstGates, gatesLength, firstOutputs}
+use Rattle.pmn_writer.specs.WritingLaws.{firstGates-length, firstOutputs-length, file-parts, file-length}
+use Rattle.pmn_writer.specs.WriteAnswerLaws.{write-short, write-whole, written-refused, written-whole}
 use Rattle.pmn_writer.proofs.unchecked.write_sound.Statement.{statement}
 use Rattle.pmn_writer.proofs.unchecked.write_sound.Tie as tie
 
 -- the record's counts are within the limits
-bounded : (c : tie.Start) → Bounded (c .args .t1)
-bounded c = sound-bounded (c .args .t1) (c .pre)
+bounded : (c : tie.Start) → CountsInArrays (c .args .t1)
+bounded c = sized-of (c .args .t1) (c .pre)
 
 -- the length found is the file's
 length-is : (c : tie.After-file-length) → c .file-length .result ≡ length (fileBytes (netOf (c .before .before .before .before .before .args .t1)))
@@ -26,10 +29,10 @@ length-is c = c .file-length .ensures ∙ sym (file-length (c .before .before .b
 
 -- where the header is put, the record, and the header's length
 abbrev start-of : tie.After-put-header → tie.Start
-start-of c = c .before .before .before .before .before .before .before .before
+start-of c = let at-length = c .before .before .before in at-length .before .before .before .before .before
 
 abbrev headed : tie.After-put-gates → tie.After-put-header
-headed c = c .before .before .before .before .before .before .before .before .before
+headed c = let lent = c .before .before .before in lent .before .before .before .before .before .before
 
 -- the lent bytes after the gates: the header, the gates, and what stood after them
 abbrev body : tie.After-put-gates → List ℕ
@@ -40,7 +43,7 @@ body c =
 body-is : (c : tie.After-put-gates) → let start = start-of (headed c) in
     let r = start .args .t1 in
     body c
-    ≡ (header (r .board) (r .inputs) (r .gates) (r .outputs) ++ firstGates (r .fanins) (r .thresholds) (r .signals) (r .weights) (r .gates))
+    ≡ (countedHeader (r .board) (r .inputs) (r .gates) (r .outputs) ++ firstGates (r .fanins) (r .thresholds) (r .signals) (r .weights) (r .gates))
     ++ drop (headed c .put-header .result + c .put-gates .result) (start .args .out .now)
 body-is c =
     let put = headed c in
@@ -49,9 +52,9 @@ body-is c =
     let e : put .put-header .result ≡ headerLength (r .board) = put .put-header .ensures .0 in
     let n = put .before .before .before .file-length .ensures in
     let h = put .before .before .if1 .left in
-    write-on (start .args .out .now) (put .put-header .last .0) (c .put-gates .last .0) (header (r .board) (r .inputs) (r .gates) (r .outputs))
+    write-on (start .args .out .now) (put .put-header .last .0) (c .put-gates .last .0) (countedHeader (r .board) (r .inputs) (r .gates) (r .outputs))
     (firstGates (r .fanins) (r .thresholds) (r .signals) (r .weights) (r .gates)) (put .put-header .result) (c .put-gates .result)
-    (put .put-header .ensures .1) (header-length (r .board) (r .inputs) (r .gates) (r .outputs) ∙ sym e)
+    (put .put-header .ensures .1) (countedHeader-length (r .board) (r .inputs) (r .gates) (r .outputs) ∙ sym e)
     (firstGates-length (r .fanins) (r .thresholds) (r .signals) (r .weights) (r .gates) ∙ sym (c .put-gates .ensures .0))
     (omega (arith, e, n, h, c .put-gates .ensures .0)) (c .put-gates .ensures .1)
 
@@ -68,7 +71,7 @@ ends c =
     (omega (arith, e, m, n), omega (arith, e, m, n, h))
 
 file-length-requires : tie.Need-file-length-requires
-file-length-requires c κs = let b = bounded (c .before .before .before .before) in (b .counted, b .few-outputs)
+file-length-requires c κs = let start = c .before .before .before .before in (counted-of (start .args .t1) (start .pre), bounded start .few-outputs)
 
 returns : tie.Need-returns
 returns c =
@@ -80,8 +83,8 @@ returns c =
 
 put-header-requires : tie.Need-put-header-requires
 put-header-requires c κs =
-    let b = bounded (c .before .before .before .before .before .before .before) in
-    let h = b .counted .few-gates in
+    let at-length = c .before .before in
+    let b = bounded (at-length .before .before .before .before .before) in
     ((omega arith, omega arith, omega arith), omega arith)
 
 -- the gates have room after the header
@@ -101,9 +104,10 @@ part-put-gates-end c = search needs
 
 put-gates-requires : tie.Need-put-gates-requires
 put-gates-requires c κs =
-    let put = c .before .before .before .before .before .before .before .before in
+    let lent = c .before .before in
+    let put = lent .before .before .before .before .before .before in
     let t = tail-length (put .put-header .result) (put .put-header .last .0) in
-    (bounded (start-of put) .counted, omega (arith, t, room put))
+    (counted-of (start-of put .args .t1) (start-of put .pre), omega (arith, t, room put))
 
 add-at : tie.Need-add-at
 add-at c = search needs
@@ -139,14 +143,14 @@ returns-2 c =
     let start = start-of put in
     let r = start .args .t1 in
     let x₀ = start .args .out .now in
-    let H = header (r .board) (r .inputs) (r .gates) (r .outputs) in
+    let H = countedHeader (r .board) (r .inputs) (r .gates) (r .outputs) in
     let G = firstGates (r .fanins) (r .thresholds) (r .signals) (r .weights) (r .gates) in
     let O = firstOutputs (r .drivers) (r .outputs) in
     let a = put .put-header .result in
     let m = gates .put-gates .result in
     let ea : a ≡ headerLength (r .board) = put .put-header .ensures .0 in
     let em : m ≡ gatesLength (r .fanins) (r .gates) = gates .put-gates .ensures .0 in
-    let lH = header-length (r .board) (r .inputs) (r .gates) (r .outputs) in
+    let lH = countedHeader-length (r .board) (r .inputs) (r .gates) (r .outputs) in
     let lG = firstGates-length (r .fanins) (r .thresholds) (r .signals) (r .weights) (r .gates) in
     let lO = firstOutputs-length (r .drivers) (r .outputs) in
     let lp : length (H ++ G) ≡ a + m = length-append H G ∙ ap₂ _+_ (lH ∙ sym ea) (lG ∙ sym em) in

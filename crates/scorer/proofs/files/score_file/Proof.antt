@@ -1,10 +1,10 @@
 -- The refusal, then the sheet of the file's network in its places. Assumes nothing.
 use borrow.Author.Needs.{needs}
-use Rattle.integers.specs.RefusalLaws.{refused-one}
-use Rattle.opening.specs.AnswerLaws.{placed}
-use Rattle.opening.specs.OpeningLaws.{file-sound, open-refused}
+use Rattle.basics.specs.RefusalLaws.{refused-one}
+use Rattle.pmn_opening.specs.AnswerLaws.{placed}
+use Rattle.pmn_opening.specs.OpeningLaws.{file-sound, open-refused}
 use Rattle.scorer.specs.Answers.{scorePlaces}
-use Rattle.scorer.specs.Numbers.{numbersOf}
+use Rattle.scorer_places.specs.Numbers.{sheetNumbers}
 use Rattle.scorer.specs.FileLaws.{score-answer}
 use Rattle.scorer.proofs.files.score_file.Statement.{statement}
 use Rattle.scorer.proofs.files.score_file.Tie as tie
@@ -33,7 +33,7 @@ returns-2 c =
     let g = c .before .before .before .before .score-sound in
     let s = c .before .before .before .before .before in
     let a = s .before .before .before .before .before .before .args in
-    placed (g .result .code) (numbersOf (g .result)) (a .answer .now)
+    placed (g .result .code) (sheetNumbers (g .result)) (a .answer .now)
     (score-answer (s .before .refusal .ensures .gives (s .if1 .left)) (a .frames .now) (g .ensures)) (c .before .before .put-sheet .ensures)
 
 pub score-file-spec : {M : Type 1} → statement M

@@ -3,22 +3,26 @@ use Prim.Native.Nat.{_+_, _≤_}
 use native.Mathlib.Omega.{arith}
 use lib.ListN.{length}
 use borrow.Author.Needs.{needs}
-use Rattle.integers.specs.WriteLaws.{tail-length}
+use Rattle.basics.specs.WriteLaws.{tail-length}
 use Rattle.texts.specs.PutLaws.{put-part, put-length}
 use Rattle.texts.proofs.unchecked.put_number.Statement.{statement}
 use Rattle.texts.proofs.unchecked.put_number.Tie as tie
 
+-- where the word is put, from where the digits are; and the start
+abbrev at-word : tie.After-put-decimal → tie.After-put-bytes
+at-word c = c .before .before .before .before
+
+abbrev start : tie.After-put-bytes → tie.Start
+start c = c .before .before .before .before
+
 -- the word leaves room for the digits
-room : (c : tie.After-put-bytes) → c .put-bytes .result ≤ length (c .before .before .before .before .args .out .now)
-room c = omega (arith, c .put-bytes .ensures .long, c .before .before .before .before .pre)
+room : (c : tie.After-put-bytes) → c .put-bytes .result ≤ length (start c .args .out .now)
+room c = omega (arith, c .put-bytes .ensures .long, start c .pre)
 
 -- and the digits have room
 end : (c : tie.After-put-decimal)
-    → c .before .before .before .before .put-bytes .result + c .put-decimal .result ≤ length
-    (c .before .before .before .before .before .before .before .before .args .out .now)
-end c =
-    let first = c .before .before .before .before in
-    omega (arith, first .put-bytes .ensures .long, c .put-decimal .ensures .long, first .before .before .before .before .pre)
+    → at-word c .put-bytes .result + c .put-decimal .result ≤ length (start (at-word c) .args .out .now)
+end c = omega (arith, at-word c .put-bytes .ensures .long, c .put-decimal .ensures .long, start (at-word c) .pre)
 
 put-bytes-requires : tie.Need-put-bytes-requires
 put-bytes-requires c κs = omega (arith, c .before .before .before .pre)
@@ -40,15 +44,14 @@ put-decimal-requires c κs =
       tail-length (done .put-bytes .result) (done .put-bytes .last .0),
       put-length (done .put-bytes .ensures) (room done),
       done .put-bytes .ensures .long,
-      done .before .before .before .before .pre,
+      start done .pre,
     )
 
 add-result : tie.Need-add-result
-add-result c =
-    record { fits = omega (arith, end (c .before .before), c .before .before .before .before .before .before .before .before .before .before .good .0 .0) }
+add-result c = let done = c .before .before in record { fits = omega (arith, end done, start (at-word done) .good .0 .0) }
 
 returns : tie.Need-returns
-returns c = let done = c .before .before in put-part (done .before .before .before .before .put-bytes .ensures) (end done) (done .put-decimal .ensures)
+returns c = let done = c .before .before in put-part (at-word done .put-bytes .ensures) (end done) (done .put-decimal .ensures)
 
 same-length : tie.Need-same-length
 same-length c = put-length (returns c) (end (c .before .before))

@@ -1,6 +1,6 @@
 -- Too few places, then no truth table, then the entry. Assumes nothing.
 use native.Mathlib.Omega.{arith}
-use Rattle.integers.specs.RefusalLaws.{refused-one}
+use Rattle.basics.specs.RefusalLaws.{refused-one}
 use Rattle.three_feeds.specs.PlaceLaws.{too-few, too-high, entry-left}
 use borrow.Author.Needs.{needs}
 use Rattle.three_feeds.proofs.places.put_entry.Statement.{statement}

@@ -1,0 +1,15 @@
+pub mod Library
+pub mod Lists
+pub mod TestLaws
+pub mod ListLaws
+pub mod RangeLaws
+pub mod TableLaws
+pub mod PlaceLaws
+pub mod Refusals
+pub mod RefusalLaws
+pub mod IntegerLaws
+pub mod SizeLaws
+pub mod SignLaws
+pub mod Word
+pub mod WordLaws
+pub mod WriteLaws

@@ -1,0 +1,71 @@
+-- The four places hold the numbers one after the other.
+use borrow.Author.Needs.{needs}
+use mathlib.Core.Path.{_≡_}
+use Prim.Native.Nat.{suc, _+_}
+use native.Mathlib.Omega.{arith}
+use lib.ListN.{set, length-set}
+use Rattle.call_lists.proofs.unchecked.put_four.Statement.{statement}
+use Rattle.call_lists.proofs.unchecked.put_four.Tie as tie
+
+mul-answers : tie.Need-mul-answers
+mul-answers c = search needs
+
+slice-write-answers : tie.Need-slice-write-answers
+slice-write-answers c = search needs
+
+add-answers : tie.Need-add-answers
+add-answers c = search needs
+
+mul-answers-2 : tie.Need-mul-answers-2
+mul-answers-2 c = search needs
+
+slice-write-answers-2 : tie.Need-slice-write-answers-2
+slice-write-answers-2 c = simp length-set (omega arith)
+
+add-answers-2 : tie.Need-add-answers-2
+add-answers-2 c = search needs
+
+mul-answers-3 : tie.Need-mul-answers-3
+mul-answers-3 c = search needs
+
+slice-write-answers-3 : tie.Need-slice-write-answers-3
+slice-write-answers-3 c = simp length-set (omega arith)
+
+add-answers-3 : tie.Need-add-answers-3
+add-answers-3 c = search needs
+
+mul-answers-4 : tie.Need-mul-answers-4
+mul-answers-4 c = search needs
+
+slice-write-answers-4 : tie.Need-slice-write-answers-4
+slice-write-answers-4 c = simp length-set (omega arith)
+
+same-length : tie.Need-same-length
+same-length c = simp length-set
+
+returns : tie.Need-returns
+returns c =
+    let a = c .args in
+    let f = a .figures in
+    let one : a .at + 1 ≡ suc (a .at) = omega arith in
+    let two : a .at + 2 ≡ suc (suc (a .at)) = omega arith in
+    let three : a .at + 3 ≡ suc (suc (suc (a .at))) = omega arith in
+    λ x. set (set (set (set (a .answers .now) (a .at) (a .code)) (one x) (f .first)) (two x) (f .second)) (three x) (f .third)
+
+pub put-four-spec : {M : Type 1} → statement M
+put-four-spec =
+    tie.close
+    (tie.spec
+    mul-answers
+    slice-write-answers
+    add-answers
+    mul-answers-2
+    slice-write-answers-2
+    add-answers-2
+    mul-answers-3
+    slice-write-answers-3
+    add-answers-3
+    mul-answers-4
+    slice-write-answers-4
+    same-length
+    returns)

@@ -1,0 +1,10 @@
+pub mod Steps
+pub mod Calls
+pub mod Trail
+pub mod Guarantee
+pub mod Preserved
+pub mod UndoLaws
+pub mod RunLaws
+pub mod TraceLaws
+pub mod GuaranteeLaws
+pub mod NumberLaws

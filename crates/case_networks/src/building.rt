@@ -1,0 +1,75 @@
+// A network put together from an empty one, step by step: gates in rising order, the feeds after their gate, the outputs last. Places go
+// round: a step for which there is no place writes to another one.
+use basics::wide;
+use case_script::Numbers;
+use network::Board;
+use network::Network;
+
+// The empty network, of version 1.
+pub fn empty() -> Network {
+    let board = Board {
+        version: 1,
+        on: 0,
+        off: 1,
+    };
+    let mut result = network::blank();
+    result.board = board;
+    result
+}
+
+// A version, an on margin and an off margin.
+pub fn with_board(network: Network, n: Numbers) -> Network {
+    let board = Board {
+        version: (n.first % 256) as u8,
+        on: (n.second % 256) as u8,
+        off: (n.third % 256) as u8,
+    };
+    let mut result = network;
+    result.board = board;
+    result
+}
+
+// The network with so many inputs.
+pub fn with_inputs(network: Network, inputs: usize) -> Network {
+    let mut result = network;
+    result.inputs = inputs;
+    result
+}
+
+// One more gate, still without feeds.
+pub fn gate(network: Network, threshold: i32) -> Network {
+    let g = network.gates % 128;
+    let mut result = network;
+    result.gates = g + 1;
+    result.thresholds[g] = threshold;
+    result
+}
+
+// One more feed of the last gate.
+pub fn feed(network: Network, signal: usize, weight: i32) -> Network {
+    let g = std::num::wrapping_sub_usize(network.gates, 1) % 128;
+    let i = wide(network.fanins[g]) % 16;
+    let p = 16 * g + i;
+    let mut result = network;
+    result.fanins[g] = (i + 1) as u8;
+    result.signals[p] = (signal % 256) as u8;
+    result.weights[p] = weight;
+    result
+}
+
+// One more output.
+pub fn output(network: Network, signal: usize) -> Network {
+    let j = network.outputs % 16;
+    let mut result = network;
+    result.outputs = j + 1;
+    result.drivers[j] = (signal % 256) as u8;
+    result
+}
+
+// A place of the feeds, and the signal that is put there, whether or not it is the place of a feed.
+pub fn with_signal(network: Network, n: Numbers) -> Network {
+    let p = n.first % 2048;
+    let mut result = network;
+    result.signals[p] = (n.second % 256) as u8;
+    result
+}

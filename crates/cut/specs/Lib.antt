@@ -1,4 +1,0 @@
-pub mod Answers
-pub mod Copying
-pub mod AnswerLaws
-pub mod FileLaws

@@ -1,0 +1,24 @@
+-- What the cut of a record, and that of a file, answer. Document 02, No. 12. Nothing is proved here.
+use Rattle.basics.specs.Library.{List, [], _∷_, ℕ}
+use Rattle.basics.specs.Refusals.{Answer, accepted, refused, _else_, checks, bind}
+use Rattle.network.specs.Threshold.{Net}
+use Rattle.network.specs.Record.{netOf, layout}
+use Rattle.pmn_opening.specs.Files.{openNet}
+use Rattle.pmn_files.specs.Files.{fileIn}
+use Rattle.journal.specs.Records.{soundWhole, justRead}
+use Rattle.journal.specs.declared.Record.{Record}
+use Rattle.cut_theory.specs.Cut as cuts
+use Rattle.cut_output.specs.declared.CutAnswer.{CutAnswer}
+
+-- "the journal is empty"; a refusal hands the record back
+unfoldable pub asCutAnswer : Record → Answer Net → CutAnswer
+asCutAnswer r (accepted M) = record { code = 0; after = justRead (layout M) }
+asCutAnswer r (refused k) = record { code = k; after = r }
+
+-- 20 for the network or the journal, then 8
+unfoldable pub cutRecord : Record → ℕ → CutAnswer
+cutRecord r output = asCutAnswer r (checks ((soundWhole r else 20) ∷ []) (cuts.cut (netOf (r .network)) output))
+
+-- the function for C, with a place for the length: as read, 18 where there is none, 8, 18
+unfoldable pub cutPlaces : List ℕ → ℕ → ℕ → ℕ → Answer (List ℕ)
+cutPlaces file output room places = bind (openNet file places 1) (λ N. bind (cuts.cut N output) (fileIn room))

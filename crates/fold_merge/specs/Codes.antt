@@ -1,0 +1,69 @@
+-- Internal: the tests of a merge and of a pair after that of the record, and the number of the first that fails. Nothing is proved here.
+use mathlib.Core.Bool.{cond, _&&_}
+use mathlib.Core.List.{List, [], _∷_, _++_}
+use Prim.Native.Nat.{ℕ, _-_}
+use lib.Dec.{leb}
+use lib.IntN.{ℤ}
+use Rattle.basics.specs.Refusals.{Answer, Test, _else_, checks, accepted, refused}
+use Rattle.network.specs.Threshold.{Net}
+use Rattle.network.specs.Limits.{scaleOk, keeps, gateSignal, isGate}
+use Rattle.network.specs.Changes.{gateAt, withGate}
+use Rattle.network.specs.Record.{gateFrom, netOf, noGate, gateIn, gateRecord}
+use Rattle.fold_theory.specs.Merge.{Edge, reads, merge, merged, agrees, mergeKeeps, onDial, narrow}
+use Rattle.fold_theory.specs.Pair.{Pair, pairs, first}
+use Rattle.fold_theory.specs.Aligned.{Aligned, agreesAll, scaleFits, qualifiesOn}
+use Rattle.pair_alignment.specs.Alignments.{alignedIn, mergedOf}
+use Rattle.pair_alignment.specs.declared.Alignment.{Alignment}
+use mathlib.Core.Path.{_≡_}
+use mathlib.Core.Logic.{_≢_}
+use Rattle.network.specs.Places.{SoundGate}
+use Rattle.network.specs.declared.Network.{Network}
+use Rattle.fold_merge.specs.declared.MergedGate.{MergedGate}
+
+-- m has the gate with which u is merged into v, or the merge's refusal
+pub record TriedMerge (r : Network) (u v k l : ℕ) (m : MergedGate) : Type 0 where
+  pub refuses : m .code ≢ 0 → merge (netOf r) u v k l ≡ refused (m .code)
+  pub spare : m .code ≢ 0 → m .gate ≡ gateRecord noGate
+  pub accepts : m .code ≡ 0 → merge (netOf r) u v k l ≡ accepted (withGate (netOf r) v (gateIn (m .gate)))
+  pub own : m .code ≡ 0 → SoundGate r v
+  pub packed : m .code ≡ 0 → m .gate ≡ gateRecord (gateIn (m .gate))
+
+-- the number of the first test that fails, 0 if none does
+unfoldable pub firstFailing : List Test → ℕ
+firstFailing [] = 0
+firstFailing ((b else c) ∷ ts) = cond b (firstFailing ts) c
+
+-- 11 and 12: u and v are gates, and u feeds v
+unfoldable pub edgeTests : Net → ℕ → ℕ → List Test
+edgeTests N u v = (isGate N u && isGate N v else 11) ∷ (reads u (gateAt N v) else 12) ∷ []
+
+-- the same in lent arrays
+unfoldable pub edgeTestsIn : List ℕ → List ℤ → List ℕ → List ℤ → ℕ → ℕ → ℕ → ℕ → List Test
+edgeTestsIn fanins thresholds signals weights inputs gates u v =
+    (gateSignal inputs gates u && gateSignal inputs gates v else 11)
+    ∷ (reads u (gateFrom fanins thresholds signals weights (v - inputs)) else 12) ∷ []
+
+-- 14, 7, 6, 24 and 15: what is tested of the two gates and of k and l
+unfoldable pub mergeTests : Edge → ℕ → ℕ → List Test
+mergeTests e k l =
+    (onDial k && onDial l else 14) ∷ (narrow e else 7) ∷ (scaleOk (merged e k l) else 6) ∷ (mergeKeeps e k l else 24) ∷ (agrees e k l else 15) ∷ []
+
+-- ---- of two gates by their distinct feeds
+
+-- 14, 7, 6 and 24: what is tested before the settings
+unfoldable pub limitTestsOn : Alignment → ℕ → ℕ → List Test
+limitTestsOn a k l =
+    (onDial k && onDial l else 14) ∷ (leb (a .count) 16 else 7) ∷ (scaleFits (alignedIn a) k l else 6)
+    ∷ (keeps (a .thresholds .board) (mergedOf a k l) else 24) ∷ []
+
+-- 15: on every setting
+unfoldable pub settingTests : Aligned → ℕ → ℕ → List Test
+settingTests a k l = (agreesAll a k l else 15) ∷ []
+
+-- 14, 7, 6, 24 and 15
+unfoldable pub mergeTestsOn : Alignment → ℕ → ℕ → List Test
+mergeTestsOn a k l = limitTestsOn a k l ++ settingTests (alignedIn a) k l
+
+-- 7 and 16
+unfoldable pub pairOfAlignment : Alignment → Answer Pair
+pairOfAlignment a = checks ((leb (a .count) 16 else 7) ∷ []) (first (qualifiesOn (alignedIn a)) pairs 16)

@@ -1,0 +1,12 @@
+pub mod Answers
+pub mod Files
+pub mod AnswerLaws
+pub mod Arrays
+pub mod Readers
+pub mod ArrayLaws
+pub mod Codes
+pub mod CodeLaws
+pub mod EdgeLaws
+pub mod AlignedLaws
+pub mod CallLaws
+pub mod FileLaws

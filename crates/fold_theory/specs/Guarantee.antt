@@ -1,0 +1,70 @@
+-- What is claimed of merges, pairs, collapses and sweeps. Nothing is proved here.
+use Rattle.basics.specs.Library.{_≡_, _≢_, _⊎_, ℕ, _+_, _^_, _≤_, _<_, T, length}
+use Rattle.basics.specs.Lists.{Each}
+use Rattle.basics.specs.Refusals.{accepted, refused, Passed}
+use Rattle.network.specs.Threshold.{Net, Assignment, bit}
+use Rattle.network.specs.Changes.{gateAt, withGate}
+use Rattle.network.specs.Limits.{isGate, Keeps}
+use Rattle.fold_theory.specs.Merge.{Edge, edge, reads, distinct, merged, composed, setting, limits, merge}
+use Rattle.fold_theory.specs.Pair.{Pair, pair}
+use Rattle.fold_theory.specs.Sweep.{readers}
+
+-- ---- merges
+
+-- merged gate and composed pair have the same bit on every setting of the distinct feeds
+abbrev pub Alike : Edge → ℕ → ℕ → Type 0
+Alike e k l = (s : ℕ) → s < 2 ^ length (distinct e) → bit (setting (distinct e) s) (merged e k l) ≡ composed (setting (distinct e) s) e
+
+-- the same without numbers of settings: under every assignment
+abbrev pub AlikeUnderAll : Edge → ℕ → ℕ → Type 0
+AlikeUnderAll e k l = (ρ : Assignment) → bit ρ (merged e k l) ≡ composed ρ e
+
+-- the merged gate keeps the margins, under every assignment
+abbrev pub MarginsKept : Edge → ℕ → ℕ → Type 0
+MarginsKept e k l = Keeps (e .board) (merged e k l)
+
+-- ---- pairs
+
+-- p is q, or comes before it: "the least k + l, then the least k"
+abbrev pub NotAfter : Pair → Pair → Type 0
+NotAfter p q = (p .k + p .l < q .k + q .l) ⊎ ((p .k + p .l ≡ q .k + q .l) × (p .k ≤ q .k))
+
+-- "qualify: their merge is within the limits and agrees"; "a pair that breaks them [the margins] doesn't qualify"
+abbrev pub Qualifying : Net → ℕ → ℕ → Pair → Type 0
+Qualifying N u v p = Passed (limits N u v (p .k) (p .l)) × Alike (edge N u v) (p .k) (p .l) × MarginsKept (edge N u v) (p .k) (p .l)
+
+-- some pair qualifies
+abbrev pub HasPair : Net → ℕ → ℕ → Type 0
+HasPair N u v = (p : Pair) × Qualifying N u v p
+
+-- p qualifies, and no pair that comes before it does
+pub record LeastPair (N : Net) (u v : ℕ) (p : Pair) : Type 0 where
+  pub qualified : Qualifying N u v p
+  pub least : (q : Pair) → Qualifying N u v q → NotAfter p q
+
+-- "the k and l with the least k + l, then the least k, that qualify", whose merge is accepted; "16 only if none of the 1,024 qualifies",
+-- only those with k and l from 1 to 32 being within the limits; and where one qualifies, a pair is given
+pub record PairClaim (N : Net) (u v : ℕ) : Type 0 where
+  pub least : (p : Pair) → pair N u v ≡ accepted p → LeastPair N u v p
+  pub merges : (p : Pair) → pair N u v ≡ accepted p → merge N u v (p .k) (p .l) ≡ accepted (withGate N v (merged (edge N u v) (p .k) (p .l)))
+  pub none : pair N u v ≡ refused 16 → HasPair N u v → ⊥
+  pub given : HasPair N u v → (p : Pair) × (pair N u v ≡ accepted p)
+
+-- ---- collapses and sweeps
+
+-- u is a gate's signal and no output, and every gate that reads it has a pair
+pub record Collapsible (N : Net) (u : ℕ) : Type 0 where
+  pub is-gate : T (isGate N u)
+  pub no-output : Each (λ s. s ≢ u) (N .outputs)
+  pub all-pairs : (v : ℕ) → T (isGate N v) → T (reads u (gateAt N v)) → HasPair N u v
+
+-- no gate within reader limit B, outputs aside, has a pair for every gate that reads it
+abbrev pub Settled : Net → ℕ → Type 0
+Settled N B = (u : ℕ) → Collapsible N u → readers N u ≤ B → ⊥
+
+-- what an accepted sweep leaves: nothing more to collapse, and a count equal to gates before minus gates after
+pub record SweepDone (N : Net) (B : ℕ) (M : Net) (collapses : ℕ) : Type 0 where
+  pub settled : Settled M B
+  pub counted : collapses + length (M .gates) ≡ length (N .gates)
+
+-- ---- what stays

@@ -1,0 +1,16 @@
+-- A shift is a division by a power of two. Assumes nothing.
+use mathlib.Core.Path.{refl}
+use borrow.Author.Needs.{needs}
+use Rattle.network.specs.Threshold.{fitsFrame}
+use Rattle.frame_reading.proofs.unchecked.fits_frame.Statement.{statement}
+use Rattle.frame_reading.proofs.unchecked.fits_frame.Tie as tie
+
+shr-result : tie.Need-shr-result
+shr-result c = search needs
+
+returns : tie.Need-returns
+unfolding fitsFrame
+returns c = refl
+
+pub fits-frame-spec : {M : Type 1} → statement M
+fits-frame-spec = tie.close (tie.spec shr-result returns)

@@ -1,0 +1,30 @@
+-- 20 for the journal, else the answer on the network. Assumes nothing.
+use borrow.Author.Needs.{needs}
+use mathlib.Core.Path.{sym, ap, _∙_}
+use Rattle.fold_merge.specs.Answers.{onRecord}
+use Rattle.fold_witness.specs.Feeds.{feeds, asFeeds, distinctFeeds}
+use Rattle.front.specs.Front.{feedsOn}
+use Rattle.front.specs.FrontLaws.{tested-many, tested-few}
+use Rattle.front.proofs.distinct_feeds.Statement.{statement}
+use Rattle.front.proofs.distinct_feeds.Tie as tie
+
+no-feeds-requires : tie.Need-no-feeds-requires
+no-feeds-requires c κs = search needs
+
+returns : tie.Need-returns
+unfolding feedsOn
+returns c =
+    let a = c .before .before .args in
+    c .no-feeds .ensures ∙ sym (ap asFeeds (tested-many (a .held) (onRecord (a .held .network) (λ N. feeds N (a .u) (a .v))) (c .before .if1 .taken)))
+
+distinct-feeds-requires : tie.Need-distinct-feeds-requires
+distinct-feeds-requires c κs = search needs
+
+returns-2 : tie.Need-returns-2
+unfolding feedsOn distinctFeeds
+returns-2 c =
+    let a = c .before .before .args in
+    c .distinct-feeds .ensures ∙ sym (ap asFeeds (tested-few (a .held) (onRecord (a .held .network) (λ N. feeds N (a .u) (a .v))) (c .before .if1 .left)))
+
+pub distinct-feeds-spec : {M : Type 1} → statement M
+distinct-feeds-spec = tie.close (tie.spec no-feeds-requires returns distinct-feeds-requires returns-2)

@@ -1,9 +1,0 @@
-pub mod Steps
-pub mod Calls
-pub mod Trail
-pub mod Guarantee
-pub mod UndoLaws
-pub mod RunLaws
-pub mod TraceLaws
-pub mod GuaranteeLaws
-pub mod NumberLaws

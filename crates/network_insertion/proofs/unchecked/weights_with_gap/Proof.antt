@@ -1,0 +1,24 @@
+-- The new places hold 0, and the others move. Assumes nothing.
+use borrow.Author.Needs.{needs}
+use mathlib.Core.Path.{ap, _∙_}
+use Prim.Native.Nat.{ℕ}
+use lib.IntN.{pos}
+use denote.Ref.{now}
+use Rattle.network_insertion.specs.Gaps.{withPlaces}
+use Rattle.network_insertion.proofs.unchecked.weights_with_gap.Statement.{statement}
+use Rattle.network_insertion.proofs.unchecked.weights_with_gap.Tie as tie
+
+slice-aggregate-integers-with-gap : tie.Need-slice-aggregate-integers-with-gap
+slice-aggregate-integers-with-gap c = search needs
+
+integers-with-gap-requires : tie.Need-integers-with-gap-requires
+integers-with-gap-requires c κs = search needs
+
+returns : tie.Need-returns
+returns c =
+    let start = c .before .before .before .before in
+    let a = start .args in
+    c .before .integers-with-gap .ensures ∙ ap (λ (k : ℕ). withPlaces (pos 0) k (a .first) 16 (now (a .weights))) (start .pre .1)
+
+pub weights-with-gap-spec : {M : Type 1} → statement M
+weights-with-gap-spec = tie.close (tie.spec slice-aggregate-integers-with-gap integers-with-gap-requires returns)

@@ -1,0 +1,116 @@
+-- The rows hold the places passed so far, so at the end they are the gate's 16 places. Assumes nothing.
+use borrow.Author.Needs.{needs}
+use mathlib.Core.Path.{_≡_, refl}
+use Prim.Native.Nat.{_+_, _*_, _-_, _≤_}
+use native.Mathlib.Omega.{arith}
+use lib.IntN.{pos}
+use lib.ListN.{getD}
+use denote.Ref.{now}
+use mir.Syntax.{w32}
+use Rattle.basics.specs.SizeLaws.{read-back}
+use Rattle.network.specs.Places.{Pasted}
+use Rattle.network.specs.Record.{rowAt}
+use Rattle.network_places.specs.PasteLaws.{pasted-none, pasted-more, pasted-tab}
+use Rattle.network_places.proofs.unchecked.gate_at.Statement.{statement}
+use Rattle.network_places.proofs.unchecked.gate_at.Tie as tie
+
+abbrev Inv-loop : tie.InvT-loop
+Inv-loop fanins thresholds signals weights g fanin threshold row-signals₀ row-weights₀ base i₀ row-signals row-weights i =
+    (i ≤ 16)
+    × Pasted 0 0 i (λ k. getD signals (base + k) 0) row-signals₀ row-signals
+    × Pasted (pos 0) 0 i (λ k. getD weights (base + k) (pos 0)) row-weights₀ row-weights
+
+abbrev μ-loop : tie.MeasureT-loop
+μ-loop fanins thresholds signals weights g fanin threshold row-signals₀ row-weights₀ base i₀ row-signals row-weights i =
+    16 - i
+
+element-copy-out-fanin : tie.Need-element-copy-out-fanin Inv-loop μ-loop
+element-copy-out-fanin c = search needs
+
+mul-threshold : tie.Need-mul-threshold Inv-loop μ-loop
+mul-threshold c = search needs
+
+element-copy-out-threshold : tie.Need-element-copy-out-threshold Inv-loop μ-loop
+element-copy-out-threshold c = search needs
+
+mul-base : tie.Need-mul-base Inv-loop μ-loop
+mul-base c = search needs
+
+loop-holds : tie.Need-loop-holds Inv-loop μ-loop
+loop-holds c = (omega arith, pasted-none _ _ _ _, pasted-none _ _ _ _)
+
+add-signal : tie.Need-add-signal Inv-loop μ-loop
+add-signal c = search needs
+
+element-copy-out-signal : tie.Need-element-copy-out-signal Inv-loop μ-loop
+element-copy-out-signal c = search needs
+
+add-weight : tie.Need-add-weight Inv-loop μ-loop
+add-weight c = search needs
+
+mul-weight : tie.Need-mul-weight Inv-loop μ-loop
+mul-weight c = search needs
+
+element-copy-out-weight : tie.Need-element-copy-out-weight Inv-loop μ-loop
+element-copy-out-weight c = search needs
+
+array-write-row-signals : tie.Need-array-write-row-signals Inv-loop μ-loop
+array-write-row-signals c = search needs
+
+mul-row-weights : tie.Need-mul-row-weights Inv-loop μ-loop
+mul-row-weights c = search needs
+
+array-set-from-row-weights : tie.Need-array-set-from-row-weights Inv-loop μ-loop
+array-set-from-row-weights c = search needs
+
+add-i : tie.Need-add-i Inv-loop μ-loop
+add-i c = search needs
+
+loop-less : tie.Need-loop-less Inv-loop μ-loop
+loop-less c = search needs
+
+loop-again : tie.Need-loop-again Inv-loop μ-loop
+loop-again c =
+    let a = c .before .before .before .before .before .before .args in
+    let loop = c .before .before .before .loop in (
+      omega arith,
+      pasted-more _ _ (loop .inv .1) (omega arith) refl,
+      pasted-more _ _ (loop .inv .2) (omega arith) (read-back w32 {r = getD (now (a .weights)) (16 * a .g + loop .i) (pos 0)} (c .weight .given) refl),
+    )
+
+returns : tie.Need-returns Inv-loop μ-loop
+unfolding rowAt
+returns c =
+    let a = c .before .before .before .before .args in
+    let inv = c .before .loop .inv in
+    let full : c .before .loop .i ≡ 16 = omega arith in
+    λ x. record {
+      fanin = getD (now (a .fanins)) (a .g) 0;
+      threshold = read-back w32 {r = getD (now (a .thresholds)) (a .g) (pos 0)} (c .before .before .threshold .given) refl x;
+      signals = pasted-tab (rw full at (inv .1)) refl x;
+      weights = pasted-tab (rw full at (inv .2)) refl x;
+    }
+
+pub gate-at-spec : {M : Type 1} → statement M
+gate-at-spec =
+    tie.close
+    (tie.spec
+    Inv-loop
+    μ-loop
+    element-copy-out-fanin
+    mul-threshold
+    element-copy-out-threshold
+    mul-base
+    loop-holds
+    add-signal
+    element-copy-out-signal
+    add-weight
+    mul-weight
+    element-copy-out-weight
+    array-write-row-signals
+    mul-row-weights
+    array-set-from-row-weights
+    add-i
+    loop-less
+    loop-again
+    returns)

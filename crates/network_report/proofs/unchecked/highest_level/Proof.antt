@@ -1,0 +1,68 @@
+-- `report::unchecked::highest_level` meets its contract: the higher of the level so far and of the highest among the feeds that are left is
+-- the highest among all. Assumes nothing.
+use mathlib.Core.Path.{ap, _∙_}
+use Prim.Native.Nat.{ℕ, _-_, max}
+use native.Mathlib.Omega.{arith}
+use lib.ListN.{getD}
+use borrow.Author.Needs.{needs}
+use Rattle.network_report.specs.Arrays.{levelsIn}
+use Rattle.network_report.proofs.LevelLaws.{FeedsSeen, feeds-none, feeds-next, feeds-all}
+use Rattle.network_report.proofs.unchecked.highest_level.Statement.{statement}
+use Rattle.network_report.proofs.unchecked.highest_level.Tie as tie
+
+abbrev Inv-loop : tie.InvT-loop
+Inv-loop signals levels base count most₀ i₀ most i = FeedsSeen (levelsIn levels) signals base count i most
+
+abbrev μ-loop : tie.MeasureT-loop
+μ-loop signals levels base count most₀ i₀ most i = count - i
+
+loop-holds : tie.Need-loop-holds Inv-loop μ-loop
+loop-holds c = feeds-none _ _ _ _
+
+add-place : tie.Need-add-place Inv-loop μ-loop
+add-place c = search needs
+
+element-copy-out-wide : tie.Need-element-copy-out-wide Inv-loop μ-loop
+element-copy-out-wide c = search needs
+
+wide-requires : tie.Need-wide-requires Inv-loop μ-loop
+wide-requires c κs = search needs
+
+element-copy-out-higher : tie.Need-element-copy-out-higher Inv-loop μ-loop
+element-copy-out-higher c = search needs
+
+higher-requires : tie.Need-higher-requires Inv-loop μ-loop
+higher-requires c κs = search needs
+
+add-i : tie.Need-add-i Inv-loop μ-loop
+add-i c = search needs
+
+loop-less : tie.Need-loop-less Inv-loop μ-loop
+loop-less c = search needs
+
+loop-again : tie.Need-loop-again Inv-loop μ-loop
+loop-again c =
+    let at = c .before .before .before .before .before in
+    let levels = at .before .args .levels .now in
+    feeds-next (at .loop .inv) _ (c .higher .ensures ∙ ap (λ (s : ℕ). max (at .loop .most) (getD levels s 0)) (c .before .before .wide .ensures .0))
+    (omega arith)
+
+returns : tie.Need-returns Inv-loop μ-loop
+returns c = feeds-all (c .before .loop .inv) (omega arith)
+
+pub highest-level-spec : {M : Type 1} → statement M
+highest-level-spec =
+    tie.close
+    (tie.spec
+    Inv-loop
+    μ-loop
+    loop-holds
+    add-place
+    element-copy-out-wide
+    wide-requires
+    element-copy-out-higher
+    higher-requires
+    add-i
+    loop-less
+    loop-again
+    returns)

@@ -1,0 +1,16 @@
+-- A byte is a positive number of 32 bits. Assumes nothing.
+use native.Mathlib.Omega.{arith}
+use mir.Syntax.{w32}
+use mir.Facts.{toZ-pos}
+use borrow.Author.Needs.{needs}
+use Rattle.pair_agreement.proofs.unchecked.margin.Statement.{statement}
+use Rattle.pair_agreement.proofs.unchecked.margin.Tie as tie
+
+cast-result : tie.Need-cast-result
+cast-result c = search needs
+
+returns : tie.Need-returns
+returns c = (toZ-pos w32 (omega (arith, c .fits .x .fits)), omega (arith, c .fits .x .fits))
+
+pub margin-spec : {M : Type 1} → statement M
+margin-spec = tie.close (tie.spec cast-result returns)

@@ -1,0 +1,27 @@
+-- The board is the other one, and nothing else changes.
+use borrow.Author.Needs.{needs}
+use Rattle.pmn_converter.specs.Versions.{otherRecord}
+use Rattle.pmn_converter.proofs.unchecked.in_other_version.Statement.{statement}
+use Rattle.pmn_converter.proofs.unchecked.in_other_version.Tie as tie
+
+other-version-requires : tie.Need-other-version-requires
+other-version-requires c κs = search needs
+
+returns : tie.Need-returns
+unfolding otherRecord
+returns c =
+    let r = c .before .before .args .network in
+    λ i. record {
+      board = c .other-version .ensures i;
+      inputs = r .inputs;
+      gates = r .gates;
+      outputs = r .outputs;
+      fanins = r .fanins;
+      signals = r .signals;
+      weights = r .weights;
+      thresholds = r .thresholds;
+      drivers = r .drivers;
+    }
+
+pub in-other-version-spec : {M : Type 1} → statement M
+in-other-version-spec = tie.close (tie.spec other-version-requires returns)

@@ -1,0 +1,6 @@
+pub mod Conversion
+pub mod Versions
+pub mod Claims
+pub mod ConversionLaws
+pub mod FileLaws
+pub mod ClaimLaws

@@ -1,0 +1,49 @@
+-- The refusal, then the size of the file's network.
+use borrow.Author.Needs.{needs}
+use mathlib.Core.List.{[], _∷_}
+use Rattle.basics.specs.RefusalLaws.{refused-one}
+use Rattle.pmn_opening.specs.AnswerLaws.{placed}
+use Rattle.pmn_opening.specs.OpeningLaws.{file-sound, open-refused}
+use Rattle.pmn_files.specs.Files.{reportPlaces}
+use Rattle.pmn_files.specs.FileLaws.{report-answer}
+use Rattle.pmn_files.proofs.report_of_file.Statement.{statement}
+use Rattle.pmn_files.proofs.report_of_file.Tie as tie
+
+read-requires : tie.Need-read-requires
+read-requires c κs = search needs
+
+refusal-requires : tie.Need-refusal-requires
+refusal-requires c κs = (λ i. c .before .before .shared-slice-known .given i .fits, c .read .ensures)
+
+returns : tie.Need-returns
+unfolding reportPlaces
+returns c = refused-one (c .before .before .before .before .before .args .answer .now) (open-refused (c .before .refusal .ensures) _ (c .if1 .taken))
+
+size-of-requires : tie.Need-size-of-requires
+size-of-requires c κs = file-sound (c .before .refusal .ensures .gives (c .if1 .left))
+
+put-three-requires : tie.Need-put-three-requires
+put-three-requires c κs = let s = c .before .before in s .before .refusal .ensures .gives (s .if1 .left) .room
+
+same-length : tie.Need-same-length
+same-length c = search needs
+
+returns-2 : tie.Need-returns-2
+returns-2 c =
+    let g = c .before .before .before .before .size-of in
+    let s = c .before .before .before .before .before in
+    let a = s .before .before .before .before .before .args in
+    placed (g .result .code) (g .result .gates ∷ g .result .cost ∷ g .result .levels ∷ []) (a .answer .now)
+    (report-answer (a .answer .now) (s .before .refusal .ensures .gives (s .if1 .left)) (g .ensures)) (c .before .before .put-three .ensures)
+
+pub report-of-file-spec : {M : Type 1} → statement M
+report-of-file-spec =
+    tie.close
+    (tie.spec
+    read-requires
+    refusal-requires
+    returns
+    size-of-requires
+    put-three-requires
+    same-length
+    returns-2)

@@ -1,0 +1,4 @@
+pub mod OutputsLoop
+pub mod GatesLoop
+pub mod Body
+pub mod PartFiles

@@ -1,4 +1,0 @@
-pub mod EnterLaws
-pub mod ReaderLaws
-pub mod TurnLaws
-pub mod CallLaws

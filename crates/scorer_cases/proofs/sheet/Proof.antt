@@ -1,0 +1,25 @@
+-- A prefix is as long as its end says. Assumes nothing.
+use mathlib.Core.Path.{sym}
+use native.Mathlib.Omega.{arith}
+use lib.Seq.{length-take-le}
+use borrow.Author.Needs.{needs}
+use Rattle.scorer_cases.proofs.sheet.Statement.{statement}
+use Rattle.scorer_cases.proofs.sheet.Tie as tie
+
+slice-aggregate-score : tie.Need-slice-aggregate-score
+slice-aggregate-score c = let a = c .before .before .before .args in sym (length-take-le (a .balls) (a .frames .now) (omega arith))
+
+score-requires : tie.Need-score-requires
+score-requires c κs = search needs
+
+sheet-requires : tie.Need-sheet-requires
+sheet-requires c κs = search needs
+
+returns : tie.Need-returns
+returns c = search needs
+
+returns-2 : tie.Need-returns-2
+returns-2 c = search needs
+
+pub sheet-spec : {M : Type 1} → statement M
+sheet-spec = tie.close (tie.spec slice-aggregate-score score-requires sheet-requires returns returns-2)

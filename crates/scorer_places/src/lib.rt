@@ -1,0 +1,2 @@
+// A sheet in lent places. Its calls ask for what `unchecked` says.
+pub mod unchecked;

@@ -1,0 +1,3 @@
+pub mod Sheets
+pub mod Tally
+pub mod TallyLaws

@@ -1,0 +1,1 @@
+// The ten-pin rules, scores and known games: definitions and laws, in specs/. No code.
