@@ -11,12 +11,6 @@ use Rattle.alley_theory.specs.AnswerLaws.{refused-gives, idle-gives, unsound, s
 use Rattle.alley_sheet.proofs.list_lane.Statement.{statement}
 use Rattle.alley_sheet.proofs.list_lane.Tie as tie
 
-is-sound-requires : tie.Need-is-sound-requires
-is-sound-requires c κs = search needs
-
-none-listed-requires : tie.Need-none-listed-requires
-none-listed-requires c κs = search needs
-
 returns : tie.Need-returns
 returns c =
     let asked = c .before .before in
@@ -30,9 +24,6 @@ returns c =
 sound : (c : tie.Else1) → soundTotals (c .before .before .before .before .args .totals) ≡ true
 sound c = sym (c .before .is-sound .ensures) ∙ not-false _ (c .if1 .left)
 
-none-listed-requires-2 : tie.Need-none-listed-requires-2
-none-listed-requires-2 c κs = search needs
-
 returns-2 : tie.Need-returns-2
 returns-2 c =
     let at-else = c .before .before .before in
@@ -40,12 +31,6 @@ returns-2 c =
     let gives =
     idle-gives (a .totals) (a .out .now) (shut (a .totals) (a .last) (a .bytes .now) (length (a .out .now)) (sound at-else) (c .before .if2 .taken)) in
     (c .none-listed2 .ensures ∙ gives .0, gives .1)
-
-find-lane-requires : tie.Need-find-lane-requires
-find-lane-requires c κs = search needs
-
-none-listed-requires-3 : tie.Need-none-listed-requires-3
-none-listed-requires-3 c κs = search needs
 
 returns-3 : tie.Need-returns-3
 returns-3 c =
@@ -65,9 +50,6 @@ write-lane-requires c κs =
     let read = c .before in
     let found = read .before .before in
     (record { sound = sound (found .before .before .before); room = found .before .if2 .left }, read .lane-entry .ensures .listable)
-
-same-length : tie.Need-same-length
-same-length c = search needs
 
 returns-4 : tie.Need-returns-4
 returns-4 c =
@@ -90,15 +72,15 @@ pub list-lane-spec : {M : Type 1} → statement M
 list-lane-spec =
     tie.close
     (tie.spec
-    is-sound-requires
-    none-listed-requires
+    (λ c κs. search needs)
+    (λ c κs. search needs)
     returns
-    none-listed-requires-2
+    (λ c κs. search needs)
     returns-2
-    find-lane-requires
-    none-listed-requires-3
+    (λ c κs. search needs)
+    (λ c κs. search needs)
     returns-3
     lane-entry-requires
     write-lane-requires
-    same-length
+    (λ c. search needs)
     returns-4)

@@ -23,12 +23,6 @@ text-is c = let p = c .put-total .ensures .0 in ap (take (c .put-total .result))
 within : (c : tie.After-put-total) → c .put-total .result ≤ length (c .put-total .last .0)
 within c = omega (arith, put-length (c .put-total .ensures .0) (c .put-total .ensures .1), c .put-total .ensures .1)
 
-slice-aggregate-put-total : tie.Need-slice-aggregate-put-total
-slice-aggregate-put-total c = search needs
-
-put-total-requires : tie.Need-put-total-requires
-put-total-requires c κs = search needs
-
 returns : tie.Need-returns
 unfolding asSheetLine
 returns c =
@@ -46,9 +40,6 @@ put-bytes-requires : tie.Need-put-bytes-requires
 put-bytes-requires c κs =
     let done = c .before .before .before .before in
     omega (arith, ap length (text-is done), done .put-total .ensures .0 .long, c .before .before .if1 .left)
-
-same-length : tie.Need-same-length
-same-length c = search needs
 
 returns-2 : tie.Need-returns-2
 unfolding asSheetLine
@@ -69,11 +60,11 @@ pub total-line-spec : {M : Type 1} → statement M
 total-line-spec =
     tie.close
     (tie.spec
-    slice-aggregate-put-total
-    put-total-requires
+    (λ c. search needs)
+    (λ c κs. search needs)
     returns
     array-share-prefix-text
     slice-aggregate-put-bytes
     put-bytes-requires
-    same-length
+    (λ c. search needs)
     returns-2)

@@ -31,29 +31,8 @@ few c =
     let l = c .before .before .before .loop in
     omega (arith, c .read-some .ensures, c .read-some .kept .0, tail-length (l .end) (l .input), l .inv .0, l .inv .1)
 
-least-requires : tie.Need-least-requires Inv-loop μ-loop
-least-requires c κs = search needs
-
-loop-holds : tie.Need-loop-holds Inv-loop μ-loop
-loop-holds c = search needs
-
-sub-read-some : tie.Need-sub-read-some Inv-loop μ-loop
-sub-read-some c = search needs
-
-part-read-some-start : tie.Need-part-read-some-start Inv-loop μ-loop
-part-read-some-start c = search needs
-
-part-read-some-end : tie.Need-part-read-some-end Inv-loop μ-loop
-part-read-some-end c = search needs
-
-read-some-requires : tie.Need-read-some-requires Inv-loop μ-loop
-read-some-requires c κs = search needs
-
 same-length : tie.Need-same-length Inv-loop μ-loop
 same-length c = kept (c .before .before .before)
-
-returns : tie.Need-returns Inv-loop μ-loop
-returns c = search needs
 
 add-end : tie.Need-add-end Inv-loop μ-loop
 add-end c =
@@ -76,25 +55,22 @@ loop-again c = let done = c .before .before .before in (omega (arith, few done, 
 same-length-2 : tie.Need-same-length-2 Inv-loop μ-loop
 same-length-2 c = c .before .loop .inv .1
 
-returns-2 : tie.Need-returns-2 Inv-loop μ-loop
-returns-2 c = search needs
-
 pub fill-spec : {M : Type 1} → statement M
 fill-spec =
     tie.close
     (tie.spec
     Inv-loop
     μ-loop
-    least-requires
-    loop-holds
-    sub-read-some
-    part-read-some-start
-    part-read-some-end
-    read-some-requires
+    (λ c κs. search needs)
+    (λ c. search needs)
+    (λ c. search needs)
+    (λ c. search needs)
+    (λ c. search needs)
+    (λ c κs. search needs)
     same-length
-    returns
+    (λ c. search needs)
     add-end
     loop-less
     loop-again
     same-length-2
-    returns-2)
+    (λ c. search needs))

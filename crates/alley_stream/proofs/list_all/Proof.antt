@@ -25,9 +25,6 @@ kept-output c = c .turn .kept .1 .0 ∙ c .before .before .before .before .loop 
 loop-holds : tie.Need-loop-holds Inv-loop μ-loop
 loop-holds c = (omega arith, refl, refl)
 
-turn-requires : tie.Need-turn-requires Inv-loop μ-loop
-turn-requires c κs = search needs
-
 same-length : tie.Need-same-length Inv-loop μ-loop
 same-length c = kept-input (c .before .before .before .before .before)
 
@@ -36,12 +33,6 @@ same-length-2 c = kept-output (c .before .before .before .before .before)
 
 returns : tie.Need-returns Inv-loop μ-loop
 returns c = tt
-
-add-turns : tie.Need-add-turns Inv-loop μ-loop
-add-turns c = search needs
-
-loop-less : tie.Need-loop-less Inv-loop μ-loop
-loop-less c = search needs
 
 loop-again : tie.Need-loop-again Inv-loop μ-loop
 loop-again c = let done = c .before .before .before .before .before in (omega arith, kept-input done, kept-output done)
@@ -62,12 +53,12 @@ list-all-spec =
     Inv-loop
     μ-loop
     loop-holds
-    turn-requires
+    (λ c κs. search needs)
     same-length
     same-length-2
     returns
-    add-turns
-    loop-less
+    (λ c. search needs)
+    (λ c. search needs)
     loop-again
     same-length-3
     same-length-4

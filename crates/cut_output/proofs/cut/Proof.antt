@@ -9,9 +9,6 @@ use Rattle.cut_output.specs.AnswerLaws.{record-broken, record-stray, rec
 use Rattle.cut_output.proofs.cut.Statement.{statement}
 use Rattle.cut_output.proofs.cut.Tie as tie
 
-is-sound-requires : tie.Need-is-sound-requires
-is-sound-requires c κs = search needs
-
 returns : tie.Need-returns
 returns c = sym (record-broken _ _ (sym (c .before .is-sound .ensures) ∙ not-true _ (c .if1 .taken)))
 
@@ -25,9 +22,6 @@ returns-2 c = sym (record-stray _ _ (whole (c .before .before)) (c .if2 .taken))
 cut-sound-requires : tie.Need-cut-sound-requires
 cut-sound-requires c κs = (whole-network _ (whole (c .before .before)), c .if2 .left)
 
-just-read-requires : tie.Need-just-read-requires
-just-read-requires c κs = search needs
-
 returns-3 : tie.Need-returns-3
 returns-3 c =
     let q = c .before .before in
@@ -35,4 +29,4 @@ returns-3 c =
     (λ x. record { code = 0; after = made x }) ∙ sym (record-done _ _ (whole (q .before .before)) (q .if2 .left))
 
 pub cut-spec : {M : Type 1} → statement M
-cut-spec = tie.close (tie.spec is-sound-requires returns returns-2 cut-sound-requires just-read-requires returns-3)
+cut-spec = tie.close (tie.spec (λ c κs. search needs) returns returns-2 cut-sound-requires (λ c κs. search needs) returns-3)

@@ -20,12 +20,6 @@ use borrow.Author.Needs.{needs}
 use Rattle.fold_merge.proofs.pair.Statement.{statement}
 use Rattle.fold_merge.proofs.pair.Tie as tie
 
-is-sound-requires : tie.Need-is-sound-requires
-is-sound-requires c κs = search needs
-
-no-pair-requires : tie.Need-no-pair-requires
-no-pair-requires c κs = search needs
-
 returns : tie.Need-returns
 returns c =
     let s = c .before .before in
@@ -41,9 +35,6 @@ lent c = lent-of _ (T-is _ (tested c))
 
 edge-code-requires : tie.Need-edge-code-requires
 edge-code-requires c κs = lent (c .before .before .before .before .before)
-
-no-pair-requires-2 : tie.Need-no-pair-requires-2
-no-pair-requires-2 c κs = search needs
 
 returns-2 : tie.Need-returns-2
 returns-2 c =
@@ -93,11 +84,11 @@ pub pair-spec : {M : Type 1} → statement M
 pair-spec =
     tie.close
     (tie.spec
-    is-sound-requires
-    no-pair-requires
+    (λ c κs. search needs)
+    (λ c κs. search needs)
     returns
     edge-code-requires
-    no-pair-requires-2
+    (λ c κs. search needs)
     returns-2
     aligned-at-requires
     pair-of-requires

@@ -12,9 +12,6 @@ use Rattle.fold_preview.proofs.preview.Tie as tie
 shaped : (c : tie.Start) → ArrayLengths (c .args .t1)
 shaped c = record { fanins = search needs; signals = search needs; weights = search needs; thresholds = search needs; drivers = search needs }
 
-is-sound-requires : tie.Need-is-sound-requires
-is-sound-requires c κs = search needs
-
 returns : tie.Need-returns
 returns c = let a = c .before .before .args in sym (preview-broken (a .t1) (a .s) (sym (c .before .is-sound .ensures) ∙ not-true _ (c .if1 .taken)))
 
@@ -28,4 +25,4 @@ returns-2 : tie.Need-returns-2
 returns-2 c = c .preview-at .ensures
 
 pub preview-spec : {M : Type 1} → statement M
-preview-spec = tie.close (tie.spec is-sound-requires returns preview-at-requires returns-2)
+preview-spec = tie.close (tie.spec (λ c κs. search needs) returns preview-at-requires returns-2)

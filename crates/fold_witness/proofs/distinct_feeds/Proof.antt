@@ -14,12 +14,6 @@ use borrow.Author.Needs.{needs}
 use Rattle.fold_witness.proofs.distinct_feeds.Statement.{statement}
 use Rattle.fold_witness.proofs.distinct_feeds.Tie as tie
 
-is-sound-requires : tie.Need-is-sound-requires
-is-sound-requires c κs = search needs
-
-no-feeds-requires : tie.Need-no-feeds-requires
-no-feeds-requires c κs = search needs
-
 returns : tie.Need-returns
 returns c =
     let s = c .before .before in
@@ -35,9 +29,6 @@ lent c = lent-of _ (T-is _ (tested c))
 
 edge-code-requires : tie.Need-edge-code-requires
 edge-code-requires c κs = lent (c .before .before .before .before .before)
-
-no-feeds-requires-2 : tie.Need-no-feeds-requires-2
-no-feeds-requires-2 c κs = search needs
 
 returns-2 : tie.Need-returns-2
 returns-2 c =
@@ -62,9 +53,6 @@ aligned-at-requires c κs =
     let t = c .before .before .before .before .before .before in
     (lent (sound t), (joined t, sound-board _ (tested (sound t))))
 
-listed-requires : tie.Need-listed-requires
-listed-requires c κs = search needs
-
 returns-3 : tie.Need-returns-3
 returns-3 c =
     let at-aligned = c .before in
@@ -78,12 +66,12 @@ pub distinct-feeds-spec : {M : Type 1} → statement M
 distinct-feeds-spec =
     tie.close
     (tie.spec
-    is-sound-requires
-    no-feeds-requires
+    (λ c κs. search needs)
+    (λ c κs. search needs)
     returns
     edge-code-requires
-    no-feeds-requires-2
+    (λ c κs. search needs)
     returns-2
     aligned-at-requires
-    listed-requires
+    (λ c κs. search needs)
     returns-3)

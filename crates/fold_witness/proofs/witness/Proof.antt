@@ -20,12 +20,6 @@ use borrow.Author.Needs.{needs}
 use Rattle.fold_witness.proofs.witness.Statement.{statement}
 use Rattle.fold_witness.proofs.witness.Tie as tie
 
-is-sound-requires : tie.Need-is-sound-requires
-is-sound-requires c κs = search needs
-
-none-requires : tie.Need-none-requires
-none-requires c κs = search needs
-
 returns : tie.Need-returns
 returns c =
     let s = c .before .before in
@@ -41,9 +35,6 @@ lent c = lent-of _ (T-is _ (tested c))
 
 edge-code-requires : tie.Need-edge-code-requires
 edge-code-requires c κs = lent (c .before .before .before .before .before)
-
-none-requires-2 : tie.Need-none-requires-2
-none-requires-2 c κs = search needs
 
 returns-2 : tie.Need-returns-2
 returns-2 c =
@@ -95,11 +86,11 @@ pub witness-spec : {M : Type 1} → statement M
 witness-spec =
     tie.close
     (tie.spec
-    is-sound-requires
-    none-requires
+    (λ c κs. search needs)
+    (λ c κs. search needs)
     returns
     edge-code-requires
-    none-requires-2
+    (λ c κs. search needs)
     returns-2
     aligned-at-requires
     witness-of-requires

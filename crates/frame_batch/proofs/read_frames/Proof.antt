@@ -7,9 +7,6 @@ use Rattle.frame_batch.proofs.AnswerLaws.{answer-broken}
 use Rattle.frame_batch.proofs.read_frames.Statement.{statement}
 use Rattle.frame_batch.proofs.read_frames.Tie as tie
 
-is-sound-requires : tie.Need-is-sound-requires
-is-sound-requires c κs = search needs
-
 returns : tie.Need-returns
 returns c =
     let s = c .before .before .before .before in
@@ -19,12 +16,9 @@ returns c =
 read-sound-requires : tie.Need-read-sound-requires
 read-sound-requires c κs = sym (c .before .before .is-sound .ensures) ∙ not-false _ (c .before .if1 .left)
 
-same-length : tie.Need-same-length
-same-length c = search needs
-
 returns-2 : tie.Need-returns-2
 returns-2 c = c .before .before .read-sound .ensures
 
 pub read-frames-spec : {M : Type 1} → statement M
 read-frames-spec =
-    tie.close (tie.spec is-sound-requires returns read-sound-requires same-length returns-2)
+    tie.close (tie.spec (λ c κs. search needs) returns read-sound-requires (λ c. search needs) returns-2)

@@ -7,12 +7,6 @@ use Rattle.frame_reading.specs.Reading.{frameAnswer, asReading, reading}
 use Rattle.frame_reading.proofs.read_frame.Statement.{statement}
 use Rattle.frame_reading.proofs.read_frame.Tie as tie
 
-is-sound-requires : tie.Need-is-sound-requires
-is-sound-requires c κs = search needs
-
-refused-requires : tie.Need-refused-requires
-refused-requires c κs = search needs
-
 returns : tie.Need-returns
 unfolding reading frameAnswer asReading checks
 returns c =
@@ -29,8 +23,8 @@ pub read-frame-spec : {M : Type 1} → statement M
 read-frame-spec =
     tie.close
     (tie.spec
-    is-sound-requires
-    refused-requires
+    (λ c κs. search needs)
+    (λ c κs. search needs)
     returns
     read-sound-requires
     returns-2)

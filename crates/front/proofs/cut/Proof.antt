@@ -3,11 +3,8 @@ use borrow.Author.Needs.{needs}
 use Rattle.front.proofs.cut.Statement.{statement}
 use Rattle.front.proofs.cut.Tie as tie
 
-cut-requires : tie.Need-cut-requires
-cut-requires c κs = search needs
-
 returns : tie.Need-returns
 returns c = c .cut .ensures
 
 pub cut-spec : {M : Type 1} → statement M
-cut-spec = tie.close (tie.spec cut-requires returns)
+cut-spec = tie.close (tie.spec (λ c κs. search needs) returns)

@@ -8,17 +8,11 @@ use Rattle.front.specs.FrontLaws.{tested-many, tested-few}
 use Rattle.front.proofs.distinct_feeds.Statement.{statement}
 use Rattle.front.proofs.distinct_feeds.Tie as tie
 
-no-feeds-requires : tie.Need-no-feeds-requires
-no-feeds-requires c κs = search needs
-
 returns : tie.Need-returns
 unfolding feedsOn
 returns c =
     let a = c .before .before .args in
     c .no-feeds .ensures ∙ sym (ap asFeeds (tested-many (a .held) (onRecord (a .held .network) (λ N. feeds N (a .u) (a .v))) (c .before .if1 .taken)))
-
-distinct-feeds-requires : tie.Need-distinct-feeds-requires
-distinct-feeds-requires c κs = search needs
 
 returns-2 : tie.Need-returns-2
 unfolding feedsOn distinctFeeds
@@ -27,4 +21,4 @@ returns-2 c =
     c .distinct-feeds .ensures ∙ sym (ap asFeeds (tested-few (a .held) (onRecord (a .held .network) (λ N. feeds N (a .u) (a .v))) (c .before .if1 .left)))
 
 pub distinct-feeds-spec : {M : Type 1} → statement M
-distinct-feeds-spec = tie.close (tie.spec no-feeds-requires returns distinct-feeds-requires returns-2)
+distinct-feeds-spec = tie.close (tie.spec (λ c κs. search needs) returns (λ c κs. search needs) returns-2)

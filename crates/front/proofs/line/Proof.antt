@@ -29,12 +29,6 @@ returns-2 c =
     let e = tested-few (a .first) (tested (a .second) given) (c .before .if1 .left) ∙ tested-many (a .second) given (c .if2 .taken) in
     (sym (ap asLineWritten e), sym (ap (λ (x : Answer (List ℕ)). stored x out) e))
 
-line-requires : tie.Need-line-requires
-line-requires c κs = search needs
-
-same-length : tie.Need-same-length
-same-length c = search needs
-
 returns-3 : tie.Need-returns-3
 unfolding lineOn
 returns-3 c =
@@ -47,4 +41,4 @@ returns-3 c =
     (w .line .ensures .0 ∙ sym (ap asLineWritten e), w .line .ensures .1 ∙ sym (ap (λ (x : Answer (List ℕ)). stored x out) e))
 
 pub line-spec : {M : Type 1} → statement M
-line-spec = tie.close (tie.spec returns returns-2 line-requires same-length returns-3)
+line-spec = tie.close (tie.spec returns returns-2 (λ c κs. search needs) (λ c. search needs) returns-3)

@@ -14,9 +14,6 @@ returns c =
     let a = c .before .args in
     sym (ap asPair (tested-many (a .held) (onRecord (a .held .network) (λ N. pair N (a .u) (a .v))) (c .if1 .taken)))
 
-pair-requires : tie.Need-pair-requires
-pair-requires c κs = search needs
-
 returns-2 : tie.Need-returns-2
 unfolding pairOn pairFound asPair
 returns-2 c =
@@ -24,4 +21,4 @@ returns-2 c =
     c .pair .ensures ∙ sym (ap asPair (tested-few (a .held) (onRecord (a .held .network) (λ N. pair N (a .u) (a .v))) (c .before .if1 .left)))
 
 pub pair-spec : {M : Type 1} → statement M
-pair-spec = tie.close (tie.spec returns pair-requires returns-2)
+pair-spec = tie.close (tie.spec returns (λ c κs. search needs) returns-2)

@@ -16,9 +16,6 @@ returns c =
     let a = c .before .args in
     sym (ap reportOf (tested-many (a .held) (onRecord (a .held .network) (λ N. collapse N (a .s))) (c .if1 .taken)))
 
-preview-requires : tie.Need-preview-requires
-preview-requires c κs = search needs
-
 returns-2 : tie.Need-returns-2
 unfolding previewOn previewed reportOf
 returns-2 c =
@@ -26,4 +23,4 @@ returns-2 c =
     c .preview .ensures ∙ sym (ap reportOf (tested-few (a .held) (onRecord (a .held .network) (λ N. collapse N (a .s))) (c .before .if1 .left)))
 
 pub preview-spec : {M : Type 1} → statement M
-preview-spec = tie.close (tie.spec returns preview-requires returns-2)
+preview-spec = tie.close (tie.spec returns (λ c κs. search needs) returns-2)

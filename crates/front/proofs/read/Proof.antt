@@ -6,12 +6,6 @@ use Rattle.front.specs.Front.{openedFile}
 use Rattle.front.proofs.read.Statement.{statement}
 use Rattle.front.proofs.read.Tie as tie
 
-read-requires : tie.Need-read-requires
-read-requires c κs = search needs
-
-just-read-requires : tie.Need-just-read-requires
-just-read-requires c κs = search needs
-
 returns : tie.Need-returns
 unfolding openedFile
 returns c =
@@ -19,4 +13,4 @@ returns c =
     λ x. record { code = e x .code; held = (c .just-read .ensures ∙ ap justRead (λ y. e y .network)) x }
 
 pub read-spec : {M : Type 1} → statement M
-read-spec = tie.close (tie.spec read-requires just-read-requires returns)
+read-spec = tie.close (tie.spec (λ c κs. search needs) (λ c κs. search needs) returns)

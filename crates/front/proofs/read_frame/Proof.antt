@@ -13,9 +13,6 @@ returns c =
     let a = c .before .args in
     sym (ap asReading (tested-many (a .held) (frameAnswer (a .held .network) (a .frame)) (c .if1 .taken)))
 
-read-frame-requires : tie.Need-read-frame-requires
-read-frame-requires c κs = search needs
-
 returns-2 : tie.Need-returns-2
 unfolding readingOn reading asReading
 returns-2 c =
@@ -23,4 +20,4 @@ returns-2 c =
     c .read-frame .ensures ∙ sym (ap asReading (tested-few (a .held) (frameAnswer (a .held .network) (a .frame)) (c .before .if1 .left)))
 
 pub read-frame-spec : {M : Type 1} → statement M
-read-frame-spec = tie.close (tie.spec returns read-frame-requires returns-2)
+read-frame-spec = tie.close (tie.spec returns (λ c κs. search needs) returns-2)

@@ -18,12 +18,6 @@ returns c =
     let e = tested-many (a .held) (framesAnswer (a .held .network) (a .frames .now) lent) (c .if1 .taken) in
     (sym (ap codeOf e), sym (ap (λ (x : Answer (List ℕ)). stored x lent) e))
 
-read-frames-requires : tie.Need-read-frames-requires
-read-frames-requires c κs = search needs
-
-same-length : tie.Need-same-length
-same-length c = search needs
-
 returns-2 : tie.Need-returns-2
 unfolding framesOn
 returns-2 c =
@@ -35,4 +29,4 @@ returns-2 c =
     (w .read-frames .ensures .0 ∙ sym (ap codeOf e), w .read-frames .ensures .1 ∙ sym (ap (λ (x : Answer (List ℕ)). stored x lent) e))
 
 pub read-frames-spec : {M : Type 1} → statement M
-read-frames-spec = tie.close (tie.spec returns read-frames-requires same-length returns-2)
+read-frames-spec = tie.close (tie.spec returns (λ c κs. search needs) (λ c. search needs) returns-2)

@@ -15,9 +15,6 @@ returns c =
     let a = c .before .args in
     sym (ap reportOf (tested-many (a .held) (onRecord (a .held .network) accepted) (c .if1 .taken)))
 
-report-requires : tie.Need-report-requires
-report-requires c κs = search needs
-
 returns-2 : tie.Need-returns-2
 unfolding reportOn reported reportOf onRecord
 returns-2 c =
@@ -25,4 +22,4 @@ returns-2 c =
     c .report .ensures ∙ sym (ap reportOf (tested-few (a .held) (onRecord (a .held .network) accepted) (c .before .if1 .left)))
 
 pub report-spec : {M : Type 1} → statement M
-report-spec = tie.close (tie.spec returns report-requires returns-2)
+report-spec = tie.close (tie.spec returns (λ c κs. search needs) returns-2)

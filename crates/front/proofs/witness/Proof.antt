@@ -24,9 +24,6 @@ returns c =
     (sym (broken-number (a .held) (a .u) (a .v) (a .k) (a .l) (c .if1 .taken)))
     (record { number-is = refl; shown = λ q. absurd (omega (arith, q)); none = λ q. refl })
 
-witness-requires : tie.Need-witness-requires
-witness-requires c κs = search needs
-
 returns-2 : tie.Need-returns-2
 returns-2 c =
     let a = c .before .before .args in
@@ -34,4 +31,4 @@ returns-2 c =
     (sym (merge-number (a .held) (a .u) (a .v) (a .k) (a .l) (c .before .if1 .left))) (c .witness .ensures)
 
 pub witness-spec : {M : Type 1} → statement M
-witness-spec = tie.close (tie.spec returns witness-requires returns-2)
+witness-spec = tie.close (tie.spec returns (λ c κs. search needs) returns-2)

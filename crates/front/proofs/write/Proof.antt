@@ -19,12 +19,6 @@ returns c =
     let e = tested-many (a .held) (writeAnswer (a .held .network) (length out)) (c .if1 .taken) in
     (sym (ap asWritten e), sym (ap (λ (x : Answer (List ℕ)). stored x out) e))
 
-write-requires : tie.Need-write-requires
-write-requires c κs = search needs
-
-same-length : tie.Need-same-length
-same-length c = search needs
-
 returns-2 : tie.Need-returns-2
 unfolding writingOn written bytesAfter
 returns-2 c =
@@ -36,4 +30,4 @@ returns-2 c =
     (w .write .ensures .0 ∙ sym (ap asWritten e), w .write .ensures .1 ∙ sym (ap (λ (x : Answer (List ℕ)). stored x out) e))
 
 pub write-spec : {M : Type 1} → statement M
-write-spec = tie.close (tie.spec returns write-requires same-length returns-2)
+write-spec = tie.close (tie.spec returns (λ c κs. search needs) (λ c. search needs) returns-2)

@@ -10,9 +10,6 @@ use Rattle.network_report.specs.Size.{reportOf, reported}
 use Rattle.network_report.proofs.report.Statement.{statement}
 use Rattle.network_report.proofs.report.Tie as tie
 
-is-sound-requires : tie.Need-is-sound-requires
-is-sound-requires c κs = search needs
-
 returns : tie.Need-returns
 unfolding reported reportOf checks
 returns c =
@@ -30,4 +27,4 @@ returns-2 : tie.Need-returns-2
 returns-2 c = c .size-of .ensures
 
 pub report-spec : {M : Type 1} → statement M
-report-spec = tie.close (tie.spec is-sound-requires returns size-of-requires returns-2)
+report-spec = tie.close (tie.spec (λ c κs. search needs) returns size-of-requires returns-2)

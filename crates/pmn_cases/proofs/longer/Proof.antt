@@ -12,26 +12,5 @@ Inv-loop file₀ f i₀ file i = (i ≤ 39) × (length file ≡ 40)
 abbrev μ-loop : tie.MeasureT-loop
 μ-loop file₀ f i₀ file i = 39 - i
 
-loop-holds : tie.Need-loop-holds Inv-loop μ-loop
-loop-holds c = search needs
-
-array-read-file : tie.Need-array-read-file Inv-loop μ-loop
-array-read-file c = search needs
-
-array-write-file : tie.Need-array-write-file Inv-loop μ-loop
-array-write-file c = search needs
-
-add-i : tie.Need-add-i Inv-loop μ-loop
-add-i c = search needs
-
-loop-less : tie.Need-loop-less Inv-loop μ-loop
-loop-less c = search needs
-
-loop-again : tie.Need-loop-again Inv-loop μ-loop
-loop-again c = search needs
-
-returns : tie.Need-returns Inv-loop μ-loop
-returns c = search needs
-
 pub longer-spec : {M : Type 1} → statement M
-longer-spec = tie.close (tie.spec Inv-loop μ-loop loop-holds array-read-file array-write-file add-i loop-less loop-again returns)
+longer-spec = tie.close (tie.spec Inv-loop μ-loop (λ c. search needs) (λ c. search needs) (λ c. search needs) (λ c. search needs) (λ c. search needs) (λ c. search needs) (λ c. search needs))

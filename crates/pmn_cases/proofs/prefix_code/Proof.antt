@@ -9,15 +9,6 @@ use Rattle.pmn_cases.proofs.prefix_code.Tie as tie
 slice-aggregate-read-code : tie.Need-slice-aggregate-read-code
 slice-aggregate-read-code c = let a = c .before .before .before .args in sym (length-take-le (a .n) (a .file .now) (omega arith))
 
-read-code-requires : tie.Need-read-code-requires
-read-code-requires c κs = search needs
-
-returns : tie.Need-returns
-returns c = search needs
-
-returns-2 : tie.Need-returns-2
-returns-2 c = search needs
-
 pub prefix-code-spec : {M : Type 1} → statement M
 prefix-code-spec =
-    tie.close (tie.spec slice-aggregate-read-code read-code-requires returns returns-2)
+    tie.close (tie.spec slice-aggregate-read-code (λ c κs. search needs) (λ c. search needs) (λ c. search needs))

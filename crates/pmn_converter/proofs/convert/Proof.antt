@@ -11,9 +11,6 @@ use Rattle.pmn_converter.specs.FileLaws.{converted-read}
 use Rattle.pmn_converter.proofs.convert.Statement.{statement}
 use Rattle.pmn_converter.proofs.convert.Tie as tie
 
-read-requires : tie.Need-read-requires
-read-requires c κs = search needs
-
 refusal-requires : tie.Need-refusal-requires
 refusal-requires c κs = (λ i. c .before .before .shared-slice-known .given i .fits, c .read .ensures)
 
@@ -27,9 +24,6 @@ returns c =
 convert-sound-requires : tie.Need-convert-sound-requires
 convert-sound-requires c κs = let s = c .before in file-sound (s .before .refusal .ensures .gives (s .if1 .left))
 
-same-length : tie.Need-same-length
-same-length c = search needs
-
 returns-2 : tie.Need-returns-2
 returns-2 c =
     let v = c .before .before .convert-sound in
@@ -42,9 +36,9 @@ pub convert-spec : {M : Type 1} → statement M
 convert-spec =
     tie.close
     (tie.spec
-    read-requires
+    (λ c κs. search needs)
     refusal-requires
     returns
     convert-sound-requires
-    same-length
+    (λ c. search needs)
     returns-2)

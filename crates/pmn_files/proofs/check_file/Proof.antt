@@ -4,11 +4,8 @@ use Rattle.pmn_opening.specs.OpeningLaws.{read-code}
 use Rattle.pmn_files.proofs.check_file.Statement.{statement}
 use Rattle.pmn_files.proofs.check_file.Tie as tie
 
-read-requires : tie.Need-read-requires
-read-requires c κs = search needs
-
 returns : tie.Need-returns
 returns c = read-code (c .before .before .args .file .now) (c .read .ensures)
 
 pub check-file-spec : {M : Type 1} → statement M
-check-file-spec = tie.close (tie.spec read-requires returns)
+check-file-spec = tie.close (tie.spec (λ c κs. search needs) returns)

@@ -8,17 +8,11 @@ use Rattle.pmn_files.specs.PartLaws.{part-none, part-long, part-fits, pa
 use Rattle.pmn_files.proofs.part_of_file.Statement.{statement}
 use Rattle.pmn_files.proofs.part_of_file.Tie as tie
 
-read-refusal-requires : tie.Need-read-refusal-requires
-read-refusal-requires c κs = search needs
-
 returns : tie.Need-returns
 unfolding partOut
 returns c =
     let a = c .before .before .before .before .before .args in
     refused-two (a .out .now) (a .answer .now) (open-refused (c .before .read-refusal .ensures) _ (c .if1 .taken))
-
-gate-part-requires : tie.Need-gate-part-requires
-gate-part-requires c κs = search needs
 
 returns-2 : tie.Need-returns-2
 returns-2 c =
@@ -37,20 +31,11 @@ returns-3 c =
     refused-two (a .out .now) (a .answer .now)
     (part-long (a .answer .now) f (a .signal) (a .out .now) (g .gate-part .ensures) (c .before .if2 .left) (c .if3 .taken))
 
-copy-requires : tie.Need-copy-requires
-copy-requires c κs = search needs
-
 put-one-requires : tie.Need-put-one-requires
 put-one-requires c κs =
     let at-copy = c .before .before .before .before in
     let s = at-copy .before .before .before .before in
     s .before .read-refusal .ensures .gives (s .if1 .left) .room
-
-same-length : tie.Need-same-length
-same-length c = search needs
-
-same-length-2 : tie.Need-same-length-2
-same-length-2 c = search needs
 
 returns-4 : tie.Need-returns-4
 returns-4 c =
@@ -69,13 +54,13 @@ pub part-of-file-spec : {M : Type 1} → statement M
 part-of-file-spec =
     tie.close
     (tie.spec
-    read-refusal-requires
+    (λ c κs. search needs)
     returns
-    gate-part-requires
+    (λ c κs. search needs)
     returns-2
     returns-3
-    copy-requires
+    (λ c κs. search needs)
     put-one-requires
-    same-length
-    same-length-2
+    (λ c. search needs)
+    (λ c. search needs)
     returns-4)

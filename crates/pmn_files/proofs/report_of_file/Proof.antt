@@ -9,9 +9,6 @@ use Rattle.pmn_files.specs.FileLaws.{report-answer}
 use Rattle.pmn_files.proofs.report_of_file.Statement.{statement}
 use Rattle.pmn_files.proofs.report_of_file.Tie as tie
 
-read-requires : tie.Need-read-requires
-read-requires c κs = search needs
-
 refusal-requires : tie.Need-refusal-requires
 refusal-requires c κs = (λ i. c .before .before .shared-slice-known .given i .fits, c .read .ensures)
 
@@ -25,9 +22,6 @@ size-of-requires c κs = file-sound (c .before .refusal .ensures .gives (c .if1 
 put-three-requires : tie.Need-put-three-requires
 put-three-requires c κs = let s = c .before .before in s .before .refusal .ensures .gives (s .if1 .left) .room
 
-same-length : tie.Need-same-length
-same-length c = search needs
-
 returns-2 : tie.Need-returns-2
 returns-2 c =
     let g = c .before .before .before .before .size-of in
@@ -40,10 +34,10 @@ pub report-of-file-spec : {M : Type 1} → statement M
 report-of-file-spec =
     tie.close
     (tie.spec
-    read-requires
+    (λ c κs. search needs)
     refusal-requires
     returns
     size-of-requires
     put-three-requires
-    same-length
+    (λ c. search needs)
     returns-2)

@@ -7,9 +7,6 @@ use Rattle.pmn_files.specs.FileLaws.{file-answer}
 use Rattle.pmn_files.proofs.write_file.Statement.{statement}
 use Rattle.pmn_files.proofs.write_file.Tie as tie
 
-read-requires : tie.Need-read-requires
-read-requires c κs = search needs
-
 refusal-requires : tie.Need-refusal-requires
 refusal-requires c κs = (λ i. c .before .before .before .shared-slice-known .given i .fits, c .read .ensures)
 
@@ -25,12 +22,6 @@ put-file-requires c κs =
     let o = s .before .refusal .ensures .gives (s .if1 .left) in
     (file-sound o, o .room)
 
-same-length : tie.Need-same-length
-same-length c = search needs
-
-same-length-2 : tie.Need-same-length-2
-same-length-2 c = search needs
-
 returns-2 : tie.Need-returns-2
 returns-2 c =
     let at-put = c .before .before .before .before in
@@ -41,4 +32,4 @@ returns-2 c =
 
 pub write-file-spec : {M : Type 1} → statement M
 write-file-spec =
-    tie.close (tie.spec read-requires refusal-requires returns put-file-requires same-length same-length-2 returns-2)
+    tie.close (tie.spec (λ c κs. search needs) refusal-requires returns put-file-requires (λ c. search needs) (λ c. search needs) returns-2)

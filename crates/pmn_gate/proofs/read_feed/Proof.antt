@@ -33,12 +33,6 @@ weight-is c = toZ-ofZ (record { sfits = c .get-int .ok }) ∙ c .get-int .ensure
 returns : tie.Need-returns
 returns c = let a = c .before .before .args in record { says = sym (feed-end (a .own) (a .low) (a .at) (a .file .now) (c .if1 .taken)); inside = omega arith }
 
-shared-slice-read-signal : tie.Need-shared-slice-read-signal
-shared-slice-read-signal c = search needs
-
-wide-requires : tie.Need-wide-requires
-wide-requires c κs = search needs
-
 returns-2 : tie.Need-returns-2
 returns-2 c =
     let a = c .before .before .before .before .before .args in
@@ -46,9 +40,6 @@ returns-2 c =
       says = sym (feed-crossed (a .own) (a .low) (a .at) (a .file .now) (omega arith) (signal-is (c .before) ∙ not-true _ (c .if2 .taken)));
       inside = omega arith;
     }
-
-sub-if3 : tie.Need-sub-if3
-sub-if3 c = search needs
 
 returns-3 : tie.Need-returns-3
 returns-3 c =
@@ -58,15 +49,6 @@ returns-3 c =
       says = sym (feed-short (a .own) (a .low) (a .at) (a .file .now) fits (omega arith) (omega arith));
       inside = omega arith;
     }
-
-add-get-int : tie.Need-add-get-int
-add-get-int c = search needs
-
-get-int-requires : tie.Need-get-int-requires
-get-int-requires c κs = search needs
-
-weight-sound-requires : tie.Need-weight-sound-requires
-weight-sound-requires c κs = search needs
 
 -- the whole feed, by what the test of its weight says
 whole : (c : tie.After-weight-sound) {b : Bool} → c .weight-sound .result ≡ b → let at-wide = c .before .before .before .before in
@@ -98,13 +80,13 @@ read-feed-spec =
     tie.close
     (tie.spec
     returns
-    shared-slice-read-signal
-    wide-requires
+    (λ c. search needs)
+    (λ c κs. search needs)
     returns-2
-    sub-if3
+    (λ c. search needs)
     returns-3
-    add-get-int
-    get-int-requires
-    weight-sound-requires
+    (λ c. search needs)
+    (λ c κs. search needs)
+    (λ c κs. search needs)
     returns-4
     returns-5)

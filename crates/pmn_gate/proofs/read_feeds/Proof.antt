@@ -19,20 +19,8 @@ abbrev μ-loop : tie.MeasureT-loop
 μ-loop file start own fanin threshold count signals₀ weights₀ at₀ low₀ i₀ signals weights at low i =
     fanin - i
 
-wide-requires : tie.Need-wide-requires Inv-loop μ-loop
-wide-requires c κs = search needs
-
 loop-holds : tie.Need-loop-holds Inv-loop μ-loop
 loop-holds c = let a = c .before .before .args in feeds-start (a .file .now) (a .start) (a .own) (a .fanin) (c .before .before .pre .0)
-
-read-feed-requires : tie.Need-read-feed-requires Inv-loop μ-loop
-read-feed-requires c κs = search needs
-
-enum-known-f : tie.Need-enum-known-f Inv-loop μ-loop
-enum-known-f c = search needs
-
-no-gate-requires : tie.Need-no-gate-requires Inv-loop μ-loop
-no-gate-requires c κs = search needs
 
 returns : tie.Need-returns Inv-loop μ-loop
 returns c =
@@ -43,33 +31,6 @@ returns c =
     let g = c .before .before .f .given in
     let f = subst (FeedAnswered (a .own) (l .low) (l .at) (a .file .now)) (g .1) (at-read .read-feed .ensures) in
     seen-refused (g .0 .0) (f .inside) (c .no-gate .ensures) (feeds-bad (l .inv) (omega arith) f)
-
-enum-known-f-2 : tie.Need-enum-known-f-2 Inv-loop μ-loop
-enum-known-f-2 c = search needs
-
-array-write-signals : tie.Need-array-write-signals Inv-loop μ-loop
-array-write-signals c = search needs
-
-mul-weights : tie.Need-mul-weights Inv-loop μ-loop
-mul-weights c = search needs
-
-array-set-from-weights : tie.Need-array-set-from-weights Inv-loop μ-loop
-array-set-from-weights c = search needs
-
-wide-requires-2 : tie.Need-wide-requires-2 Inv-loop μ-loop
-wide-requires-2 c κs = search needs
-
-add-low : tie.Need-add-low Inv-loop μ-loop
-add-low c = search needs
-
-add-at : tie.Need-add-at Inv-loop μ-loop
-add-at c = search needs
-
-add-i : tie.Need-add-i Inv-loop μ-loop
-add-i c = search needs
-
-loop-less : tie.Need-loop-less Inv-loop μ-loop
-loop-less c = search needs
 
 loop-again : tie.Need-loop-again Inv-loop μ-loop
 loop-again c =
@@ -91,20 +52,20 @@ read-feeds-spec =
     (tie.spec
     Inv-loop
     μ-loop
-    wide-requires
+    (λ c κs. search needs)
     loop-holds
-    read-feed-requires
-    enum-known-f
-    no-gate-requires
+    (λ c κs. search needs)
+    (λ c. search needs)
+    (λ c κs. search needs)
     returns
-    enum-known-f-2
-    array-write-signals
-    mul-weights
-    array-set-from-weights
-    wide-requires-2
-    add-low
-    add-at
-    add-i
-    loop-less
+    (λ c. search needs)
+    (λ c. search needs)
+    (λ c. search needs)
+    (λ c. search needs)
+    (λ c κs. search needs)
+    (λ c. search needs)
+    (λ c. search needs)
+    (λ c. search needs)
+    (λ c. search needs)
     loop-again
     returns-2)

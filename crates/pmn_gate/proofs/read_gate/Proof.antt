@@ -38,53 +38,23 @@ whole c e =
     let a = at-int .before .before .before .before .before .before .args in
     gate-whole (a .board) (a .own) (a .at) (a .file .now) (omega arith) (omega arith) (sym (c .in-scale .ensures ∙ ap inScale (threshold-is (c .before))) ∙ e)
 
-no-gate-requires : tie.Need-no-gate-requires
-no-gate-requires c κs = search needs
-
 returns : tie.Need-returns
 returns c =
     let a = c .before .before .before .args in
     seen-refused 4 (omega arith) (c .no-gate .ensures) (gate-end (a .board) (a .own) (a .at) (a .file .now) (omega arith))
-
-shared-slice-read-fanin : tie.Need-shared-slice-read-fanin
-shared-slice-read-fanin c = search needs
-
-no-gate-requires-2 : tie.Need-no-gate-requires-2
-no-gate-requires-2 c κs = search needs
 
 returns-2 : tie.Need-returns-2
 returns-2 c =
     let a = c .before .before .before .before .before .args in
     seen-refused 7 (omega arith) (c .no-gate2 .ensures) (gate-wide (a .board) (a .own) (a .at) (a .file .now) (omega arith) (omega arith))
 
-sub-if3 : tie.Need-sub-if3
-sub-if3 c = search needs
-
-no-gate-requires-3 : tie.Need-no-gate-requires-3
-no-gate-requires-3 c κs = search needs
-
 returns-3 : tie.Need-returns-3
 returns-3 c =
     let a = c .before .before .before .before .before .before .args in
     seen-refused 4 (omega arith) (c .no-gate3 .ensures) (gate-short (a .board) (a .own) (a .at) (a .file .now) (omega arith) (omega arith) (omega arith))
 
-add-get-int : tie.Need-add-get-int
-add-get-int c = search needs
-
-get-int-requires : tie.Need-get-int-requires
-get-int-requires c κs = search needs
-
-in-scale-requires : tie.Need-in-scale-requires
-in-scale-requires c κs = search needs
-
-no-gate-requires-4 : tie.Need-no-gate-requires-4
-no-gate-requires-4 c κs = search needs
-
 returns-4 : tie.Need-returns-4
 returns-4 c = seen-refused 6 (omega arith) (c .no-gate4 .ensures) (whole (c .before .before) (not-true _ (c .before .if4 .taken)))
-
-add-read-kept : tie.Need-add-read-kept
-add-read-kept c = search needs
 
 read-kept-requires : tie.Need-read-kept-requires
 read-kept-requires c κs =
@@ -108,19 +78,19 @@ pub read-gate-spec : {M : Type 1} → statement M
 read-gate-spec =
     tie.close
     (tie.spec
-    no-gate-requires
+    (λ c κs. search needs)
     returns
-    shared-slice-read-fanin
-    no-gate-requires-2
+    (λ c. search needs)
+    (λ c κs. search needs)
     returns-2
-    sub-if3
-    no-gate-requires-3
+    (λ c. search needs)
+    (λ c κs. search needs)
     returns-3
-    add-get-int
-    get-int-requires
-    in-scale-requires
-    no-gate-requires-4
+    (λ c. search needs)
+    (λ c κs. search needs)
+    (λ c κs. search needs)
+    (λ c κs. search needs)
     returns-4
-    add-read-kept
+    (λ c. search needs)
     read-kept-requires
     returns-5)

@@ -16,9 +16,6 @@ use Rattle.pmn_gate.proofs.Kept.{margins-plain}
 use Rattle.pmn_gate.proofs.read_kept.Statement.{statement}
 use Rattle.pmn_gate.proofs.read_kept.Tie as tie
 
-read-feeds-requires : tie.Need-read-feeds-requires
-read-feeds-requires c κs = search needs
-
 returns : tie.Need-returns
 returns c =
     let test = c .before in
@@ -33,9 +30,6 @@ returns c =
     (subst (λ (z : ℤ). ReadAnswered (gatePlaces z) s (parseFeeds (a .own) (a .fanin) 0 [] l) (r .code) (r .next) (r .gate)) (toZ-ofZ (start .fits .threshold))
     (c .read-feeds .ensures))
 
-read-tested-requires : tie.Need-read-tested-requires
-read-tested-requires c κs = search needs
-
 returns-2 : tie.Need-returns-2
 returns-2 c =
     let start = c .before .before .before .before .before in
@@ -47,4 +41,4 @@ returns-2 c =
 
 pub read-kept-spec : {M : Type 1} → statement M
 read-kept-spec =
-    tie.close (tie.spec read-feeds-requires returns read-tested-requires returns-2)
+    tie.close (tie.spec (λ c κs. search needs) returns (λ c κs. search needs) returns-2)

@@ -18,12 +18,6 @@ use Rattle.pmn_gate.proofs.Kept.{row-scale, margins-broken, margins-kep
 use Rattle.pmn_gate.proofs.read_tested.Statement.{statement}
 use Rattle.pmn_gate.proofs.read_tested.Tie as tie
 
-read-feeds-requires : tie.Need-read-feeds-requires
-read-feeds-requires c κs = search needs
-
-no-gate-requires : tie.Need-no-gate-requires
-no-gate-requires c κs = search needs
-
 -- the feeds that were read, with the threshold as it was given
 seen : (c : tie.After-read-feeds) → let a = c .before .before .args in let r = c .read-feeds .result in
     ReadAnswered (gatePlaces (a .threshold)) (a .file .now) (parseFeeds (a .own) (a .fanin) 0 [] (drop (a .start) (a .file .now))) (r .code) (r .next) (r .gate)
@@ -55,9 +49,6 @@ gate-keeps-requires c κs =
     row-scale (a .own) (a .fanin) (a .threshold) (drop (a .start) (a .file .now)) (from-start (at-read .before)) (start .pre .1) (start .pre .2)
     (seen at-read) (c .before .if1 .left)
 
-no-gate-requires-2 : tie.Need-no-gate-requires-2
-no-gate-requires-2 c κs = search needs
-
 returns-2 : tie.Need-returns-2
 returns-2 c =
     let at-keeps = c .before .before in
@@ -83,10 +74,10 @@ pub read-tested-spec : {M : Type 1} → statement M
 read-tested-spec =
     tie.close
     (tie.spec
-    read-feeds-requires
-    no-gate-requires
+    (λ c κs. search needs)
+    (λ c κs. search needs)
     returns
     gate-keeps-requires
-    no-gate-requires-2
+    (λ c κs. search needs)
     returns-2
     returns-3)

@@ -9,19 +9,10 @@ use Rattle.pmn_format.specs.AnsweredLaws.{seen-refused, seen-done}
 use Rattle.pmn_header.proofs.read_board.Statement.{statement}
 use Rattle.pmn_header.proofs.read_board.Tie as tie
 
-shared-slice-read-if1 : tie.Need-shared-slice-read-if1
-shared-slice-read-if1 c = search needs
-
 returns : tie.Need-returns
 returns c =
     let s = c .before .before .args .file .now in
     seen-done (record { version = 1; on = 0; off = 1 }) (omega arith) (board-first s (omega arith) (eq-eqb (getD s 3 0) 1 (c .if1 .taken))) refl
-
-shared-slice-read-t5 : tie.Need-shared-slice-read-t5
-shared-slice-read-t5 c = search needs
-
-shared-slice-read-t9 : tie.Need-shared-slice-read-t9
-shared-slice-read-t9 c = search needs
 
 returns-2 : tie.Need-returns-2
 returns-2 c =
@@ -42,9 +33,9 @@ pub read-board-spec : {M : Type 1} → statement M
 read-board-spec =
     tie.close
     (tie.spec
-    shared-slice-read-if1
+    (λ c. search needs)
     returns
-    shared-slice-read-t5
-    shared-slice-read-t9
+    (λ c. search needs)
+    (λ c. search needs)
     returns-2
     returns-3)

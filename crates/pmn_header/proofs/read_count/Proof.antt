@@ -17,12 +17,6 @@ returns c =
     let a = c .before .before .args in
     seen-refused 4 (omega arith) (refl, refl) (count-end (a .most) (a .at) (a .file .now) (omega arith))
 
-shared-slice-read-wide : tie.Need-shared-slice-read-wide
-shared-slice-read-wide c = search needs
-
-wide-requires : tie.Need-wide-requires
-wide-requires c κs = search needs
-
 -- the test of the byte
 fits : (c : tie.After-wide) {b : Bool} → let a = c .before .before .before .before .args in
     (leb 1 (c .wide .result) && leb (c .wide .result) (a .most)) ≡ b → between 1 (a .most) (getD (a .file .now) (a .at) 0) ≡ b
@@ -34,9 +28,6 @@ returns-2 c =
     let a = c .before .before .before .before .before .args in
     seen-refused 3 (omega arith) (refl, refl) (count-whole (a .most) (a .at) (a .file .now) (omega arith) (fits (c .before) (not-true _ (c .if2 .taken))))
 
-add-t6 : tie.Need-add-t6
-add-t6 c = search needs
-
 returns-3 : tie.Need-returns-3
 returns-3 c =
     let a = c .before .before .before .before .before .args in
@@ -45,4 +36,4 @@ returns-3 c =
 
 pub read-count-spec : {M : Type 1} → statement M
 read-count-spec =
-    tie.close (tie.spec returns shared-slice-read-wide wide-requires returns-2 add-t6 returns-3)
+    tie.close (tie.spec returns (λ c. search needs) (λ c κs. search needs) returns-2 (λ c. search needs) returns-3)

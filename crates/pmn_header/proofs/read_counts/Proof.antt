@@ -8,12 +8,6 @@ use Rattle.pmn_header.proofs.HeadLaws.{head-refused}
 use Rattle.pmn_header.proofs.read_counts.Statement.{statement}
 use Rattle.pmn_header.proofs.read_counts.Tie as tie
 
-read-count-requires : tie.Need-read-count-requires
-read-count-requires c κs = search needs
-
-no-head-requires : tie.Need-no-head-requires
-no-head-requires c κs = search needs
-
 returns : tie.Need-returns
 returns c =
     let at-inputs = c .before .before in
@@ -21,12 +15,6 @@ returns c =
     let bad = c .before .if1 .taken in
     let i = at-inputs .read-count in
     head-refused (i .result .code) (omega arith) (c .no-head .ensures) (inputs-refused (a .board) (drop (a .start) (a .file .now)) (failed (i .ensures) bad))
-
-read-count-requires-2 : tie.Need-read-count-requires-2
-read-count-requires-2 c κs = search needs
-
-no-head-requires-2 : tie.Need-no-head-requires-2
-no-head-requires-2 c κs = search needs
 
 returns-2 : tie.Need-returns-2
 returns-2 c =
@@ -40,12 +28,6 @@ returns-2 c =
     head-refused (g .result .code) (omega arith) (c .no-head2 .ensures)
     (gates-number-refused (a .board) (drop (a .start) s) (i .result .count) (drop (i .result .next) s) (read-as (i .ensures) (at-gates .before .if1 .left))
     (failed (g .ensures) bad))
-
-read-count-requires-3 : tie.Need-read-count-requires-3
-read-count-requires-3 c κs = search needs
-
-no-head-requires-3 : tie.Need-no-head-requires-3
-no-head-requires-3 c κs = search needs
 
 returns-3 : tie.Need-returns-3
 returns-3 c =
@@ -92,13 +74,13 @@ pub read-counts-spec : {M : Type 1} → statement M
 read-counts-spec =
     tie.close
     (tie.spec
-    read-count-requires
-    no-head-requires
+    (λ c κs. search needs)
+    (λ c κs. search needs)
     returns
-    read-count-requires-2
-    no-head-requires-2
+    (λ c κs. search needs)
+    (λ c κs. search needs)
     returns-2
-    read-count-requires-3
-    no-head-requires-3
+    (λ c κs. search needs)
+    (λ c κs. search needs)
     returns-3
     returns-4)

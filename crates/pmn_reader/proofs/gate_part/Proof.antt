@@ -11,12 +11,6 @@ use Rattle.pmn_reader.proofs.PartFiles.{PartFile, no-part, part-file, i
 use Rattle.pmn_reader.proofs.gate_part.Statement.{statement}
 use Rattle.pmn_reader.proofs.gate_part.Tie as tie
 
-gate-part-code-requires : tie.Need-gate-part-code-requires
-gate-part-code-requires c κs = search needs
-
-slice-aggregate-result : tie.Need-slice-aggregate-result
-slice-aggregate-result c = search needs
-
 returns : tie.Need-returns
 returns c =
     let a = c .before .before .before .before .args in
@@ -50,17 +44,11 @@ place c =
 shared-slice-read-header-length : tie.Need-shared-slice-read-header-length
 shared-slice-read-header-length c = omega (arith, long (file-of (c .before)))
 
-header-length-requires : tie.Need-header-length-requires
-header-length-requires c κs = search needs
-
 sub-wide : tie.Need-sub-wide
 sub-wide c = omega (arith, start-is c, starts (file-of (c .before .before)))
 
 shared-slice-read-wide : tie.Need-shared-slice-read-wide
 shared-slice-read-wide c = omega (arith, start-is (c .before), starts (file-of (c .before .before .before)))
-
-wide-requires : tie.Need-wide-requires
-wide-requires c κs = search needs
 
 sub-gate-bytes : tie.Need-sub-gate-bytes
 sub-gate-bytes c = omega (arith, inputs-is c, file-of (c .before .before .before .before) .has)
@@ -75,14 +63,14 @@ pub gate-part-spec : {M : Type 1} → statement M
 gate-part-spec =
     tie.close
     (tie.spec
-    gate-part-code-requires
-    slice-aggregate-result
+    (λ c κs. search needs)
+    (λ c. search needs)
     returns
     shared-slice-read-header-length
-    header-length-requires
+    (λ c κs. search needs)
     sub-wide
     shared-slice-read-wide
-    wide-requires
+    (λ c κs. search needs)
     sub-gate-bytes
     gate-bytes-requires
     returns-2)

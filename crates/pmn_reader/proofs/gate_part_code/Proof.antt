@@ -12,9 +12,6 @@ use Rattle.pmn_reader.proofs.PartFiles.{Opened, opened, closed, not-gat
 use Rattle.pmn_reader.proofs.gate_part_code.Statement.{statement}
 use Rattle.pmn_reader.proofs.gate_part_code.Tie as tie
 
-read-requires : tie.Need-read-requires
-read-requires c κs = search needs
-
 -- the file that was read
 open-file : (c : tie.Else1) → Opened (c .before .before .before .args .file .now) (c .before .read .result)
 open-file c = opened (c .before .before .before .args .file .now) (c .before .read .ensures) (c .if1 .left)
@@ -50,4 +47,4 @@ returns-4 c =
     sym (ap codeOf (part-found (a .file .now) (a .signal) (o .net) (o .rest) bytes (o .reads) (is-true (isGate (o .net) (a .signal)) yes)))
 
 pub gate-part-code-spec : {M : Type 1} → statement M
-gate-part-code-spec = tie.close (tie.spec read-requires returns returns-2 returns-3 returns-4)
+gate-part-code-spec = tie.close (tie.spec (λ c κs. search needs) returns returns-2 returns-3 returns-4)

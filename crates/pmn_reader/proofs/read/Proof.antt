@@ -6,12 +6,6 @@ use Rattle.pmn_format.specs.AnsweredLaws.{by-refusal}
 use Rattle.pmn_reader.proofs.read.Statement.{statement}
 use Rattle.pmn_reader.proofs.read.Tie as tie
 
-read-head-requires : tie.Need-read-head-requires
-read-head-requires c κs = search needs
-
-refuse-requires : tie.Need-refuse-requires
-refuse-requires c κs = search needs
-
 returns : tie.Need-returns
 unfolding loaded
 returns c =
@@ -29,4 +23,4 @@ returns-2 c =
 
 pub read-spec : {M : Type 1} → statement M
 read-spec =
-    tie.close (tie.spec read-head-requires refuse-requires returns read-body-requires returns-2)
+    tie.close (tie.spec (λ c κs. search needs) (λ c κs. search needs) returns read-body-requires returns-2)

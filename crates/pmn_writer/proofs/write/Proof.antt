@@ -6,17 +6,8 @@ use Rattle.pmn_writer.specs.WriteAnswerLaws.{write-broken, written-refus
 use Rattle.pmn_writer.proofs.write.Statement.{statement}
 use Rattle.pmn_writer.proofs.write.Tie as tie
 
-is-sound-requires : tie.Need-is-sound-requires
-is-sound-requires c κs = search needs
-
 write-sound-requires : tie.Need-write-sound-requires
 write-sound-requires c κs = sym (c .before .before .is-sound .ensures) ∙ c .before .if1 .taken
-
-same-length : tie.Need-same-length
-same-length c = search needs
-
-returns : tie.Need-returns
-returns c = search needs
 
 returns-2 : tie.Need-returns-2
 returns-2 c =
@@ -26,4 +17,4 @@ returns-2 c =
 
 pub write-spec : {M : Type 1} → statement M
 write-spec =
-    tie.close (tie.spec is-sound-requires write-sound-requires same-length returns returns-2)
+    tie.close (tie.spec (λ c κs. search needs) write-sound-requires (λ c. search needs) (λ c. search needs) returns-2)

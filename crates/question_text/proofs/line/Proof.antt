@@ -31,15 +31,6 @@ comparable c = let a = c .before .before .before .before .before .before .args i
   same-counts = sym (c .before .are-alike .ensures) ∙ not-false _ (c .if2 .left);
 }
 
-is-sound-requires : tie.Need-is-sound-requires
-is-sound-requires c κs = search needs
-
-is-sound-requires-2 : tie.Need-is-sound-requires-2
-is-sound-requires-2 c κs = search needs
-
-refusal-requires : tie.Need-refusal-requires
-refusal-requires c κs = search needs
-
 returns : tie.Need-returns
 returns c =
     let tested = c .before .before in
@@ -47,12 +38,6 @@ returns c =
     let out = a .out .now in
     let gives = refused-gives out (broken (a .first) (a .second) (a .n) (length out) (sym (both tested) ∙ not-true _ (c .before .if1 .taken))) in
     (c .refusal .ensures ∙ gives .0, gives .1)
-
-are-alike-requires : tie.Need-are-alike-requires
-are-alike-requires c κs = search needs
-
-refusal-requires-2 : tie.Need-refusal-requires-2
-refusal-requires-2 c κs = search needs
 
 returns-2 : tie.Need-returns-2
 returns-2 c =
@@ -65,9 +50,6 @@ returns-2 c =
 
 line-count-requires : tie.Need-line-count-requires
 line-count-requires c κs = comparable c
-
-refusal-requires-3 : tie.Need-refusal-requires-3
-refusal-requires-3 c κs = search needs
 
 returns-3 : tie.Need-returns-3
 returns-3 c =
@@ -86,9 +68,6 @@ write-line-requires c κs =
     let h = c .before .if3 .left in
     record { pair = comparable (counted .before); within = omega (arith, counted .line-count .ensures) }
 
-same-length : tie.Need-same-length
-same-length c = search needs
-
 returns-4 : tie.Need-returns-4
 returns-4 c = c .before .before .write-line .ensures
 
@@ -96,16 +75,16 @@ pub line-spec : {M : Type 1} → statement M
 line-spec =
     tie.close
     (tie.spec
-    is-sound-requires
-    is-sound-requires-2
-    refusal-requires
+    (λ c κs. search needs)
+    (λ c κs. search needs)
+    (λ c κs. search needs)
     returns
-    are-alike-requires
-    refusal-requires-2
+    (λ c κs. search needs)
+    (λ c κs. search needs)
     returns-2
     line-count-requires
-    refusal-requires-3
+    (λ c κs. search needs)
     returns-3
     write-line-requires
-    same-length
+    (λ c. search needs)
     returns-4)

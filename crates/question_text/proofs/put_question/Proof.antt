@@ -48,9 +48,6 @@ put-header-requires c κs =
       start .pre .1,
     )
 
-same-length : tie.Need-same-length
-same-length c = search needs
-
 returns : tie.Need-returns
 returns c =
     let done = c .before .before in
@@ -76,9 +73,6 @@ put-line-requires c κs =
       start .pre .1,
     )
 
-same-length-2 : tie.Need-same-length-2
-same-length-2 c = search needs
-
 returns-2 : tie.Need-returns-2
 returns-2 c =
     let done = c .before .before in
@@ -96,10 +90,10 @@ put-question-spec =
     add-variables-2
     add-variables-3
     put-header-requires
-    same-length
+    (λ c. search needs)
     returns
     sub-question-line
     question-line-requires
     put-line-requires
-    same-length-2
+    (λ c. search needs)
     returns-2)

@@ -29,14 +29,8 @@ within c =
     let h : c .put-question .result ≤ 254 = omega (arith, p .long, text-short (start .pre .pair) (start .args .n) (start .pre .within)) in
     omega (arith, put-length p h)
 
-slice-aggregate-put-question : tie.Need-slice-aggregate-put-question
-slice-aggregate-put-question c = search needs
-
 put-question-requires : tie.Need-put-question-requires
 put-question-requires c κs = (c .before .before .pre, omega arith)
-
-refusal-requires : tie.Need-refusal-requires
-refusal-requires c κs = search needs
 
 returns : tie.Need-returns
 returns c =
@@ -58,9 +52,6 @@ put-bytes-requires : tie.Need-put-bytes-requires
 put-bytes-requires c κs = let done = c .before .before .before .before in
     omega (arith, ap length (text-is done), done .put-question .ensures .long, c .before .before .if1 .left)
 
-same-length : tie.Need-same-length
-same-length c = search needs
-
 returns-2 : tie.Need-returns-2
 returns-2 c =
     let copied = c .before .before in
@@ -81,12 +72,12 @@ pub write-line-spec : {M : Type 1} → statement M
 write-line-spec =
     tie.close
     (tie.spec
-    slice-aggregate-put-question
+    (λ c. search needs)
     put-question-requires
-    refusal-requires
+    (λ c κs. search needs)
     returns
     array-share-prefix-text
     slice-aggregate-put-bytes
     put-bytes-requires
-    same-length
+    (λ c. search needs)
     returns-2)

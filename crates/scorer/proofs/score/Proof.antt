@@ -10,12 +10,6 @@ use Rattle.scorer.specs.Answers.{scoring}
 use Rattle.scorer.proofs.score.Statement.{statement}
 use Rattle.scorer.proofs.score.Tie as tie
 
-is-sound-requires : tie.Need-is-sound-requires
-is-sound-requires c κs = search needs
-
-refused-requires : tie.Need-refused-requires
-refused-requires c κs = search needs
-
 returns : tie.Need-returns
 unfolding scoring
 returns c =
@@ -35,4 +29,4 @@ returns-2 c =
 
 pub score-spec : {M : Type 1} → statement M
 score-spec =
-    tie.close (tie.spec is-sound-requires refused-requires returns score-sound-requires returns-2)
+    tie.close (tie.spec (λ c κs. search needs) (λ c κs. search needs) returns score-sound-requires returns-2)

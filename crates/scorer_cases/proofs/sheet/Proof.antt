@@ -9,17 +9,5 @@ use Rattle.scorer_cases.proofs.sheet.Tie as tie
 slice-aggregate-score : tie.Need-slice-aggregate-score
 slice-aggregate-score c = let a = c .before .before .before .args in sym (length-take-le (a .balls) (a .frames .now) (omega arith))
 
-score-requires : tie.Need-score-requires
-score-requires c κs = search needs
-
-sheet-requires : tie.Need-sheet-requires
-sheet-requires c κs = search needs
-
-returns : tie.Need-returns
-returns c = search needs
-
-returns-2 : tie.Need-returns-2
-returns-2 c = search needs
-
 pub sheet-spec : {M : Type 1} → statement M
-sheet-spec = tie.close (tie.spec slice-aggregate-score score-requires sheet-requires returns returns-2)
+sheet-spec = tie.close (tie.spec slice-aggregate-score (λ c κs. search needs) (λ c κs. search needs) (λ c. search needs) (λ c. search needs))

@@ -34,9 +34,6 @@ number-requires-4 : tie.Need-number-requires-4
 unfolding numbersOfAll tableEntries entryNumbers
 number-requires-4 c κs = search needs
 
-has-gate-requires : tie.Need-has-gate-requires
-has-gate-requires c κs = search needs
-
 -- where the third and the first number are read, and the start
 abbrev at-third : tie.After-has-gate → tie.After-number3
 at-third c = c .before .before .before
@@ -122,7 +119,7 @@ entry-spec =
     number-requires-2
     number-requires-3
     number-requires-4
-    has-gate-requires
+    (λ c κs. search needs)
     returns
     cast-t13
     cast-t14

@@ -13,18 +13,6 @@ use Rattle.three_feeds.specs.TableLaws.{numbersOfAll}
 use Rattle.three_feeds.proofs.number.Statement.{statement}
 use Rattle.three_feeds.proofs.number.Tie as tie
 
-wide-requires : tie.Need-wide-requires
-wide-requires c κs = search needs
-
-mul-result : tie.Need-mul-result
-mul-result c = search needs
-
-add-result : tie.Need-add-result
-add-result c = search needs
-
-element-copy-out-result : tie.Need-element-copy-out-result
-element-copy-out-result c = search needs
-
 -- the number read
 abbrev read : tie.After-result → ℤ
 read c = let a = c .before .before .args in getD (a .numbers .now) (4 * c .before .wide .result + a .place) (pos 0)
@@ -45,4 +33,4 @@ returns c =
 pub number-spec : {M : Type 1} → statement M
 number-spec =
     tie.close
-    (tie.spec wide-requires mul-result add-result element-copy-out-result cast-result returns)
+    (tie.spec (λ c κs. search needs) (λ c. search needs) (λ c. search needs) (λ c. search needs) cast-result returns)

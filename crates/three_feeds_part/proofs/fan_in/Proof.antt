@@ -7,9 +7,6 @@ use Rattle.network.specs.Limits.{isZero}
 use Rattle.three_feeds_part.proofs.fan_in.Statement.{statement}
 use Rattle.three_feeds_part.proofs.fan_in.Tie as tie
 
-is-zero-requires : tie.Need-is-zero-requires
-is-zero-requires c κs = search needs
-
 zero-is : (c : tie.After-is-zero) → isZero (c .before .args .weight) ≡ c .is-zero .result
 zero-is c = sym (c .is-zero .ensures ∙ ap isZero (toZ-ofZ (c .before .fits .weight)))
 
@@ -20,4 +17,4 @@ returns-2 : tie.Need-returns-2
 returns-2 c = (rw (zero-is (c .before) ∙ c .if1 .left) refl, omega arith)
 
 pub fan-in-spec : {M : Type 1} → statement M
-fan-in-spec = tie.close (tie.spec is-zero-requires returns returns-2)
+fan-in-spec = tie.close (tie.spec (λ c κs. search needs) returns returns-2)

@@ -13,18 +13,6 @@ use Rattle.three_feeds_part.specs.PartLaws.{row-length, no-room, has-roo
 use Rattle.three_feeds_part.proofs.put_in.Statement.{statement}
 use Rattle.three_feeds_part.proofs.put_in.Tie as tie
 
-gate-on-requires : tie.Need-gate-on-requires
-gate-on-requires c κs = search needs
-
-wide-requires : tie.Need-wide-requires
-wide-requires c κs = search needs
-
-mul-if1 : tie.Need-mul-if1
-mul-if1 c = search needs
-
-add-if1 : tie.Need-add-if1
-add-if1 c = search needs
-
 -- the gate
 abbrev gateOf : tie.After-gate-on → Gate
 gateOf c = let a = c .before .before .args in gateOnSignals (a .i) (a .j) (a .k) (a .a) (a .b) (a .c) (a .threshold)
@@ -46,12 +34,6 @@ returns c =
     let out = c .before .before .before .before .args .out .now in
     no-room (gateOf (c .before .before)) out (subst (λ (n : ℕ). length out < n) (room-is (c .before)) (c .if1 .taken))
 
-put-gate-requires : tie.Need-put-gate-requires
-put-gate-requires c κs = search needs
-
-same-length : tie.Need-same-length
-same-length c = search needs
-
 returns-2 : tie.Need-returns-2
 returns-2 c =
     let done = c .before .before .put-gate in
@@ -67,11 +49,11 @@ pub put-in-spec : {M : Type 1} → statement M
 put-in-spec =
     tie.close
     (tie.spec
-    gate-on-requires
-    wide-requires
-    mul-if1
-    add-if1
+    (λ c κs. search needs)
+    (λ c κs. search needs)
+    (λ c. search needs)
+    (λ c. search needs)
     returns
-    put-gate-requires
-    same-length
+    (λ c κs. search needs)
+    (λ c. search needs)
     returns-2)

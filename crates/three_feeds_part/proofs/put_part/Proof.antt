@@ -15,18 +15,6 @@ returns c = let a = c .before .before .args in first-crossed (a .table) (a .i) (
 returns-2 : tie.Need-returns-2
 returns-2 c = let a = c .before .before .before .args in second-crossed (a .table) (a .i) (a .j) (a .k) (a .out .now) (omega arith)
 
-entry-requires : tie.Need-entry-requires
-entry-requires c κs = search needs
-
-enum-known-found : tie.Need-enum-known-found
-enum-known-found c = search needs
-
-enum-known-found-2 : tie.Need-enum-known-found-2
-enum-known-found-2 c = search needs
-
-put-in-requires : tie.Need-put-in-requires
-put-in-requires c κs = search needs
-
 returns-3 : tie.Need-returns-3
 returns-3 c =
     let entry = c .before .before .before in
@@ -34,9 +22,6 @@ returns-3 c =
     let a = rising .before .before .before .args in
     settings-answered (a .table) (a .i) (a .j) (a .k) (a .out .now) (rising .before .if1 .left) (rising .if2 .left) (entry .entry .ensures .0)
     (c .before .found .given .1)
-
-same-length : tie.Need-same-length
-same-length c = search needs
 
 returns-4 : tie.Need-returns-4
 returns-4 c =
@@ -60,10 +45,10 @@ put-part-spec =
     (tie.spec
     returns
     returns-2
-    entry-requires
-    enum-known-found
-    enum-known-found-2
-    put-in-requires
+    (λ c κs. search needs)
+    (λ c. search needs)
+    (λ c. search needs)
+    (λ c κs. search needs)
     returns-3
-    same-length
+    (λ c. search needs)
     returns-4)

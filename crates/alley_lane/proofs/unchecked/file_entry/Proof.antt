@@ -19,14 +19,8 @@ made c h =
     let file = s .before .args .file .now in
     entry-made (whole file) (bytes-of file (λ i. s .shared-slice-known .given i .fits)) h
 
-read-requires : tie.Need-read-requires
-read-requires c κs = search needs
-
 refusal-requires : tie.Need-refusal-requires
 refusal-requires c κs = (λ i. c .before .shared-slice-known .given i .fits, c .read .ensures)
-
-refused-entry-requires : tie.Need-refused-entry-requires
-refused-entry-requires c κs = search needs
 
 returns : tie.Need-returns
 returns c = let o = c .before .before in made o (c .refused-entry .ensures ∙ refused-file (o .refusal .ensures) (c .before .if1 .taken))
@@ -38,4 +32,4 @@ returns-2 : tie.Need-returns-2
 returns-2 c = let o = c .before .before in made o (read-file (o .refusal .ensures) (c .before .if1 .left) (c .size-of .ensures))
 
 pub file-entry-spec : {M : Type 1} → statement M
-file-entry-spec = tie.close (tie.spec read-requires refusal-requires refused-entry-requires returns size-of-requires returns-2)
+file-entry-spec = tie.close (tie.spec (λ c κs. search needs) refusal-requires (λ c κs. search needs) returns size-of-requires returns-2)

@@ -9,9 +9,6 @@ use Rattle.alley_theory.specs.EntryLaws.{entry-made}
 use Rattle.alley_lane.proofs.unchecked.lane_entry.Statement.{statement}
 use Rattle.alley_lane.proofs.unchecked.lane_entry.Tie as tie
 
-refused-entry-requires : tie.Need-refused-entry-requires
-refused-entry-requires c κs = search needs
-
 returns : tie.Need-returns
 unfolding laneEntry
 returns c =
@@ -28,12 +25,6 @@ sub-file-entry c = omega (arith, c .before .before .before .pre .long (complete 
 part-file-entry-start : tie.Need-part-file-entry-start
 part-file-entry-start c = omega (arith, c .before .before .before .pre .long (complete c))
 
-part-file-entry-end : tie.Need-part-file-entry-end
-part-file-entry-end c = search needs
-
-file-entry-requires : tie.Need-file-entry-requires
-file-entry-requires c κs = search needs
-
 returns-2 : tie.Need-returns-2
 returns-2 c = rw (complete (c .before .before)) (c .file-entry .ensures)
 
@@ -41,10 +32,10 @@ pub lane-entry-spec : {M : Type 1} → statement M
 lane-entry-spec =
     tie.close
     (tie.spec
-    refused-entry-requires
+    (λ c κs. search needs)
     returns
     sub-file-entry
     part-file-entry-start
-    part-file-entry-end
-    file-entry-requires
+    (λ c. search needs)
+    (λ c κs. search needs)
     returns-2)

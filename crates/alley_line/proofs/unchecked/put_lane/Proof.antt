@@ -59,15 +59,6 @@ sub-put-last c = omega (arith, first-long (c .before .before .before), refused-r
 part-put-last-start : tie.Need-part-put-last-start
 part-put-last-start c = omega (arith, first-long (c .before .before .before), refused-room c)
 
-part-put-last-end : tie.Need-part-put-last-end
-part-put-last-end c = search needs
-
-slice-aggregate-put-last : tie.Need-slice-aggregate-put-last
-slice-aggregate-put-last c = search needs
-
-cast-put-last : tie.Need-cast-put-last
-cast-put-last c = search needs
-
 put-last-requires : tie.Need-put-last-requires
 put-last-requires c κs =
     let at-then = c .before .before in
@@ -118,12 +109,6 @@ sub-put-size c = omega (arith, first-long (c .before .before .before), size-room
 part-put-size-start : tie.Need-part-put-size-start
 part-put-size-start c = omega (arith, first-long (c .before .before .before), size-room c)
 
-part-put-size-end : tie.Need-part-put-size-end
-part-put-size-end c = search needs
-
-slice-aggregate-put-size : tie.Need-slice-aggregate-put-size
-slice-aggregate-put-size c = search needs
-
 put-size-requires : tie.Need-put-size-requires
 put-size-requires c κs =
     let at-else = c .before .before in
@@ -160,17 +145,17 @@ put-lane-spec =
     put-decimal-requires
     sub-put-last
     part-put-last-start
-    part-put-last-end
-    slice-aggregate-put-last
-    cast-put-last
+    (λ c. search needs)
+    (λ c. search needs)
+    (λ c. search needs)
     put-last-requires
     add-result
     same-length
     returns
     sub-put-size
     part-put-size-start
-    part-put-size-end
-    slice-aggregate-put-size
+    (λ c. search needs)
+    (λ c. search needs)
     put-size-requires
     add-result-2
     same-length-2

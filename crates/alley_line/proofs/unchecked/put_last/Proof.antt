@@ -14,9 +14,6 @@ room c =
     let start = c .before .before .before .before in
     omega (arith, c .put-number .ensures .long, length-append (start .args .word .now) (decimal (start .args .n)), start .pre)
 
-put-number-requires : tie.Need-put-number-requires
-put-number-requires c κs = search needs
-
 slice-write-out : tie.Need-slice-write-out
 slice-write-out c = let done = c .before .before in let h = room done in omega (arith, put-length (done .put-number .ensures) (omega arith))
 
@@ -30,4 +27,4 @@ same-length : tie.Need-same-length
 same-length c = let h = room (c .before .before) in put-length (returns c) (omega arith)
 
 pub put-last-spec : {M : Type 1} → statement M
-put-last-spec = tie.close (tie.spec put-number-requires slice-write-out add-result same-length returns)
+put-last-spec = tie.close (tie.spec (λ c κs. search needs) slice-write-out add-result same-length returns)

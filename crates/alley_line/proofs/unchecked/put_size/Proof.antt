@@ -34,12 +34,6 @@ sub-put-last c = let done = c .before .before in omega (arith, first-long done, 
 part-put-last-start : tie.Need-part-put-last-start
 part-put-last-start c = let done = c .before .before in omega (arith, first-long done, first-room done)
 
-part-put-last-end : tie.Need-part-put-last-end
-part-put-last-end c = search needs
-
-slice-aggregate-put-last : tie.Need-slice-aggregate-put-last
-slice-aggregate-put-last c = search needs
-
 put-last-requires : tie.Need-put-last-requires
 put-last-requires c κs =
     let done = c .before .before .before .before in
@@ -76,8 +70,8 @@ put-size-spec =
     put-number-requires
     sub-put-last
     part-put-last-start
-    part-put-last-end
-    slice-aggregate-put-last
+    (λ c. search needs)
+    (λ c. search needs)
     put-last-requires
     add-result
     same-length

@@ -13,14 +13,8 @@ use Rattle.alley_line.proofs.unchecked.put_total.Tie as tie
 short : (c : tie.Start) → length (sizeText (sizeWith (c .args .gates) (c .args .cost))) ≤ 42
 short c = size-short (sizeWith (c .args .gates) (c .args .cost)) (c .fits .gates .fits) (c .fits .cost .fits)
 
-slice-aggregate-put-size : tie.Need-slice-aggregate-put-size
-slice-aggregate-put-size c = search needs
-
 put-size-requires : tie.Need-put-size-requires
 put-size-requires c κs = let start = c .before .before .before in omega (arith, short start, start .pre)
-
-same-length : tie.Need-same-length
-same-length c = search needs
 
 returns : tie.Need-returns
 unfolding totalText totalWord
@@ -29,4 +23,4 @@ returns c =
     (done .put-size .ensures, omega (arith, done .put-size .ensures .long, short (done .before .before .before .before)))
 
 pub put-total-spec : {M : Type 1} → statement M
-put-total-spec = tie.close (tie.spec slice-aggregate-put-size put-size-requires same-length returns)
+put-total-spec = tie.close (tie.spec (λ c. search needs) put-size-requires (λ c. search needs) returns)

@@ -6,9 +6,6 @@ use Rattle.alley_theory.specs.StepLaws.{sound-bounds}
 use Rattle.alley_sheet.proofs.unchecked.with_entry.Statement.{statement}
 use Rattle.alley_sheet.proofs.unchecked.with_entry.Tie as tie
 
-add-lanes : tie.Need-add-lanes
-add-lanes c = search needs
-
 returns : tie.Need-returns
 returns c = let a = c .before .before .before .args in with-refused (a .totals) (a .entry) (c .if1 .taken)
 
@@ -32,4 +29,4 @@ returns-2 c =
     with-size (a .totals) (a .entry) (at-else .if1 .left)
 
 pub with-entry-spec : {M : Type 1} → statement M
-with-entry-spec = tie.close (tie.spec add-lanes returns add-t5 add-t6 returns-2)
+with-entry-spec = tie.close (tie.spec (λ c. search needs) returns add-t5 add-t6 returns-2)

@@ -47,18 +47,6 @@ within c =
     ) in
     omega (arith, put-length p h)
 
-slice-aggregate-put-lane : tie.Need-slice-aggregate-put-lane
-slice-aggregate-put-lane c = search needs
-
-add-put-lane : tie.Need-add-put-lane
-add-put-lane c = search needs
-
-put-lane-requires : tie.Need-put-lane-requires
-put-lane-requires c κs = search needs
-
-none-listed-requires : tie.Need-none-listed-requires
-none-listed-requires c κs = search needs
-
 returns : tie.Need-returns
 returns c =
     let done = c .before .before .before in
@@ -86,9 +74,6 @@ with-entry-requires c κs =
     let done = c .before .before .before .before .before .before in
     let start = done .before .before .before .before .before in
     (start .pre .0, start .pre .1)
-
-same-length : tie.Need-same-length
-same-length c = search needs
 
 -- what is answered of a line of so many bytes
 answer : (t : Totals) (n : ℕ) (e : Entry) (k : ℕ) (after : Totals) → asEntry (entryIn e) ≡ e → length (laneText (t .lanes + 1) (entryIn e)) ≡ k
@@ -122,14 +107,14 @@ pub write-lane-spec : {M : Type 1} → statement M
 write-lane-spec =
     tie.close
     (tie.spec
-    slice-aggregate-put-lane
-    add-put-lane
-    put-lane-requires
-    none-listed-requires
+    (λ c. search needs)
+    (λ c. search needs)
+    (λ c κs. search needs)
+    (λ c κs. search needs)
     returns
     array-share-prefix-text
     slice-aggregate-put-bytes
     put-bytes-requires
     with-entry-requires
-    same-length
+    (λ c. search needs)
     returns-2)

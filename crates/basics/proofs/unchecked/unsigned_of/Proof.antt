@@ -10,8 +10,6 @@ use mir.Facts.{toZ-ofZ}
 use Rattle.basics.proofs.Signs.{Plain, plain, Below, below}
 use Rattle.basics.proofs.unchecked.unsigned_of.Statement.{statement}
 use Rattle.basics.proofs.unchecked.unsigned_of.Tie as tie
-use Rattle.basics.proofs.unchecked.unsigned_of.Reads as reads
-use Rattle.basics.proofs.unchecked.unsigned_of.Lts as lts
 
 same-z : (c : tie.Start) → toZ w32 (ofZ w32 (c .args .z)) ≡ c .args .z
 same-z c = toZ-ofZ (c .fits .z)

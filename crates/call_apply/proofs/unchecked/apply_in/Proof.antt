@@ -54,43 +54,22 @@ at-undo c =
     let at-drivers = c .before .before .before .before .before .before in
     at-drivers .before .before .before .before .before
 
-enum-known-call : tie.Need-enum-known-call
-enum-known-call c = search needs
-
 merge-in-requires : tie.Need-merge-in-requires
 merge-in-requires c κs = at-merge c .before .before .pre
-
-enum-known-call-2 : tie.Need-enum-known-call-2
-enum-known-call-2 c = search needs
 
 drop-in-requires : tie.Need-drop-in-requires
 drop-in-requires c κs = at-drop c .before .before .pre
 
-enum-known-call-3 : tie.Need-enum-known-call-3
-enum-known-call-3 c = search needs
-
 collapse-in-requires : tie.Need-collapse-in-requires
 collapse-in-requires c κs = at-collapse c .before .before .pre
 
-enum-known-call-4 : tie.Need-enum-known-call-4
-enum-known-call-4 c = search needs
-
 sweep-in-requires : tie.Need-sweep-in-requires
 sweep-in-requires c κs = at-sweep c .before .before .pre
-
-enum-known-call-5 : tie.Need-enum-known-call-5
-enum-known-call-5 c = search needs
 
 preview-at-requires : tie.Need-preview-at-requires
 preview-at-requires c κs =
     let s = at-preview c .before .before in
     (s .pre .lengths, whole-network (held s) (s .pre .whole))
-
-shown-requires : tie.Need-shown-requires
-shown-requires c κs = search needs
-
-enum-told : tie.Need-enum-told
-enum-told c = search needs
 
 undo-in-requires : tie.Need-undo-in-requires
 undo-in-requires c κs = at-undo c .before .before .pre
@@ -123,18 +102,18 @@ pub apply-in-spec : {M : Type 1} → statement M
 apply-in-spec =
     tie.close
     (tie.spec
-    enum-known-call
+    (λ c. search needs)
     merge-in-requires
-    enum-known-call-2
+    (λ c. search needs)
     drop-in-requires
-    enum-known-call-3
+    (λ c. search needs)
     collapse-in-requires
-    enum-known-call-4
+    (λ c. search needs)
     sweep-in-requires
-    enum-known-call-5
+    (λ c. search needs)
     preview-at-requires
-    shown-requires
-    enum-told
+    (λ c κs. search needs)
+    (λ c. search needs)
     undo-in-requires
     returns
     returns-2

@@ -37,9 +37,6 @@ number c = let s = start-of (c .before) in gate-number (held s .network) (s .arg
 collapse-pairs-requires : tie.Need-collapse-pairs-requires
 collapse-pairs-requires c κs = let s = c .before .before .before .before .before in whole-network (held s) (s .pre .whole)
 
-call-left-requires : tie.Need-call-left-requires
-call-left-requires c κs = search needs
-
 returns : tie.Need-returns
 returns c =
     let tried = c .before .before in
@@ -52,9 +49,6 @@ collapse-entered-requires c κs = let else = else-of c in (start-of (else .befor
 
 sub-call-left : tie.Need-sub-call-left
 sub-call-left c = omega (arith, number (else-of (c .before .before)))
-
-call-left-requires-2 : tie.Need-call-left-requires-2
-call-left-requires-2 c κs = search needs
 
 returns-2 : tie.Need-returns-2
 returns-2 c =
@@ -70,9 +64,9 @@ collapse-in-spec =
     tie.close
     (tie.spec
     collapse-pairs-requires
-    call-left-requires
+    (λ c κs. search needs)
     returns
     collapse-entered-requires
     sub-call-left
-    call-left-requires-2
+    (λ c κs. search needs)
     returns-2)

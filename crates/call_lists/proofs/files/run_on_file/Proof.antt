@@ -14,9 +14,6 @@ use Rattle.call_lists.specs.FileLaws.{RunLeft, run-refused, read-holds, 
 use Rattle.call_lists.proofs.files.run_on_file.Statement.{statement}
 use Rattle.call_lists.proofs.files.run_on_file.Tie as tie
 
-read-requires : tie.Need-read-requires
-read-requires c κs = search needs
-
 refusal-requires : tie.Need-refusal-requires
 refusal-requires c κs = (λ i. c .before .before .before .before .shared-slice-known .given i .fits, c .read .ensures)
 
@@ -42,9 +39,6 @@ formed : (c : tie.Else2) → let at-read = c .before .before .before .before in
     wellFormed (at-read .before .before .before .before .before .args .calls .now) ≡ true
 formed c = sym (c .before .is-well-formed .ensures) ∙ not-false _ (c .if2 .left)
 
-is-well-formed-requires : tie.Need-is-well-formed-requires
-is-well-formed-requires c κs = search needs
-
 returns-2 : tie.Need-returns-2
 returns-2 c =
     let s = c .before .before in
@@ -52,12 +46,6 @@ returns-2 c =
     let a = at-read .before .before .before .before .before .args in
     let e = sym (c .before .is-well-formed .ensures) ∙ not-true _ (c .if2 .taken) in
     left refl (run-refused (a .answers .now) (a .out .now) (run-unformed (file-open s) (a .calls .now) (a .answers .now) (a .out .now) e))
-
-mul-if3 : tie.Need-mul-if3
-mul-if3 c = search needs
-
-add-if3 : tie.Need-add-if3
-add-if3 c = search needs
 
 returns-3 : tie.Need-returns-3
 returns-3 c =
@@ -97,12 +85,6 @@ put-file-requires c κs =
     let a = at-read .before .before .before .before .before .args in
     (after-list-sound (read-holds (file-open s)) (callsIn (a .calls .now)) (at-run .run-storing .ensures .0), search needs)
 
-same-length : tie.Need-same-length
-same-length c = search needs
-
-same-length-2 : tie.Need-same-length-2
-same-length-2 c = search needs
-
 returns-5 : tie.Need-returns-5
 returns-5 c =
     let at-put = c .before .before .before .before in
@@ -123,18 +105,18 @@ pub run-on-file-spec : {M : Type 1} → statement M
 run-on-file-spec =
     tie.close
     (tie.spec
-    read-requires
+    (λ c κs. search needs)
     refusal-requires
     returns
-    is-well-formed-requires
+    (λ c κs. search needs)
     returns-2
-    mul-if3
-    add-if3
+    (λ c. search needs)
+    (λ c. search needs)
     returns-3
     has-room-requires
     returns-4
     run-storing-requires
     put-file-requires
-    same-length
-    same-length-2
+    (λ c. search needs)
+    (λ c. search needs)
     returns-5)

@@ -8,51 +8,6 @@ use Rattle.call_lists.specs.RunLaws.{undo-call}
 use Rattle.call_lists.proofs.unchecked.call_at.Statement.{statement}
 use Rattle.call_lists.proofs.unchecked.call_at.Tie as tie
 
-mul-at : tie.Need-mul-at
-mul-at c = search needs
-
-mul-kind : tie.Need-mul-kind
-mul-kind c = search needs
-
-shared-slice-read-kind : tie.Need-shared-slice-read-kind
-shared-slice-read-kind c = search needs
-
-add-a : tie.Need-add-a
-add-a c = search needs
-
-mul-a : tie.Need-mul-a
-mul-a c = search needs
-
-shared-slice-read-a : tie.Need-shared-slice-read-a
-shared-slice-read-a c = search needs
-
-add-b : tie.Need-add-b
-add-b c = search needs
-
-mul-b : tie.Need-mul-b
-mul-b c = search needs
-
-shared-slice-read-b : tie.Need-shared-slice-read-b
-shared-slice-read-b c = search needs
-
-add-c : tie.Need-add-c
-add-c c = search needs
-
-mul-c : tie.Need-mul-c
-mul-c c = search needs
-
-shared-slice-read-c : tie.Need-shared-slice-read-c
-shared-slice-read-c c = search needs
-
-add-d : tie.Need-add-d
-add-d c = search needs
-
-mul-d : tie.Need-mul-d
-mul-d c = search needs
-
-shared-slice-read-d : tie.Need-shared-slice-read-d
-shared-slice-read-d c = search needs
-
 returns : tie.Need-returns
 unfolding callOf
 returns c = rw (c .match .keys1)
@@ -86,21 +41,21 @@ pub call-at-spec : {M : Type 1} → statement M
 call-at-spec =
     tie.close
     (tie.spec
-    mul-at
-    mul-kind
-    shared-slice-read-kind
-    add-a
-    mul-a
-    shared-slice-read-a
-    add-b
-    mul-b
-    shared-slice-read-b
-    add-c
-    mul-c
-    shared-slice-read-c
-    add-d
-    mul-d
-    shared-slice-read-d
+    (λ c. search needs)
+    (λ c. search needs)
+    (λ c. search needs)
+    (λ c. search needs)
+    (λ c. search needs)
+    (λ c. search needs)
+    (λ c. search needs)
+    (λ c. search needs)
+    (λ c. search needs)
+    (λ c. search needs)
+    (λ c. search needs)
+    (λ c. search needs)
+    (λ c. search needs)
+    (λ c. search needs)
+    (λ c. search needs)
     returns
     returns-2
     returns-3

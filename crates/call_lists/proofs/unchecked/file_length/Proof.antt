@@ -4,16 +4,10 @@ use Rattle.call_lists.specs.RunLaws.{length-written}
 use Rattle.call_lists.proofs.unchecked.file_length.Statement.{statement}
 use Rattle.call_lists.proofs.unchecked.file_length.Tie as tie
 
-slice-aggregate-write : tie.Need-slice-aggregate-write
-slice-aggregate-write c = search needs
-
-write-requires : tie.Need-write-requires
-write-requires c κs = search needs
-
 returns : tie.Need-returns
 returns c =
     let s = c .before .before .before in
     length-written (s .args .network) (s .pre) _ (search needs) (c .before .write .ensures .0)
 
 pub file-length-spec : {M : Type 1} → statement M
-file-length-spec = tie.close (tie.spec slice-aggregate-write write-requires returns)
+file-length-spec = tie.close (tie.spec (λ c. search needs) (λ c κs. search needs) returns)

@@ -25,9 +25,6 @@ returns c =
     let N = netAfter (netOf (s .args .network)) cs in
     sym (le-leb (length (fileBytes N)) (s .args .room) (omega (arith, longest N (after-sound (s .args .network) (s .pre .0) cs))))
 
-run-requires : tie.Need-run-requires
-run-requires c κs = search needs
-
 file-length-requires : tie.Need-file-length-requires
 file-length-requires c κs =
     let s = c .before .before .before in
@@ -46,4 +43,4 @@ returns-2 c =
     ap (λ (n : ℕ). leb n (s .args .room)) e
 
 pub has-room-spec : {M : Type 1} → statement M
-has-room-spec = tie.close (tie.spec returns run-requires file-length-requires returns-2)
+has-room-spec = tie.close (tie.spec returns (λ c κs. search needs) file-length-requires returns-2)

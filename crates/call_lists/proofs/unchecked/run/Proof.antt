@@ -60,9 +60,6 @@ step-in-requires c κs = let turn = turn-of c in (turn .before .loop .inv .1 .ca
 add-i : tie.Need-add-i Inv-loop μ-loop
 add-i c = let turn = turn-of (c .before) in omega (arith, turn .loop-test .taken, few (start-of (turn .before .before)))
 
-loop-less : tie.Need-loop-less Inv-loop μ-loop
-loop-less c = search needs
-
 loop-again : tie.Need-loop-again Inv-loop μ-loop
 loop-again c =
     let turn = turn-of (c .before) in
@@ -84,4 +81,4 @@ returns c =
 pub run-spec : {M : Type 1} → statement M
 run-spec =
     tie.close
-    (tie.spec Inv-loop μ-loop loop-holds step-in-requires add-i loop-less loop-again returns)
+    (tie.spec Inv-loop μ-loop loop-holds step-in-requires add-i (λ c. search needs) loop-again returns)

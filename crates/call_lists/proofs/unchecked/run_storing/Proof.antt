@@ -83,9 +83,6 @@ add-i c =
     let turn = turn-of (c .before .before .before .before .before .before) in
     omega (arith, turn .loop-test .taken, few (start-of (turn .before .before)))
 
-loop-less : tie.Need-loop-less Inv-loop μ-loop
-loop-less c = search needs
-
 loop-again : tie.Need-loop-again Inv-loop μ-loop
 loop-again c =
     let turn = turn-of (c .before .before .before .before .before .before) in
@@ -130,7 +127,7 @@ run-storing-spec =
     add-put-four
     put-four-requires
     add-i
-    loop-less
+    (λ c. search needs)
     loop-again
     same-length
     returns)

@@ -21,9 +21,6 @@ at-call c =
     let at-drivers = c .before .before .before .before .before .before in
     at-drivers .before .before .before .before .before
 
-call-at-requires : tie.Need-call-at-requires
-call-at-requires c κs = search needs
-
 apply-in-requires : tie.Need-apply-in-requires
 apply-in-requires c κs =
     let s = at-call c .before .before in
@@ -36,4 +33,4 @@ returns c =
     step-done (held s) (s .pre .0) _ (c .apply-in .ensures ∙ ap (applied (held s)) (called .call-at .ensures))
 
 pub step-in-spec : {M : Type 1} → statement M
-step-in-spec = tie.close (tie.spec call-at-requires apply-in-requires returns)
+step-in-spec = tie.close (tie.spec (λ c κs. search needs) apply-in-requires returns)

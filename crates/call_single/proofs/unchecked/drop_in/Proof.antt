@@ -54,9 +54,6 @@ number c =
 drop-code-requires : tie.Need-drop-code-requires
 drop-code-requires c κs = network-sound (c .before .before .before .before .before)
 
-call-left-requires : tie.Need-call-left-requires
-call-left-requires c κs = search needs
-
 returns : tie.Need-returns
 returns c =
     let tried = c .before .before in
@@ -84,12 +81,6 @@ sub-call-left c =
     let entered = removed .before .before .before .before .before .before in
     omega (arith, number (else-of (entered .before)))
 
-one-more-requires : tie.Need-one-more-requires
-one-more-requires c κs = search needs
-
-call-left-requires-2 : tie.Need-call-left-requires-2
-call-left-requires-2 c κs = search needs
-
 returns-2 : tie.Need-returns-2
 returns-2 c =
     let removed = c .before .before .before in
@@ -113,13 +104,13 @@ drop-in-spec =
     tie.close
     (tie.spec
     drop-code-requires
-    call-left-requires
+    (λ c κs. search needs)
     returns
     sub-g
     cast-enter-gate
     enter-gate-requires
     remove-places-requires
     sub-call-left
-    one-more-requires
-    call-left-requires-2
+    (λ c κs. search needs)
+    (λ c κs. search needs)
     returns-2)

@@ -54,9 +54,6 @@ number c =
 merged-at-requires : tie.Need-merged-at-requires
 merged-at-requires c κs = network-sound (c .before .before .before .before)
 
-call-left-requires : tie.Need-call-left-requires
-call-left-requires c κs = search needs
-
 returns : tie.Need-returns
 returns c =
     let tried = c .before .before in
@@ -76,12 +73,6 @@ enter-gate-requires c κs = omega (arith, number (else-of c))
 
 store-gate-requires : tie.Need-store-gate-requires
 store-gate-requires c κs = omega (arith, number (else-of (c .before .before .before .before .before .before)))
-
-one-more-requires : tie.Need-one-more-requires
-one-more-requires c κs = search needs
-
-call-left-requires-2 : tie.Need-call-left-requires-2
-call-left-requires-2 c κs = search needs
 
 returns-2 : tie.Need-returns-2
 returns-2 c =
@@ -106,12 +97,12 @@ merge-in-spec =
     tie.close
     (tie.spec
     merged-at-requires
-    call-left-requires
+    (λ c κs. search needs)
     returns
     sub-g
     cast-enter-gate
     enter-gate-requires
     store-gate-requires
-    one-more-requires
-    call-left-requires-2
+    (λ c κs. search needs)
+    (λ c κs. search needs)
     returns-2)

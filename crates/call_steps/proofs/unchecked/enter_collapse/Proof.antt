@@ -48,9 +48,6 @@ sub-enter-gate c = omega (arith, number (start-of (c .before)))
 enter-gate-requires : tie.Need-enter-gate-requires
 enter-gate-requires c κs = omega (arith, number (start-of (c .before)))
 
-one-more-requires : tie.Need-one-more-requires
-one-more-requires c κs = search needs
-
 returns : tie.Need-returns
 returns c =
     let lent = c .before .before .before in
@@ -71,5 +68,5 @@ enter-collapse-spec =
     cast-enter-gate
     sub-enter-gate
     enter-gate-requires
-    one-more-requires
+    (λ c κs. search needs)
     returns)

@@ -3,16 +3,10 @@ use borrow.Author.Needs.{needs}
 use Rattle.call_steps.proofs.unchecked.enter_gate.Statement.{statement}
 use Rattle.call_steps.proofs.unchecked.enter_gate.Tie as tie
 
-gate-at-requires : tie.Need-gate-at-requires
-gate-at-requires c κs = search needs
-
-enter-step-requires : tie.Need-enter-step-requires
-enter-step-requires c κs = search needs
-
 returns : tie.Need-returns
 returns c =
     let lent = c .before .before .before .before .before .before in
     rw (lent .before .gate-at .ensures) at (c .enter-step .ensures)
 
 pub enter-gate-spec : {M : Type 1} → statement M
-enter-gate-spec = tie.close (tie.spec gate-at-requires enter-step-requires returns)
+enter-gate-spec = tie.close (tie.spec (λ c κs. search needs) (λ c κs. search needs) returns)

@@ -85,9 +85,6 @@ cast-enter-gate c =
 enter-gate-requires : tie.Need-enter-gate-requires Inv-loop μ-loop
 enter-gate-requires c κs = let turn = turn-of c in omega (arith, sizes (turn .before) .few-gates, turn .loop-test .taken)
 
-one-more-requires : tie.Need-one-more-requires Inv-loop μ-loop
-one-more-requires c κs = search needs
-
 add-g-2 : tie.Need-add-g-2 Inv-loop μ-loop
 add-g-2 c = let turn = turn-of (c .before .before) in omega (arith, sizes (turn .before) .few-gates, turn .loop-test .taken)
 
@@ -126,7 +123,7 @@ enter-readers-spec =
     add-signal
     cast-enter-gate
     enter-gate-requires
-    one-more-requires
+    (λ c κs. search needs)
     add-g-2
     loop-less-2
     loop-again-2

@@ -67,9 +67,6 @@ next : (c : tie.Else3 Inv-loop μ-loop) → let at = loop-of (c .before) in
     let x = c .before .lowest-collapsible .result in NextCollapse (reached at) (at .before .before .args .b) (x .u) (x .pairs)
 next c = chosen (c .before) .next (not-false _ (c .if3 .left))
 
-call-left-requires : tie.Need-call-left-requires Inv-loop μ-loop
-call-left-requires c κs = search needs
-
 returns : tie.Need-returns Inv-loop μ-loop
 returns c =
     let s = c .before .before in
@@ -80,16 +77,10 @@ loop-holds c =
     let s = c .before in
     reached-none (held s) (s .args .b) _ (whole-network (held s) (s .pre .whole)) (shaped-parts (s .args .head) (s .pre .lengths))
 
-with-gates-requires : tie.Need-with-gates-requires Inv-loop μ-loop
-with-gates-requires c κs = search needs
-
 lowest-collapsible-requires : tie.Need-lowest-collapsible-requires Inv-loop μ-loop
 lowest-collapsible-requires c κs =
     let made = c .before .before .before .before .before .before in
     rw (made .with-gates .ensures) (made .before .before .before .loop .inv .whole)
-
-call-left-requires-2 : tie.Need-call-left-requires-2 Inv-loop μ-loop
-call-left-requires-2 c κs = search needs
 
 returns-2 : tie.Need-returns-2 Inv-loop μ-loop
 returns-2 c =
@@ -128,9 +119,6 @@ loop-again c =
     reached-more (loop-of (else .before) .loop .inv) _ _ (turn .if2 .taken) (next else)
     (rw (made-of (else .before) .with-gates .ensures) at (c .collapse-entered .ensures))
 
-call-left-requires-3 : tie.Need-call-left-requires-3 Inv-loop μ-loop
-call-left-requires-3 c κs = search needs
-
 returns-3 : tie.Need-returns-3 Inv-loop μ-loop
 returns-3 c =
     let at = c .before .before .before in
@@ -145,17 +133,17 @@ sweep-in-spec =
     (tie.spec
     Inv-loop
     μ-loop
-    call-left-requires
+    (λ c κs. search needs)
     returns
     loop-holds
-    with-gates-requires
+    (λ c κs. search needs)
     lowest-collapsible-requires
-    call-left-requires-2
+    (λ c κs. search needs)
     returns-2
     collapse-entered-requires
     sub-gates
     add-collapses
     loop-less
     loop-again
-    call-left-requires-3
+    (λ c κs. search needs)
     returns-3)

@@ -6,12 +6,6 @@ use Rattle.call_undo.specs.BackLaws.{picked-no, picked-yes}
 use Rattle.call_undo.proofs.unchecked.if_sound.Statement.{statement}
 use Rattle.call_undo.proofs.unchecked.if_sound.Tie as tie
 
-is-sound-requires : tie.Need-is-sound-requires
-is-sound-requires c κs = search needs
-
-kept-requires : tie.Need-kept-requires
-kept-requires c κs = search needs
-
 returns : tie.Need-returns
 returns c = c .kept .ensures ∙ picked-no _ _ (sym (c .before .before .is-sound .ensures) ∙ not-true _ (c .before .if1 .taken))
 
@@ -19,4 +13,4 @@ returns-2 : tie.Need-returns-2
 returns-2 c = picked-yes _ _ (sym (c .before .is-sound .ensures) ∙ not-false _ (c .if1 .left))
 
 pub if-sound-spec : {M : Type 1} → statement M
-if-sound-spec = tie.close (tie.spec is-sound-requires kept-requires returns returns-2)
+if-sound-spec = tie.close (tie.spec (λ c κs. search needs) (λ c κs. search needs) returns returns-2)

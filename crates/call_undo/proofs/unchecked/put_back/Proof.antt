@@ -11,12 +11,6 @@ use Rattle.call_undo.specs.NewestLaws.{packed-few}
 use Rattle.call_undo.proofs.unchecked.put_back.Statement.{statement}
 use Rattle.call_undo.proofs.unchecked.put_back.Tie as tie
 
-is-gate-requires : tie.Need-is-gate-requires
-is-gate-requires c κs = search needs
-
-kept-requires : tie.Need-kept-requires
-kept-requires c κs = search needs
-
 returns : tie.Need-returns
 returns c =
     let a = c .before .before .before .args in
@@ -32,9 +26,6 @@ replace-gate-requires c κs =
     let start = c .before .before in
     (record { sound = start .pre .0; gate = gate-signal (start .args .network) (start .args .v) ∙ gate c }, start .pre .1 .row)
 
-if-sound-requires : tie.Need-if-sound-requires
-if-sound-requires c κs = search needs
-
 returns-2 : tie.Need-returns-2
 returns-2 c =
     let start = c .before .before .before .before in
@@ -46,9 +37,9 @@ pub put-back-spec : {M : Type 1} → statement M
 put-back-spec =
     tie.close
     (tie.spec
-    is-gate-requires
-    kept-requires
+    (λ c κs. search needs)
+    (λ c κs. search needs)
     returns
     replace-gate-requires
-    if-sound-requires
+    (λ c κs. search needs)
     returns-2)

@@ -13,9 +13,6 @@ use Rattle.call_undo.proofs.unchecked.put_in.Tie as tie
 add-if1 : tie.Need-add-if1
 add-if1 c = let z = sized-of (c .args .network) (c .pre .0) in omega (arith, z .few-inputs, z .few-gates)
 
-kept-requires : tie.Need-kept-requires
-kept-requires c κs = search needs
-
 returns : tie.Need-returns
 returns c =
     let a = c .before .before .args in
@@ -35,9 +32,6 @@ insert-gate-requires c κs =
     let p = place c in
     (record { sound = start .pre .0; above = p .0; within = p .1; room = p .2 }, start .pre .1 .row)
 
-if-sound-requires : tie.Need-if-sound-requires
-if-sound-requires c κs = search needs
-
 returns-2 : tie.Need-returns-2
 returns-2 c =
     let start = c .before .before .before in
@@ -48,4 +42,4 @@ returns-2 c =
 pub put-in-spec : {M : Type 1} → statement M
 put-in-spec =
     tie.close
-    (tie.spec add-if1 kept-requires returns insert-gate-requires if-sound-requires returns-2)
+    (tie.spec add-if1 (λ c κs. search needs) returns insert-gate-requires (λ c κs. search needs) returns-2)

@@ -13,31 +13,10 @@ use Rattle.call_undo.specs.NewestLaws.{newest-merge, newest-drop, newest
 use Rattle.call_undo.proofs.unchecked.restored.Statement.{statement}
 use Rattle.call_undo.proofs.unchecked.restored.Tie as tie
 
-element-copy-out-wide : tie.Need-element-copy-out-wide
-element-copy-out-wide c = search needs
-
-wide-requires : tie.Need-wide-requires
-wide-requires c κs = search needs
-
-kept-requires : tie.Need-kept-requires
-kept-requires c κs = search needs
-
 returns : tie.Need-returns
 returns c =
     let a = c .before .before .before .before .args in
     c .kept .ensures ∙ back-no (a .network) _ (newest-wide (a .t2) (netOf (a .network)) (omega (arith, c .before .before .wide .ensures .0)))
-
-newest-gate-requires : tie.Need-newest-gate-requires
-newest-gate-requires c κs = search needs
-
-element-copy-out-wide-2 : tie.Need-element-copy-out-wide-2
-element-copy-out-wide-2 c = search needs
-
-wide-requires-2 : tie.Need-wide-requires-2
-wide-requires-2 c κs = search needs
-
-element-copy-out-kind : tie.Need-element-copy-out-kind
-element-copy-out-kind c = search needs
 
 -- past the first test the gate has at most 16 feeds
 few : (c : tie.Else1) → getD (c .before .before .before .args .t2 .fanins) 0 0 ≤ 16
@@ -78,14 +57,14 @@ pub restored-spec : {M : Type 1} → statement M
 restored-spec =
     tie.close
     (tie.spec
-    element-copy-out-wide
-    wide-requires
-    kept-requires
+    (λ c. search needs)
+    (λ c κs. search needs)
+    (λ c κs. search needs)
     returns
-    newest-gate-requires
-    element-copy-out-wide-2
-    wide-requires-2
-    element-copy-out-kind
+    (λ c κs. search needs)
+    (λ c. search needs)
+    (λ c κs. search needs)
+    (λ c. search needs)
     put-back-requires
     returns-2
     put-in-requires

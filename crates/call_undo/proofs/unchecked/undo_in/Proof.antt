@@ -22,9 +22,6 @@ abbrev held : tie.Start → Record
 held c = let a = c .args in recordParts (a .head) (now (a .fanins)) (now (a .thresholds)) (now (a .signals)) (now (a .weights)) (now (a .drivers)) (a .count)
     (now (a .kinds)) (now (a .step-signals)) (now (a .step-fanins)) (now (a .step-thresholds)) (now (a .feeds)) (now (a .step-weights))
 
-left-requires : tie.Need-left-requires
-left-requires c κs = search needs
-
 returns : tie.Need-returns
 unfolding noFigures
 returns c =
@@ -40,9 +37,6 @@ at-else c =
 restored-requires : tie.Need-restored-requires
 restored-requires c κs = let s = at-else c .before in whole-network (held s) (s .pre .whole)
 
-left-requires-2 : tie.Need-left-requires-2
-left-requires-2 c κs = search needs
-
 returns-2 : tie.Need-returns-2
 unfolding noFigures
 returns-2 c =
@@ -51,12 +45,6 @@ returns-2 c =
     let s = else .before in
     let stuck = sym (back-ok (held s .network) _) ∙ sym (ap (λ (b : Back). b .ok) (at-restored .restored .ensures)) ∙ not-true _ (c .before .if2 .taken) in
     refused-parts (s .args .head) (c .left2 .ensures) ∙ sym (undone-stuck (held s) (s .pre .whole) (omega (arith, else .if1 .left)) stuck)
-
-without-newest-requires : tie.Need-without-newest-requires
-without-newest-requires c κs = search needs
-
-left-requires-3 : tie.Need-left-requires-3
-left-requires-3 c κs = search needs
 
 returns-3 : tie.Need-returns-3
 unfolding noFigures
@@ -79,11 +67,11 @@ pub undo-in-spec : {M : Type 1} → statement M
 undo-in-spec =
     tie.close
     (tie.spec
-    left-requires
+    (λ c κs. search needs)
     returns
     restored-requires
-    left-requires-2
+    (λ c κs. search needs)
     returns-2
-    without-newest-requires
-    left-requires-3
+    (λ c κs. search needs)
+    (λ c κs. search needs)
     returns-3)

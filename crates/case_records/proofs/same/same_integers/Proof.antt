@@ -11,45 +11,18 @@ Inv-loop a b i₀ i = i ≤ length a
 abbrev μ-loop : tie.MeasureT-loop
 μ-loop a b i₀ i = length a - i
 
-loop-holds : tie.Need-loop-holds Inv-loop μ-loop
-loop-holds c = search needs
-
-mul-holds-integer : tie.Need-mul-holds-integer Inv-loop μ-loop
-mul-holds-integer c = search needs
-
-shared-slice-copy-out-holds-integer : tie.Need-shared-slice-copy-out-holds-integer Inv-loop μ-loop
-shared-slice-copy-out-holds-integer c = search needs
-
-holds-integer-requires : tie.Need-holds-integer-requires Inv-loop μ-loop
-holds-integer-requires c κs = search needs
-
-returns : tie.Need-returns Inv-loop μ-loop
-returns c = search needs
-
-add-i : tie.Need-add-i Inv-loop μ-loop
-add-i c = search needs
-
-loop-less : tie.Need-loop-less Inv-loop μ-loop
-loop-less c = search needs
-
-loop-again : tie.Need-loop-again Inv-loop μ-loop
-loop-again c = search needs
-
-returns-2 : tie.Need-returns-2 Inv-loop μ-loop
-returns-2 c = search needs
-
 pub same-integers-spec : {M : Type 1} → statement M
 same-integers-spec =
     tie.close
     (tie.spec
     Inv-loop
     μ-loop
-    loop-holds
-    mul-holds-integer
-    shared-slice-copy-out-holds-integer
-    holds-integer-requires
-    returns
-    add-i
-    loop-less
-    loop-again
-    returns-2)
+    (λ c. search needs)
+    (λ c. search needs)
+    (λ c. search needs)
+    (λ c κs. search needs)
+    (λ c. search needs)
+    (λ c. search needs)
+    (λ c. search needs)
+    (λ c. search needs)
+    (λ c. search needs))

@@ -8,11 +8,8 @@ use Rattle.cut_copying.proofs.unchecked.is_kept.Tie as tie
 returns : tie.Need-returns
 returns c = sym (stays-input _ _ _ (c .if1 .taken))
 
-is-marked-requires : tie.Need-is-marked-requires
-is-marked-requires c κs = search needs
-
 returns-2 : tie.Need-returns-2
 returns-2 c = c .is-marked .ensures ∙ sym (stays-gate _ _ _ (c .before .if1 .left))
 
 pub is-kept-spec : {M : Type 1} → statement M
-is-kept-spec = tie.close (tie.spec returns is-marked-requires returns-2)
+is-kept-spec = tie.close (tie.spec returns (λ c κs. search needs) returns-2)

@@ -64,9 +64,6 @@ loop-again c =
 gate-at-requires : tie.Need-gate-at-requires Inv-loop μ-loop
 gate-at-requires c κs = let test = c .before .before .before .before .before in under (test .before .before)
 
-renamed-row-requires : tie.Need-renamed-row-requires Inv-loop μ-loop
-renamed-row-requires c κs = search needs
-
 -- the test before the row was made, and its turn
 abbrev kept-gate : tie.After-renamed-row Inv-loop μ-loop → tie.Else1 Inv-loop μ-loop
 kept-gate c = let made = c .before .before .before in made .before .before .before .before .before .before
@@ -105,14 +102,8 @@ loop-again-2 c =
     (getD-take _ _ _ _ within ∙ sym (test .before .is-marked .ensures) ∙ not-false _ (test .if1 .left))
     (gate-within r g within) (renamed-record _ (gateOf r g) gate-is row-is) (c .store-gate .ensures)
 
-wide-requires : tie.Need-wide-requires Inv-loop μ-loop
-wide-requires c κs = search needs
-
 array-read-driver : tie.Need-array-read-driver Inv-loop μ-loop
 array-read-driver c = c .wide .ensures .1
-
-array-write-drivers : tie.Need-array-write-drivers Inv-loop μ-loop
-array-write-drivers c = search needs
 
 returns : tie.Need-returns Inv-loop μ-loop
 unfolding netOf
@@ -138,13 +129,13 @@ marked-gates-spec =
     loop-less
     loop-again
     gate-at-requires
-    renamed-row-requires
+    (λ c κs. search needs)
     store-gate-requires
     add-kept
     add-g-2
     loop-less-2
     loop-again-2
-    wide-requires
+    (λ c κs. search needs)
     array-read-driver
-    array-write-drivers
+    (λ c. search needs)
     returns)

@@ -17,9 +17,6 @@ Inv-loop marks inputs gates result₀ next₀ s₀ s-end result next s = (s-end 
 abbrev μ-loop : tie.MeasureT-loop
 μ-loop marks inputs gates result₀ next₀ s₀ s-end result next s = s-end - s
 
-add-s-end : tie.Need-add-s-end Inv-loop μ-loop
-add-s-end c = search needs
-
 loop-holds : tie.Need-loop-holds Inv-loop μ-loop
 loop-holds c = (refl, numbered-none _ _ _ _)
 
@@ -64,7 +61,7 @@ new-signals-spec =
     (tie.spec
     Inv-loop
     μ-loop
-    add-s-end
+    (λ c. search needs)
     loop-holds
     cast-result
     array-write-result

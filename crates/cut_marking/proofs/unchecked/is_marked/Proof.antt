@@ -5,17 +5,11 @@ use Rattle.cut_marking.specs.WordLaws.{mark-low, mark-high}
 use Rattle.cut_marking.proofs.unchecked.is_marked.Statement.{statement}
 use Rattle.cut_marking.proofs.unchecked.is_marked.Tie as tie
 
-shr-result : tie.Need-shr-result
-shr-result c = search needs
-
 returns : tie.Need-returns
 returns c = sym (mark-low _ _ (c .before .if1 .taken))
-
-shr-result-2 : tie.Need-shr-result-2
-shr-result-2 c = search needs
 
 returns-2 : tie.Need-returns-2
 returns-2 c = sym (mark-high _ _ (c .before .if1 .left) (c .before .before .pre))
 
 pub is-marked-spec : {M : Type 1} → statement M
-is-marked-spec = tie.close (tie.spec shr-result returns shr-result-2 returns-2)
+is-marked-spec = tie.close (tie.spec (λ c. search needs) returns (λ c. search needs) returns-2)

@@ -4,17 +4,11 @@ use Rattle.cut_marking.specs.WordLaws.{more-low, more-high}
 use Rattle.cut_marking.proofs.unchecked.with_mark.Statement.{statement}
 use Rattle.cut_marking.proofs.unchecked.with_mark.Tie as tie
 
-shl-t5 : tie.Need-shl-t5
-shl-t5 c = search needs
-
 returns : tie.Need-returns
 returns c = more-low _ _ (c .before .if1 .taken)
-
-shl-t9 : tie.Need-shl-t9
-shl-t9 c = search needs
 
 returns-2 : tie.Need-returns-2
 returns-2 c = more-high _ _ (c .before .if1 .left) (c .before .before .pre)
 
 pub with-mark-spec : {M : Type 1} → statement M
-with-mark-spec = tie.close (tie.spec shl-t5 returns shl-t9 returns-2)
+with-mark-spec = tie.close (tie.spec (λ c. search needs) returns (λ c. search needs) returns-2)

@@ -8,9 +8,6 @@ use Rattle.cut_output.specs.FileLaws.{file-stray, pin-sound, pin-answer}
 use Rattle.cut_output.proofs.files.cut_file.Statement.{statement}
 use Rattle.cut_output.proofs.files.cut_file.Tie as tie
 
-read-requires : tie.Need-read-requires
-read-requires c κs = search needs
-
 refusal-requires : tie.Need-refusal-requires
 refusal-requires c κs = (λ i. c .before .before .before .shared-slice-known .given i .fits, c .read .ensures)
 
@@ -37,12 +34,6 @@ put-file-requires c κs =
     let o = s .before .refusal .ensures .gives (s .if1 .left) in
     (pin-sound o _ (v .before .if2 .left) (v .cut-sound .ensures), o .room)
 
-same-length : tie.Need-same-length
-same-length c = search needs
-
-same-length-2 : tie.Need-same-length-2
-same-length-2 c = search needs
-
 returns-3 : tie.Need-returns-3
 returns-3 c =
     let at-put = c .before .before .before .before in
@@ -57,12 +48,12 @@ pub cut-file-spec : {M : Type 1} → statement M
 cut-file-spec =
     tie.close
     (tie.spec
-    read-requires
+    (λ c κs. search needs)
     refusal-requires
     returns
     returns-2
     cut-sound-requires
     put-file-requires
-    same-length
-    same-length-2
+    (λ c. search needs)
+    (λ c. search needs)
     returns-3)

@@ -17,9 +17,6 @@ use Rattle.cut_output.proofs.unchecked.cut_sound.Tie as tie
 element-copy-out-d : tie.Need-element-copy-out-d
 element-copy-out-d c = omega (arith, sized-of _ (c .pre .0) .few-outputs)
 
-wide-requires : tie.Need-wide-requires
-wide-requires c κs = search needs
-
 sub-needed-gates : tie.Need-sub-needed-gates
 sub-needed-gates c =
     let s = c .before .before .before .before .before in
@@ -51,7 +48,7 @@ cut-sound-spec =
     tie.close
     (tie.spec
     element-copy-out-d
-    wide-requires
+    (λ c κs. search needs)
     sub-needed-gates
     needed-gates-requires
     marked-gates-requires

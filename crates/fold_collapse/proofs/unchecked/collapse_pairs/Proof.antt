@@ -26,12 +26,6 @@ recordAt c = let a = c .args in fromParts (a .head) (now (a .fanins)) (now (a .t
 gate : (c : tie.Else1) → let a = c .before .before .args in gateSignal (a .head .inputs) (a .head .gates) (a .s) ≡ true
 gate c = sym (c .before .is-gate .ensures) ∙ not-false _ (c .if1 .left)
 
-is-gate-requires : tie.Need-is-gate-requires
-is-gate-requires c κs = search needs
-
-no-pairs-requires : tie.Need-no-pairs-requires
-no-pairs-requires c κs = search needs
-
 returns : tie.Need-returns
 returns c =
     let start = c .before .before .before in
@@ -40,9 +34,6 @@ returns c =
 
 is-output-requires : tie.Need-is-output-requires
 is-output-requires c κs = let start = c .before .before in sized-of (recordAt start) (start .pre) .few-outputs
-
-no-pairs-requires-2 : tie.Need-no-pairs-requires-2
-no-pairs-requires-2 c κs = search needs
 
 returns-2 : tie.Need-returns-2
 returns-2 c =
@@ -68,11 +59,11 @@ pub collapse-pairs-spec : {M : Type 1} → statement M
 collapse-pairs-spec =
     tie.close
     (tie.spec
-    is-gate-requires
-    no-pairs-requires
+    (λ c κs. search needs)
+    (λ c κs. search needs)
     returns
     is-output-requires
-    no-pairs-requires-2
+    (λ c κs. search needs)
     returns-2
     reader-pairs-requires
     returns-3)

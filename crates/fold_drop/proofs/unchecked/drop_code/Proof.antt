@@ -35,9 +35,6 @@ test c =
     let s = c .before .before .before .before in
     rw (c .before .count-readers .ensures (now (s .args .thresholds)) (now (s .args .weights)), c .is-output .ensures)
 
-is-gate-requires : tie.Need-is-gate-requires
-is-gate-requires c κs = search needs
-
 returns : tie.Need-returns
 returns c =
     let s = c .before .before in
@@ -65,7 +62,7 @@ pub drop-code-spec : {M : Type 1} → statement M
 drop-code-spec =
     tie.close
     (tie.spec
-    is-gate-requires
+    (λ c κs. search needs)
     returns
     count-readers-requires
     is-output-requires

@@ -9,9 +9,6 @@ use Rattle.fold_merge.specs.FileLaws.{pair-answer}
 use Rattle.fold_merge.proofs.files.pair_of_file.Statement.{statement}
 use Rattle.fold_merge.proofs.files.pair_of_file.Tie as tie
 
-read-requires : tie.Need-read-requires
-read-requires c κs = search needs
-
 refusal-requires : tie.Need-refusal-requires
 refusal-requires c κs = (λ i. c .before .before .shared-slice-known .given i .fits, c .read .ensures)
 
@@ -19,14 +16,8 @@ returns : tie.Need-returns
 unfolding pairPlaces
 returns c = refused-one (c .before .before .before .before .before .args .answer .now) (open-refused (c .before .refusal .ensures) _ (c .if1 .taken))
 
-pair-requires : tie.Need-pair-requires
-pair-requires c κs = search needs
-
 put-two-requires : tie.Need-put-two-requires
 put-two-requires c κs = let s = c .before .before in s .before .refusal .ensures .gives (s .if1 .left) .room
-
-same-length : tie.Need-same-length
-same-length c = search needs
 
 returns-2 : tie.Need-returns-2
 returns-2 c =
@@ -40,10 +31,10 @@ pub pair-of-file-spec : {M : Type 1} → statement M
 pair-of-file-spec =
     tie.close
     (tie.spec
-    read-requires
+    (λ c κs. search needs)
     refusal-requires
     returns
-    pair-requires
+    (λ c κs. search needs)
     put-two-requires
-    same-length
+    (λ c. search needs)
     returns-2)

@@ -10,12 +10,6 @@ use Rattle.fold_collapse.specs.CollapsingLaws.{asPair-refused, pairs-all}
 use Rattle.fold_sweep.proofs.unchecked.hinted_pairs.Statement.{statement}
 use Rattle.fold_sweep.proofs.unchecked.hinted_pairs.Tie as tie
 
-reader-pair-requires : tie.Need-reader-pair-requires
-reader-pair-requires c κs = search needs
-
-no-pairs-requires : tie.Need-no-pairs-requires
-no-pairs-requires c κs = search needs
-
 returns : tie.Need-returns
 returns c =
     let start = c .before .before .before .before in
@@ -29,9 +23,6 @@ returns c =
       refuses = λ n. record { within = within; refusal = refusal };
     })
 
-reader-pairs-requires : tie.Need-reader-pairs-requires
-reader-pairs-requires c κs = search needs
-
 returns-2 : tie.Need-returns-2
 returns-2 c =
     let all = c .reader-pairs .ensures in
@@ -39,4 +30,4 @@ returns-2 c =
 
 pub hinted-pairs-spec : {M : Type 1} → statement M
 hinted-pairs-spec =
-    tie.close (tie.spec reader-pair-requires no-pairs-requires returns reader-pairs-requires returns-2)
+    tie.close (tie.spec (λ c κs. search needs) (λ c κs. search needs) returns (λ c κs. search needs) returns-2)

@@ -88,18 +88,12 @@ loop-again c =
 element-copy-out-wide : tie.Need-element-copy-out-wide Inv-loop μ-loop
 element-copy-out-wide c = under (c .before .before .before .before)
 
-wide-requires : tie.Need-wide-requires Inv-loop μ-loop
-wide-requires c κs = search needs
-
 hinted-pairs-requires : tie.Need-hinted-pairs-requires Inv-loop μ-loop
 hinted-pairs-requires c κs =
     let turn = c .before .before .before .before .before .before in
     let start = turn .before .before .before in
     let lent = lent-of _ (T-is (soundRecord _) (start .pre)) in
     (lent, (omega arith, omega (arith, turn .loop-test .taken)), sound-board (recordAt start) (start .pre))
-
-lower-hints-requires : tie.Need-lower-hints-requires Inv-loop μ-loop
-lower-hints-requires c κs = search needs
 
 returns : tie.Need-returns Inv-loop μ-loop
 returns c =
@@ -143,9 +137,6 @@ loop-again-2 c =
       lower-more _ _ _ (loop .g) (loop .inv .2) (pairs-refused (recordAt start) (start .args .b) (loop .g) (start .pre) (turn .loop-test .taken) free none),
     )
 
-no-pairs-requires : tie.Need-no-pairs-requires Inv-loop μ-loop
-no-pairs-requires c κs = search needs
-
 returns-2 : tie.Need-returns-2 Inv-loop μ-loop
 returns-2 c =
     let start = c .before .before .before .before in
@@ -169,14 +160,14 @@ lowest-collapsible-spec =
     loop-less
     loop-again
     element-copy-out-wide
-    wide-requires
+    (λ c κs. search needs)
     hinted-pairs-requires
-    lower-hints-requires
+    (λ c κs. search needs)
     returns
     cast-hints
     element-write-hints
     add-g-2
     loop-less-2
     loop-again-2
-    no-pairs-requires
+    (λ c κs. search needs)
     returns-2)

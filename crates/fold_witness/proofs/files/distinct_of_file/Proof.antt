@@ -9,9 +9,6 @@ use Rattle.fold_witness.specs.FileLaws.{distinct-few, distinct-answer}
 use Rattle.fold_witness.proofs.files.distinct_of_file.Statement.{statement}
 use Rattle.fold_witness.proofs.files.distinct_of_file.Tie as tie
 
-read-requires : tie.Need-read-requires
-read-requires c κs = search needs
-
 refusal-requires : tie.Need-refusal-requires
 refusal-requires c κs = (λ i. c .before .before .shared-slice-known .given i .fits, c .read .ensures)
 
@@ -19,18 +16,12 @@ returns : tie.Need-returns
 unfolding distinctPlaces
 returns c = refused-one (c .before .before .before .before .before .args .answer .now) (open-refused (c .before .refusal .ensures) _ (c .if1 .taken))
 
-distinct-feeds-requires : tie.Need-distinct-feeds-requires
-distinct-feeds-requires c κs = search needs
-
 put-feeds-requires : tie.Need-put-feeds-requires
 put-feeds-requires c κs =
     let s = c .before .before in
     let a = s .before .before .before .before .before .args in
     let file = s .before .refusal .ensures .gives (s .if1 .left) in
     (file .room, distinct-few (a .answer .now) file (a .u) (a .v) (c .before .distinct-feeds .ensures))
-
-same-length : tie.Need-same-length
-same-length c = search needs
 
 returns-2 : tie.Need-returns-2
 returns-2 c =
@@ -44,10 +35,10 @@ pub distinct-of-file-spec : {M : Type 1} → statement M
 distinct-of-file-spec =
     tie.close
     (tie.spec
-    read-requires
+    (λ c κs. search needs)
     refusal-requires
     returns
-    distinct-feeds-requires
+    (λ c κs. search needs)
     put-feeds-requires
-    same-length
+    (λ c. search needs)
     returns-2)

@@ -5,9 +5,6 @@ use Rattle.fold_witness.specs.FileLaws.{left-refused, left-none, left-sh
 use Rattle.fold_witness.proofs.files.witness_of_file.Statement.{statement}
 use Rattle.fold_witness.proofs.files.witness_of_file.Tie as tie
 
-read-requires : tie.Need-read-requires
-read-requires c κs = search needs
-
 refusal-requires : tie.Need-refusal-requires
 refusal-requires c κs = (λ i. c .before .before .shared-slice-known .given i .fits, c .read .ensures)
 
@@ -15,9 +12,6 @@ returns : tie.Need-returns
 returns c =
     let a = c .before .before .before .before .before .args in
     left-refused _ (a .u) (a .v) (a .k) (a .l) (a .answer .now) (c .before .refusal .ensures .code) (c .if1 .taken)
-
-witness-requires : tie.Need-witness-requires
-witness-requires c κs = search needs
 
 returns-2 : tie.Need-returns-2
 returns-2 c =
@@ -27,9 +21,6 @@ returns-2 c =
 
 slice-write-answer : tie.Need-slice-write-answer
 slice-write-answer c = let s = c .before .before in omega (arith, s .before .refusal .ensures .gives (s .if1 .left) .room)
-
-same-length : tie.Need-same-length
-same-length c = search needs
 
 returns-3 : tie.Need-returns-3
 returns-3 c =
@@ -43,11 +34,11 @@ pub witness-of-file-spec : {M : Type 1} → statement M
 witness-of-file-spec =
     tie.close
     (tie.spec
-    read-requires
+    (λ c κs. search needs)
     refusal-requires
     returns
-    witness-requires
+    (λ c κs. search needs)
     returns-2
     slice-write-answer
-    same-length
+    (λ c. search needs)
     returns-3)

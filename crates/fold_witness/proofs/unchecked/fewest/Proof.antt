@@ -31,9 +31,6 @@ Inv-loop a sums-u sums-v k l count high-count highs lows least₀ shown₀ high�
 abbrev μ-loop : tie.MeasureT-loop
 μ-loop a sums-u sums-v k l count high-count highs lows least₀ shown₀ high₀ least shown high = highs - high
 
-high-feeds-requires : tie.Need-high-feeds-requires Inv-loop2 μ-loop2 Inv-loop μ-loop
-high-feeds-requires c κs = search needs
-
 settings-requires : tie.Need-settings-requires Inv-loop2 μ-loop2 Inv-loop μ-loop
 settings-requires c κs = omega (arith, c .high-feeds .ensures, c .before .pre .0 .searchable .few)
 
@@ -235,9 +232,6 @@ all c =
     let e : c .before .loop .high ≡ highs h = omega (arith, c .before .loop .inv .1, c .loop-test .left) in
     rw e (omega (arith, halves-all (count h) (highs h) (lows h) (highs-is h) (lows-is h)))
 
-none-requires : tie.Need-none-requires Inv-loop2 μ-loop2 Inv-loop μ-loop
-none-requires c κs = search needs
-
 returns : tie.Need-returns Inv-loop2 μ-loop2 Inv-loop μ-loop
 returns c =
     let d = c .before .before in
@@ -260,7 +254,7 @@ fewest-spec =
     μ-loop2
     Inv-loop
     μ-loop
-    high-feeds-requires
+    (λ c κs. search needs)
     settings-requires
     sub-settings
     settings-requires-2
@@ -286,6 +280,6 @@ fewest-spec =
     add-high-2
     loop-less-2
     loop-again-2
-    none-requires
+    (λ c κs. search needs)
     returns
     returns-2)

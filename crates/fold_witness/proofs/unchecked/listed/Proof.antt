@@ -6,9 +6,6 @@ use borrow.Author.Needs.{needs}
 use Rattle.fold_witness.proofs.unchecked.listed.Statement.{statement}
 use Rattle.fold_witness.proofs.unchecked.listed.Tie as tie
 
-no-feeds-requires : tie.Need-no-feeds-requires
-no-feeds-requires c κs = search needs
-
 returns : tie.Need-returns
 unfolding feedsOfAlignment
 returns c = c .no-feeds .ensures ∙ rw (lt-leb _ 16 (c .before .if1 .taken))
@@ -18,4 +15,4 @@ unfolding feedsOfAlignment
 returns-2 c = rw (le-leb _ 16 (c .before .if1 .left))
 
 pub listed-spec : {M : Type 1} → statement M
-listed-spec = tie.close (tie.spec no-feeds-requires returns returns-2)
+listed-spec = tie.close (tie.spec (λ c κs. search needs) returns returns-2)

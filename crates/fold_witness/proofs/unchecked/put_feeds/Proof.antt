@@ -24,37 +24,16 @@ returns c =
     let a = c .before .before .args in
     (refl, keep-places (a .t2 .code) (a .t2 .count ∷ take (a .t2 .count) (a .t2 .signals)) (a .answer .now) (c .if1 .taken))
 
-slice-write-answer : tie.Need-slice-write-answer Inv-loop μ-loop
-slice-write-answer c = search needs
-
 loop-holds : tie.Need-loop-holds Inv-loop μ-loop
 loop-holds c =
     let a = c .before .before .args in
     (omega arith, paste-zero (set (a .answer .now) 0 (a .t2 .count)) 1 (a .t2 .signals), refl)
-
-element-copy-out-wide : tie.Need-element-copy-out-wide Inv-loop μ-loop
-element-copy-out-wide c = search needs
-
-wide-requires : tie.Need-wide-requires Inv-loop μ-loop
-wide-requires c κs = search needs
-
-add-answer : tie.Need-add-answer Inv-loop μ-loop
-add-answer c = search needs
-
-mul-answer : tie.Need-mul-answer Inv-loop μ-loop
-mul-answer c = search needs
 
 slice-write-answer-2 : tie.Need-slice-write-answer-2 Inv-loop μ-loop
 slice-write-answer-2 c =
     let l = c .before .before .before in
     let a = l .before .before .before .args in
     omega (arith, l .loop .inv .2, length-set (a .answer .now) 0 (a .t2 .count))
-
-add-i : tie.Need-add-i Inv-loop μ-loop
-add-i c = search needs
-
-loop-less : tie.Need-loop-less Inv-loop μ-loop
-loop-less c = search needs
 
 loop-again : tie.Need-loop-again Inv-loop μ-loop
 loop-again c =
@@ -96,15 +75,15 @@ put-feeds-spec =
     Inv-loop
     μ-loop
     returns
-    slice-write-answer
+    (λ c. search needs)
     loop-holds
-    element-copy-out-wide
-    wide-requires
-    add-answer
-    mul-answer
+    (λ c. search needs)
+    (λ c κs. search needs)
+    (λ c. search needs)
+    (λ c. search needs)
     slice-write-answer-2
-    add-i
-    loop-less
+    (λ c. search needs)
+    (λ c. search needs)
     loop-again
     same-length
     returns-2)

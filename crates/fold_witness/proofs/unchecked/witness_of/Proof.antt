@@ -13,18 +13,12 @@ use Rattle.fold_witness.proofs.unchecked.witness_of.Tie as tie
 limit-code-requires : tie.Need-limit-code-requires
 limit-code-requires c κs = c .pre
 
-none-requires : tie.Need-none-requires
-none-requires c κs = search needs
-
 returns : tie.Need-returns
 returns c = let t = c .before in limited _ _ _ _ (t .before .limit-code .ensures) (t .if1 .taken) (c .none .ensures)
 
 -- past these tests the settings can be tried
 mergeable : (c : tie.Else1) → let a = c .before .before .args in Mergeable (a .a) (a .k) (a .l)
 mergeable c = limits-hold _ _ _ (limits-passed _ _ _ (sym (c .before .limit-code .ensures) ∙ c .if1 .left)) (c .before .before .pre)
-
-without-margins-requires : tie.Need-without-margins-requires
-without-margins-requires c κs = search needs
 
 fewest-of-requires : tie.Need-fewest-of-requires
 fewest-of-requires c κs =
@@ -44,4 +38,4 @@ returns-2 c =
 
 pub witness-of-spec : {M : Type 1} → statement M
 witness-of-spec =
-    tie.close (tie.spec limit-code-requires none-requires returns without-margins-requires fewest-of-requires returns-2)
+    tie.close (tie.spec limit-code-requires (λ c κs. search needs) returns (λ c κs. search needs) fewest-of-requires returns-2)

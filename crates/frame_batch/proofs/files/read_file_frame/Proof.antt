@@ -9,9 +9,6 @@ use Rattle.frame_batch.proofs.FileLaws.{frame-answer}
 use Rattle.frame_batch.proofs.files.read_file_frame.Statement.{statement}
 use Rattle.frame_batch.proofs.files.read_file_frame.Tie as tie
 
-read-requires : tie.Need-read-requires
-read-requires c κs = search needs
-
 refusal-requires : tie.Need-refusal-requires
 refusal-requires c κs = (λ i. c .before .before .shared-slice-known .given i .fits, c .read .ensures)
 
@@ -22,14 +19,8 @@ returns c = refused-one (c .before .before .before .before .before .args .answer
 read-sound-requires : tie.Need-read-sound-requires
 read-sound-requires c κs = file-sound (c .before .refusal .ensures .gives (c .if1 .left))
 
-cast-put-two : tie.Need-cast-put-two
-cast-put-two c = search needs
-
 put-two-requires : tie.Need-put-two-requires
 put-two-requires c κs = let s = c .before .before .before in s .before .refusal .ensures .gives (s .if1 .left) .room
-
-same-length : tie.Need-same-length
-same-length c = search needs
 
 returns-2 : tie.Need-returns-2
 returns-2 c =
@@ -44,11 +35,11 @@ pub read-file-frame-spec : {M : Type 1} → statement M
 read-file-frame-spec =
     tie.close
     (tie.spec
-    read-requires
+    (λ c κs. search needs)
     refusal-requires
     returns
     read-sound-requires
-    cast-put-two
+    (λ c. search needs)
     put-two-requires
-    same-length
+    (λ c. search needs)
     returns-2)

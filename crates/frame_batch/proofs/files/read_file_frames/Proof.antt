@@ -8,9 +8,6 @@ use Rattle.frame_batch.proofs.FileLaws.{file-answer}
 use Rattle.frame_batch.proofs.files.read_file_frames.Statement.{statement}
 use Rattle.frame_batch.proofs.files.read_file_frames.Tie as tie
 
-read-requires : tie.Need-read-requires
-read-requires c κs = search needs
-
 refusal-requires : tie.Need-refusal-requires
 refusal-requires c κs = (λ i. c .before .before .before .shared-slice-known .given i .fits, c .read .ensures)
 
@@ -20,9 +17,6 @@ returns c = refused-one _ (read-refused (c .before .refusal .ensures) _ (c .if1 
 
 read-sound-requires : tie.Need-read-sound-requires
 read-sound-requires c κs = file-sound (c .before .before .refusal .ensures .gives (c .before .if1 .left))
-
-same-length : tie.Need-same-length
-same-length c = search needs
 
 returns-2 : tie.Need-returns-2
 returns-2 c =
@@ -35,4 +29,4 @@ returns-2 c =
 
 pub read-file-frames-spec : {M : Type 1} → statement M
 read-file-frames-spec =
-    tie.close (tie.spec read-requires refusal-requires returns read-sound-requires same-length returns-2)
+    tie.close (tie.spec (λ c κs. search needs) refusal-requires returns read-sound-requires (λ c. search needs) returns-2)

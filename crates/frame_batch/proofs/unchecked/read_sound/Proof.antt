@@ -46,9 +46,6 @@ put-words-requires c κs =
     let fits = room-fits (s .args .frames .now) (s .args .answers .now) (left .before .before .if1 .left) in
     (c .before .before .frame-words .ensures .long, readable left .few, fits)
 
-same-length : tie.Need-same-length
-same-length c = search needs
-
 returns-3 : tie.Need-returns-3
 returns-3 c =
     let read = c .before .before .before .before .before in
@@ -67,5 +64,5 @@ read-sound-spec =
     returns-2
     frame-words-requires
     put-words-requires
-    same-length
+    (λ c. search needs)
     returns-3)

@@ -27,21 +27,6 @@ abbrev μ-loop : tie.MeasureT-loop
 loop-holds : tie.Need-loop-holds Inv-loop μ-loop
 loop-holds c = (omega arith, pasted-none _ _ _ _)
 
-mul-sums : tie.Need-mul-sums Inv-loop μ-loop
-mul-sums c = search needs
-
-element-copy-out-sums : tie.Need-element-copy-out-sums Inv-loop μ-loop
-element-copy-out-sums c = search needs
-
-add-kept : tie.Need-add-kept Inv-loop μ-loop
-add-kept c = search needs
-
-mul-kept : tie.Need-mul-kept Inv-loop μ-loop
-mul-kept c = search needs
-
-element-copy-out-kept : tie.Need-element-copy-out-kept Inv-loop μ-loop
-element-copy-out-kept c = search needs
-
 kept-requires : tie.Need-kept-requires Inv-loop μ-loop
 kept-requires c κs =
     let s = c .before .before .before .before in
@@ -77,18 +62,6 @@ module _ (c : tie.After-kept Inv-loop μ-loop) where
 add-sums : tie.Need-add-sums Inv-loop μ-loop
 add-sums c = rw (before-is c, share-is c) (total-fits c)
 
-mul-t18 : tie.Need-mul-t18 Inv-loop μ-loop
-mul-t18 c = search needs
-
-element-set-from-sums : tie.Need-element-set-from-sums Inv-loop μ-loop
-element-set-from-sums c = search needs
-
-add-f : tie.Need-add-f Inv-loop μ-loop
-add-f c = search needs
-
-loop-less : tie.Need-loop-less Inv-loop μ-loop
-loop-less c = search needs
-
 loop-again : tie.Need-loop-again Inv-loop μ-loop
 loop-again c = (omega arith, rw (before-is c, share-is c, toZ-ofZ (total-fits c)) (pasted-more _ _ (at c .loop .inv .1) (omega arith) refl))
 
@@ -104,16 +77,16 @@ add-feed-spec =
     Inv-loop
     μ-loop
     loop-holds
-    mul-sums
-    element-copy-out-sums
-    add-kept
-    mul-kept
-    element-copy-out-kept
+    (λ c. search needs)
+    (λ c. search needs)
+    (λ c. search needs)
+    (λ c. search needs)
+    (λ c. search needs)
     kept-requires
     add-sums
-    mul-t18
-    element-set-from-sums
-    add-f
-    loop-less
+    (λ c. search needs)
+    (λ c. search needs)
+    (λ c. search needs)
+    (λ c. search needs)
     loop-again
     returns)

@@ -20,27 +20,6 @@ abbrev μ-loop : tie.MeasureT-loop
 loop-holds : tie.Need-loop-holds Inv-loop μ-loop
 loop-holds c = lanes-none _ _ _ _ _ _
 
-add-place : tie.Need-add-place Inv-loop μ-loop
-add-place c = search needs
-
-element-copy-out-wide : tie.Need-element-copy-out-wide Inv-loop μ-loop
-element-copy-out-wide c = search needs
-
-wide-requires : tie.Need-wide-requires Inv-loop μ-loop
-wide-requires c κs = search needs
-
-mul-add-feed : tie.Need-mul-add-feed Inv-loop μ-loop
-mul-add-feed c = search needs
-
-add-add-feed : tie.Need-add-add-feed Inv-loop μ-loop
-add-add-feed c = search needs
-
-mul-add-feed-2 : tie.Need-mul-add-feed-2 Inv-loop μ-loop
-mul-add-feed-2 c = search needs
-
-element-copy-out-add-feed : tie.Need-element-copy-out-add-feed Inv-loop μ-loop
-element-copy-out-add-feed c = search needs
-
 add-feed-requires : tie.Need-add-feed-requires Inv-loop μ-loop
 add-feed-requires c κs =
     let s = c .before .before .before .before .before .before in
@@ -52,12 +31,6 @@ add-feed-requires c κs =
       light = rw (toZ-ofZ fits) (s .pre .light (loop .i) (omega arith));
       small = lanes-small (loop .inv) (omega arith) (s .pre .few);
     }
-
-add-i : tie.Need-add-i Inv-loop μ-loop
-add-i c = search needs
-
-loop-less : tie.Need-loop-less Inv-loop μ-loop
-loop-less c = search needs
 
 loop-again : tie.Need-loop-again Inv-loop μ-loop
 loop-again c =
@@ -79,15 +52,15 @@ lane-sums-spec =
     Inv-loop
     μ-loop
     loop-holds
-    add-place
-    element-copy-out-wide
-    wide-requires
-    mul-add-feed
-    add-add-feed
-    mul-add-feed-2
-    element-copy-out-add-feed
+    (λ c. search needs)
+    (λ c. search needs)
+    (λ c κs. search needs)
+    (λ c. search needs)
+    (λ c. search needs)
+    (λ c. search needs)
+    (λ c. search needs)
     add-feed-requires
-    add-i
-    loop-less
+    (λ c. search needs)
+    (λ c. search needs)
     loop-again
     returns)

@@ -28,27 +28,6 @@ abbrev μ-loop : tie.MeasureT-loop
 loop-holds : tie.Need-loop-holds Inv-loop μ-loop
 loop-holds c = word-none _ _ _
 
-sub-j : tie.Need-sub-j Inv-loop μ-loop
-sub-j c = search needs
-
-element-copy-out-wide : tie.Need-element-copy-out-wide Inv-loop μ-loop
-element-copy-out-wide c = search needs
-
-wide-requires : tie.Need-wide-requires Inv-loop μ-loop
-wide-requires c κs = search needs
-
-mul-on : tie.Need-mul-on Inv-loop μ-loop
-mul-on c = search needs
-
-add-on : tie.Need-add-on Inv-loop μ-loop
-add-on c = search needs
-
-mul-on-2 : tie.Need-mul-on-2 Inv-loop μ-loop
-mul-on-2 c = search needs
-
-element-copy-out-on : tie.Need-element-copy-out-on Inv-loop μ-loop
-element-copy-out-on c = search needs
-
 -- a turn: the mask of lane f at the output's signal
 module _ (c : tie.After-on Inv-loop μ-loop) where
   abbrev start : tie.Start Inv-loop μ-loop
@@ -73,16 +52,10 @@ module _ (c : tie.After-on Inv-loop μ-loop) where
 mul-word : tie.Need-mul-word Inv-loop μ-loop
 mul-word c = record { fits = omega (arith, word-fits (c .before .before .before .before .loop .inv) (start c .pre .0)) }
 
-cast-word : tie.Need-cast-word Inv-loop μ-loop
-cast-word c = search needs
-
 add-word : tie.Need-add-word Inv-loop μ-loop
 add-word c =
     let small = word-fits (c .before .before .before .before .loop .inv) (start c .pre .0) in
     record { fits = omega (arith, small, byte-below (ltZ (toZ w32 (ofZ w32 (mask c))) (pos 0))) }
-
-loop-less : tie.Need-loop-less Inv-loop μ-loop
-loop-less c = search needs
 
 loop-again : tie.Need-loop-again Inv-loop μ-loop
 loop-again c = rw (on-is c) (word-next (c .before .before .before .before .loop .inv) (omega arith))
@@ -97,16 +70,16 @@ lane-word-spec =
     Inv-loop
     μ-loop
     loop-holds
-    sub-j
-    element-copy-out-wide
-    wide-requires
-    mul-on
-    add-on
-    mul-on-2
-    element-copy-out-on
+    (λ c. search needs)
+    (λ c. search needs)
+    (λ c κs. search needs)
+    (λ c. search needs)
+    (λ c. search needs)
+    (λ c. search needs)
+    (λ c. search needs)
     mul-word
-    cast-word
+    (λ c. search needs)
     add-word
-    loop-less
+    (λ c. search needs)
     loop-again
     returns)

@@ -27,18 +27,6 @@ loop-holds c = (omega arith, pasted-none _ _ _ _)
 lane-word-requires : tie.Need-lane-word-requires Inv-loop μ-loop
 lane-word-requires c κs = (c .before .before .pre .0, omega arith)
 
-mul-words : tie.Need-mul-words Inv-loop μ-loop
-mul-words c = search needs
-
-array-write-words : tie.Need-array-write-words Inv-loop μ-loop
-array-write-words c = search needs
-
-add-f : tie.Need-add-f Inv-loop μ-loop
-add-f c = search needs
-
-loop-less : tie.Need-loop-less Inv-loop μ-loop
-loop-less c = search needs
-
 loop-again : tie.Need-loop-again Inv-loop μ-loop
 loop-again c = (omega arith, pasted-more _ _ (c .before .before .loop .inv .1) (omega arith) (c .lane-word .ensures))
 
@@ -53,9 +41,9 @@ lane-words-spec =
     μ-loop
     loop-holds
     lane-word-requires
-    mul-words
-    array-write-words
-    add-f
-    loop-less
+    (λ c. search needs)
+    (λ c. search needs)
+    (λ c. search needs)
+    (λ c. search needs)
     loop-again
     returns)

@@ -25,30 +25,6 @@ abbrev μ-loop : tie.MeasureT-loop
 loop-holds : tie.Need-loop-holds Inv-loop μ-loop
 loop-holds c = (omega arith, pasted-none _ _ _ _)
 
-mul-mask-of : tie.Need-mul-mask-of Inv-loop μ-loop
-mul-mask-of c = search needs
-
-element-copy-out-mask-of : tie.Need-element-copy-out-mask-of Inv-loop μ-loop
-element-copy-out-mask-of c = search needs
-
-mask-of-requires : tie.Need-mask-of-requires Inv-loop μ-loop
-mask-of-requires c κs = search needs
-
-add-t12 : tie.Need-add-t12 Inv-loop μ-loop
-add-t12 c = search needs
-
-mul-t13 : tie.Need-mul-t13 Inv-loop μ-loop
-mul-t13 c = search needs
-
-element-set-from-masks : tie.Need-element-set-from-masks Inv-loop μ-loop
-element-set-from-masks c = search needs
-
-add-f : tie.Need-add-f Inv-loop μ-loop
-add-f c = search needs
-
-loop-less : tie.Need-loop-less Inv-loop μ-loop
-loop-less c = search needs
-
 loop-again : tie.Need-loop-again Inv-loop μ-loop
 loop-again c =
     let sums = c .before .before .before .before .args .sums .now in
@@ -68,13 +44,13 @@ put-bits-spec =
     Inv-loop
     μ-loop
     loop-holds
-    mul-mask-of
-    element-copy-out-mask-of
-    mask-of-requires
-    add-t12
-    mul-t13
-    element-set-from-masks
-    add-f
-    loop-less
+    (λ c. search needs)
+    (λ c. search needs)
+    (λ c κs. search needs)
+    (λ c. search needs)
+    (λ c. search needs)
+    (λ c. search needs)
+    (λ c. search needs)
+    (λ c. search needs)
     loop-again
     returns)

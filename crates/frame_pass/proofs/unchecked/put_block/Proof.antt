@@ -10,15 +10,6 @@ use Rattle.frame_pass.proofs.SignalLaneLaws.{block-put}
 use Rattle.frame_pass.proofs.unchecked.put_block.Statement.{statement}
 use Rattle.frame_pass.proofs.unchecked.put_block.Tie as tie
 
-element-copy-out-wide : tie.Need-element-copy-out-wide
-element-copy-out-wide c = search needs
-
-wide-requires : tie.Need-wide-requires
-wide-requires c κs = search needs
-
-mul-lane-sums : tie.Need-mul-lane-sums
-mul-lane-sums c = search needs
-
 lane-sums-requires : tie.Need-lane-sums-requires
 lane-sums-requires c κs =
     let pre = c .before .before .before .pre in
@@ -30,21 +21,6 @@ lane-sums-requires c κs =
       lanes = pre .lanes;
       light = λ i h. pre .gate .light i (omega (arith, count .ensures .0));
     }
-
-mul-put-bits : tie.Need-mul-put-bits
-mul-put-bits c = search needs
-
-element-copy-out-put-bits : tie.Need-element-copy-out-put-bits
-element-copy-out-put-bits c = search needs
-
-mul-put-bits-2 : tie.Need-mul-put-bits-2
-mul-put-bits-2 c = search needs
-
-add-put-bits : tie.Need-add-put-bits
-add-put-bits c = search needs
-
-put-bits-requires : tie.Need-put-bits-requires
-put-bits-requires c κs = search needs
 
 returns : tie.Need-returns
 returns c =
@@ -58,13 +34,13 @@ pub put-block-spec : {M : Type 1} → statement M
 put-block-spec =
     tie.close
     (tie.spec
-    element-copy-out-wide
-    wide-requires
-    mul-lane-sums
+    (λ c. search needs)
+    (λ c κs. search needs)
+    (λ c. search needs)
     lane-sums-requires
-    mul-put-bits
-    element-copy-out-put-bits
-    mul-put-bits-2
-    add-put-bits
-    put-bits-requires
+    (λ c. search needs)
+    (λ c. search needs)
+    (λ c. search needs)
+    (λ c. search needs)
+    (λ c κs. search needs)
     returns)

@@ -15,9 +15,6 @@ use Rattle.frame_pass.proofs.unchecked.put_gate.Tie as tie
 abbrev gate : tie.Start → Gate
 gate s = gateFrom (s .args .fanins .now) (s .args .thresholds .now) (s .args .signals .now) (s .args .weights .now) (s .args .g)
 
-put-block-requires : tie.Need-put-block-requires
-put-block-requires c κs = search needs
-
 put-block-requires-2 : tie.Need-put-block-requires-2
 put-block-requires-2 c κs =
     let s = c .before .before .before .before in
@@ -41,4 +38,4 @@ returns-2 c =
     gate-narrow (s .args .own) (gate s) (s .pre .0 .masked) (s .pre .0 .signal) (c .before .put-block .ensures) (c .if1 .left)
 
 pub put-gate-spec : {M : Type 1} → statement M
-put-gate-spec = tie.close (tie.spec put-block-requires put-block-requires-2 returns returns-2)
+put-gate-spec = tie.close (tie.spec (λ c κs. search needs) put-block-requires-2 returns returns-2)

@@ -25,36 +25,6 @@ abbrev μ-loop : tie.MeasureT-loop
 loop-holds : tie.Need-loop-holds Inv-loop μ-loop
 loop-holds c = (omega arith, pasted-none _ _ _ _)
 
-mul-mask-of : tie.Need-mul-mask-of Inv-loop μ-loop
-mul-mask-of c = search needs
-
-shared-slice-read-mask-of : tie.Need-shared-slice-read-mask-of Inv-loop μ-loop
-shared-slice-read-mask-of c = search needs
-
-shr-mask-of : tie.Need-shr-mask-of Inv-loop μ-loop
-shr-mask-of c = search needs
-
-mask-of-requires : tie.Need-mask-of-requires Inv-loop μ-loop
-mask-of-requires c κs = search needs
-
-mul-t14 : tie.Need-mul-t14 Inv-loop μ-loop
-mul-t14 c = search needs
-
-add-t15 : tie.Need-add-t15 Inv-loop μ-loop
-add-t15 c = search needs
-
-mul-t16 : tie.Need-mul-t16 Inv-loop μ-loop
-mul-t16 c = search needs
-
-element-set-from-masks : tie.Need-element-set-from-masks Inv-loop μ-loop
-element-set-from-masks c = search needs
-
-add-f : tie.Need-add-f Inv-loop μ-loop
-add-f c = search needs
-
-loop-less : tie.Need-loop-less Inv-loop μ-loop
-loop-less c = search needs
-
 loop-again : tie.Need-loop-again Inv-loop μ-loop
 unfolding frame
 loop-again c =
@@ -74,15 +44,15 @@ put-input-spec =
     Inv-loop
     μ-loop
     loop-holds
-    mul-mask-of
-    shared-slice-read-mask-of
-    shr-mask-of
-    mask-of-requires
-    mul-t14
-    add-t15
-    mul-t16
-    element-set-from-masks
-    add-f
-    loop-less
+    (λ c. search needs)
+    (λ c. search needs)
+    (λ c. search needs)
+    (λ c κs. search needs)
+    (λ c. search needs)
+    (λ c. search needs)
+    (λ c. search needs)
+    (λ c. search needs)
+    (λ c. search needs)
+    (λ c. search needs)
     loop-again
     returns)

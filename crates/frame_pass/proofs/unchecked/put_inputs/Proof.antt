@@ -21,12 +21,6 @@ put-input-requires c κs =
     let s = c .before .before .before .before in
     record { masked = c .before .before .loop .inv .1 .masked; few = s .pre .few; input = omega (arith, s .pre .few-inputs) }
 
-add-i : tie.Need-add-i Inv-loop μ-loop
-add-i c = search needs
-
-loop-less : tie.Need-loop-less Inv-loop μ-loop
-loop-less c = search needs
-
 loop-again : tie.Need-loop-again Inv-loop μ-loop
 loop-again c =
     let few = c .before .before .before .before .before .pre .few-inputs in
@@ -41,4 +35,4 @@ returns c =
 pub put-inputs-spec : {M : Type 1} → statement M
 put-inputs-spec =
     tie.close
-    (tie.spec Inv-loop μ-loop loop-holds put-input-requires add-i loop-less loop-again returns)
+    (tie.spec Inv-loop μ-loop loop-holds put-input-requires (λ c. search needs) (λ c. search needs) loop-again returns)

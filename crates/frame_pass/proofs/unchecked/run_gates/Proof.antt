@@ -17,20 +17,11 @@ abbrev μ-loop : tie.MeasureT-loop
 loop-holds : tie.Need-loop-holds Inv-loop μ-loop
 loop-holds c = (omega arith, gate-lanes-none (c .pre .masked))
 
-add-put-gate : tie.Need-add-put-gate Inv-loop μ-loop
-add-put-gate c = search needs
-
 put-gate-requires : tie.Need-put-gate-requires Inv-loop μ-loop
 put-gate-requires c κs =
     let s = c .before .before .before in
     let loop = c .before .before .loop in
     (record { masked = loop .inv .1 .masked; gate = s .pre .gate (loop .g) (omega arith); signal = omega arith; lanes = omega arith }, s .pre .few-lanes)
-
-add-g : tie.Need-add-g Inv-loop μ-loop
-add-g c = search needs
-
-loop-less : tie.Need-loop-less Inv-loop μ-loop
-loop-less c = search needs
 
 loop-again : tie.Need-loop-again Inv-loop μ-loop
 loop-again c = (omega arith, gate-lanes-next (c .before .before .before .loop .inv .1) (omega arith) (omega arith) (c .put-gate .ensures))
@@ -45,9 +36,9 @@ run-gates-spec =
     Inv-loop
     μ-loop
     loop-holds
-    add-put-gate
+    (λ c. search needs)
     put-gate-requires
-    add-g
-    loop-less
+    (λ c. search needs)
+    (λ c. search needs)
     loop-again
     returns)

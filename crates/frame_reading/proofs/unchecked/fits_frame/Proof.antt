@@ -5,12 +5,9 @@ use Rattle.network.specs.Threshold.{fitsFrame}
 use Rattle.frame_reading.proofs.unchecked.fits_frame.Statement.{statement}
 use Rattle.frame_reading.proofs.unchecked.fits_frame.Tie as tie
 
-shr-result : tie.Need-shr-result
-shr-result c = search needs
-
 returns : tie.Need-returns
 unfolding fitsFrame
 returns c = refl
 
 pub fits-frame-spec : {M : Type 1} → statement M
-fits-frame-spec = tie.close (tie.spec shr-result returns)
+fits-frame-spec = tie.close (tie.spec (λ c. search needs) returns)

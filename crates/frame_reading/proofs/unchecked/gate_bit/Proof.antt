@@ -15,27 +15,6 @@ use borrow.Author.Needs.{needs}
 use Rattle.frame_reading.proofs.unchecked.gate_bit.Statement.{statement}
 use Rattle.frame_reading.proofs.unchecked.gate_bit.Tie as tie
 
-mul-widened : tie.Need-mul-widened
-mul-widened c = search needs
-
-element-copy-out-widened : tie.Need-element-copy-out-widened
-element-copy-out-widened c = search needs
-
-widened-requires : tie.Need-widened-requires
-widened-requires c κs = search needs
-
-element-copy-out-wide : tie.Need-element-copy-out-wide
-element-copy-out-wide c = search needs
-
-wide-requires : tie.Need-wide-requires
-wide-requires c κs = search needs
-
-mul-gate-sum : tie.Need-mul-gate-sum
-mul-gate-sum c = search needs
-
-gate-sum-requires : tie.Need-gate-sum-requires
-gate-sum-requires c κs = search needs
-
 returns : tie.Need-returns
 unfolding bit gateFrom
 returns c =
@@ -50,11 +29,11 @@ pub gate-bit-spec : {M : Type 1} → statement M
 gate-bit-spec =
     tie.close
     (tie.spec
-    mul-widened
-    element-copy-out-widened
-    widened-requires
-    element-copy-out-wide
-    wide-requires
-    mul-gate-sum
-    gate-sum-requires
+    (λ c. search needs)
+    (λ c. search needs)
+    (λ c κs. search needs)
+    (λ c. search needs)
+    (λ c κs. search needs)
+    (λ c. search needs)
+    (λ c κs. search needs)
     returns)

@@ -26,30 +26,6 @@ abbrev μ-loop : tie.MeasureT-loop
 loop-holds : tie.Need-loop-holds Inv-loop μ-loop
 loop-holds c = added-none _ _ _ _ _ _
 
-add-place : tie.Need-add-place Inv-loop μ-loop
-add-place c = search needs
-
-element-copy-out-wide : tie.Need-element-copy-out-wide Inv-loop μ-loop
-element-copy-out-wide c = search needs
-
-wide-requires : tie.Need-wide-requires Inv-loop μ-loop
-wide-requires c κs = search needs
-
-mul-widened : tie.Need-mul-widened Inv-loop μ-loop
-mul-widened c = search needs
-
-element-copy-out-widened : tie.Need-element-copy-out-widened Inv-loop μ-loop
-element-copy-out-widened c = search needs
-
-widened-requires : tie.Need-widened-requires Inv-loop μ-loop
-widened-requires c κs = search needs
-
-element-copy-out-total : tie.Need-element-copy-out-total Inv-loop μ-loop
-element-copy-out-total c = search needs
-
-cast-total : tie.Need-cast-total Inv-loop μ-loop
-cast-total c = search needs
-
 -- a turn: the weight at this place, and the bit times the weight, which is what the feed adds
 module _ (c : tie.After-total Inv-loop μ-loop) where
   abbrev at : tie.At-loop Inv-loop μ-loop
@@ -97,12 +73,6 @@ mul-total c = rw (x-is c) (x-fits c)
 add-total : tie.Need-add-total Inv-loop μ-loop
 add-total c = rw (x-is c, toZ-ofZ (x-fits c)) (sum-fits c)
 
-add-i : tie.Need-add-i Inv-loop μ-loop
-add-i c = search needs
-
-loop-less : tie.Need-loop-less Inv-loop μ-loop
-loop-less c = search needs
-
 loop-again : tie.Need-loop-again Inv-loop μ-loop
 loop-again c = rw (x-is c, toZ-ofZ (x-fits c), toZ-ofZ (sum-fits c)) (added c)
 
@@ -116,17 +86,17 @@ gate-sum-spec =
     Inv-loop
     μ-loop
     loop-holds
-    add-place
-    element-copy-out-wide
-    wide-requires
-    mul-widened
-    element-copy-out-widened
-    widened-requires
-    element-copy-out-total
-    cast-total
+    (λ c. search needs)
+    (λ c. search needs)
+    (λ c κs. search needs)
+    (λ c. search needs)
+    (λ c. search needs)
+    (λ c κs. search needs)
+    (λ c. search needs)
+    (λ c. search needs)
     mul-total
     add-total
-    add-i
-    loop-less
+    (λ c. search needs)
+    (λ c. search needs)
     loop-again
     returns)

@@ -18,32 +18,14 @@ abbrev μ-loop : tie.MeasureT-loop
 loop-holds : tie.Need-loop-holds Inv-loop μ-loop
 loop-holds c = word-none _ _ _
 
-sub-j : tie.Need-sub-j Inv-loop μ-loop
-sub-j c = search needs
-
-element-copy-out-wide : tie.Need-element-copy-out-wide Inv-loop μ-loop
-element-copy-out-wide c = search needs
-
-wide-requires : tie.Need-wide-requires Inv-loop μ-loop
-wide-requires c κs = search needs
-
 mul-word : tie.Need-mul-word Inv-loop μ-loop
 mul-word c = omega (arith, word-fits (c .before .before .before .loop .inv) (c .before .before .before .before .pre))
-
-element-copy-out-word : tie.Need-element-copy-out-word Inv-loop μ-loop
-element-copy-out-word c = search needs
-
-cast-word : tie.Need-cast-word Inv-loop μ-loop
-cast-word c = search needs
 
 add-word : tie.Need-add-word Inv-loop μ-loop
 add-word c =
     let at-loop = c .before .before .before .before in
     let s = at-loop .before in
     omega (arith, word-fits (at-loop .loop .inv) (s .pre), byte-below (getD (s .args .values .now) (c .before .wide .result) false))
-
-loop-less : tie.Need-loop-less Inv-loop μ-loop
-loop-less c = search needs
 
 loop-again : tie.Need-loop-again Inv-loop μ-loop
 loop-again c = rw (c .before .wide .ensures .0) (word-next (c .before .before .before .before .loop .inv) (omega arith))
@@ -58,13 +40,13 @@ output-word-spec =
     Inv-loop
     μ-loop
     loop-holds
-    sub-j
-    element-copy-out-wide
-    wide-requires
+    (λ c. search needs)
+    (λ c. search needs)
+    (λ c κs. search needs)
     mul-word
-    element-copy-out-word
-    cast-word
+    (λ c. search needs)
+    (λ c. search needs)
     add-word
-    loop-less
+    (λ c. search needs)
     loop-again
     returns)

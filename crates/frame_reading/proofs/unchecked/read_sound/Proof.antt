@@ -13,9 +13,6 @@ use Rattle.frame_reading.proofs.unchecked.read_sound.Tie as tie
 fits-frame-requires : tie.Need-fits-frame-requires
 fits-frame-requires c κs = sized-of _ (c .pre) .few-inputs
 
-refused-requires : tie.Need-refused-requires
-refused-requires c κs = search needs
-
 returns : tie.Need-returns
 unfolding reading frameAnswer asReading checks
 returns c =
@@ -38,7 +35,7 @@ read-sound-spec =
     tie.close
     (tie.spec
     fits-frame-requires
-    refused-requires
+    (λ c κs. search needs)
     returns
     read-outputs-requires
     returns-2)

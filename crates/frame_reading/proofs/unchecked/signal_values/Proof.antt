@@ -20,9 +20,6 @@ Inv-loop fanins thresholds signals weights inputs gates x values₀ g₀ values 
 abbrev μ-loop : tie.MeasureT-loop
 μ-loop fanins thresholds signals weights inputs gates x values₀ g₀ values g = gates - g
 
-input-values-requires : tie.Need-input-values-requires Inv-loop μ-loop
-input-values-requires c κs = search needs
-
 loop-holds : tie.Need-loop-holds Inv-loop μ-loop
 loop-holds c =
     let long : length (c .input-values .result) ≡ 256 = search needs in
@@ -30,18 +27,6 @@ loop-holds c =
 
 gate-bit-requires : tie.Need-gate-bit-requires Inv-loop μ-loop
 gate-bit-requires c κs = (omega arith, c .before .before .before .before .pre .few-feeds _ (omega arith))
-
-add-values : tie.Need-add-values Inv-loop μ-loop
-add-values c = search needs
-
-array-write-values : tie.Need-array-write-values Inv-loop μ-loop
-array-write-values c = search needs
-
-add-g : tie.Need-add-g Inv-loop μ-loop
-add-g c = search needs
-
-loop-less : tie.Need-loop-less Inv-loop μ-loop
-loop-less c = search needs
 
 loop-again : tie.Need-loop-again Inv-loop μ-loop
 loop-again c = gates-next _ (c .before .before .before .loop .inv) (omega arith) (omega arith) (c .gate-bit .ensures)
@@ -55,12 +40,12 @@ signal-values-spec =
     (tie.spec
     Inv-loop
     μ-loop
-    input-values-requires
+    (λ c κs. search needs)
     loop-holds
     gate-bit-requires
-    add-values
-    array-write-values
-    add-g
-    loop-less
+    (λ c. search needs)
+    (λ c. search needs)
+    (λ c. search needs)
+    (λ c. search needs)
     loop-again
     returns)

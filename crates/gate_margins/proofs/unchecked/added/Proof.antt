@@ -12,24 +12,6 @@ use borrow.Author.Needs.{needs}
 use Rattle.gate_margins.proofs.unchecked.added.Statement.{statement}
 use Rattle.gate_margins.proofs.unchecked.added.Tie as tie
 
-add-result : tie.Need-add-result
-add-result c = search needs
-
-mul-result : tie.Need-mul-result
-mul-result c = search needs
-
-element-copy-out-result : tie.Need-element-copy-out-result
-element-copy-out-result c = search needs
-
-add-result-2 : tie.Need-add-result-2
-add-result-2 c = search needs
-
-mul-result-2 : tie.Need-mul-result-2
-mul-result-2 c = search needs
-
-element-copy-out-result-2 : tie.Need-element-copy-out-result-2
-element-copy-out-result-2 c = search needs
-
 module _ (c : tie.Start) where
   abbrev low : ℤ
   low = getD (c .args .lows .now) (c .args .n + c .args .x) (pos 0)
@@ -56,11 +38,11 @@ pub added-spec : {M : Type 1} → statement M
 added-spec =
     tie.close
     (tie.spec
-    add-result
-    mul-result
-    element-copy-out-result
-    add-result-2
-    mul-result-2
-    element-copy-out-result-2
+    (λ c. search needs)
+    (λ c. search needs)
+    (λ c. search needs)
+    (λ c. search needs)
+    (λ c. search needs)
+    (λ c. search needs)
     add-result-3
     returns)

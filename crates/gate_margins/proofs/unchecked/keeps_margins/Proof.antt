@@ -66,51 +66,24 @@ module _ (c : tie.Start) where
   ceiling-small : natAbs (c .args .threshold +ℤ pos (c .args .on)) ≤ 2000000
   ceiling-small = omega (arith, size-add (c .args .threshold) (pos (c .args .on)), c .pre .threshold-small, c .fits .on .fits)
 
-sub-rest : tie.Need-sub-rest
-sub-rest c = search needs
-
 slice-aggregate-table : tie.Need-slice-aggregate-table
 slice-aggregate-table c = sym (parts (c .before .before) .lows-length)
 
 table-requires : tie.Need-table-requires
 table-requires c κs = let d = c .before .before in (lows-few d, parts d .lows-small)
 
-mul-table : tie.Need-mul-table
-mul-table c = search needs
-
-sub-table : tie.Need-sub-table
-sub-table c = search needs
-
-part-table-start : tie.Need-part-table-start
-part-table-start c = search needs
-
-part-table-end : tie.Need-part-table-end
-part-table-end c = search needs
-
 table-requires-2 : tie.Need-table-requires-2
 table-requires-2 c κs = let d = c .before .before .before .before in (highs-few d, parts d .highs-small)
-
-cast-floor : tie.Need-cast-floor
-cast-floor c = search needs
 
 sub-floor : tie.Need-sub-floor
 sub-floor c =
     let d = c .before .before .before .before .before in
     simp (threshold-held d, off-is d) (size-fits w32 (d .args .threshold -ℤ pos (d .args .off)) (omega (arith, floor-small d)))
 
-cast-ceiling : tie.Need-cast-ceiling
-cast-ceiling c = search needs
-
 add-ceiling : tie.Need-add-ceiling
 add-ceiling c =
     let d = c .before .before .before .before .before in
     simp (threshold-held d, on-is d) (size-fits w32 (d .args .threshold +ℤ pos (d .args .on)) (omega (arith, ceiling-small d)))
-
-settings-requires : tie.Need-settings-requires
-settings-requires c κs = search needs
-
-settings-requires-2 : tie.Need-settings-requires-2
-settings-requires-2 c κs = search needs
 
 -- the two tables
 module _ (c : tie.After-settings2) where
@@ -165,19 +138,19 @@ keeps-margins-spec =
     tie.close
     (tie.spec
     returns
-    sub-rest
+    (λ c. search needs)
     slice-aggregate-table
     table-requires
-    mul-table
-    sub-table
-    part-table-start
-    part-table-end
+    (λ c. search needs)
+    (λ c. search needs)
+    (λ c. search needs)
+    (λ c. search needs)
     table-requires-2
-    cast-floor
+    (λ c. search needs)
     sub-floor
-    cast-ceiling
+    (λ c. search needs)
     add-ceiling
-    settings-requires
-    settings-requires-2
+    (λ c κs. search needs)
+    (λ c κs. search needs)
     lists-apart-requires
     returns-2)

@@ -35,58 +35,10 @@ module _ (c : tie.Start) where
   weighted-held : toZ w32 (ofZ w32 (c .args .weight +ℤ other)) ≡ c .args .weight +ℤ other
   weighted-held = held (c .args .weight +ℤ other) (omega (arith, weighted-small))
 
-sub-x : tie.Need-sub-x
-sub-x c = search needs
-
-add-x : tie.Need-add-x
-add-x c = search needs
-
-mul-x : tie.Need-mul-x
-mul-x c = search needs
-
-element-copy-out-x : tie.Need-element-copy-out-x
-element-copy-out-x c = search needs
-
-sub-y : tie.Need-sub-y
-sub-y c = search needs
-
-add-y : tie.Need-add-y
-add-y c = search needs
-
-mul-y : tie.Need-mul-y
-mul-y c = search needs
-
-element-copy-out-y : tie.Need-element-copy-out-y
-element-copy-out-y c = search needs
-
 add-y-2 : tie.Need-add-y-2
 add-y-2 c =
     let d = c .before .before in
     simp (weight-held d, other-held d) (size-fits w32 (d .args .weight +ℤ other d) (omega (arith, weighted-small d)))
-
-mul-place : tie.Need-mul-place
-mul-place c = search needs
-
-add-place : tie.Need-add-place
-add-place c = search needs
-
-sub-place : tie.Need-sub-place
-sub-place c = search needs
-
-add-place-2 : tie.Need-add-place-2
-add-place-2 c = search needs
-
-mul-y-2 : tie.Need-mul-y-2
-mul-y-2 c = search needs
-
-element-set-from-y : tie.Need-element-set-from-y
-element-set-from-y c = search needs
-
-mul-x-2 : tie.Need-mul-x-2
-mul-x-2 c = search needs
-
-element-set-from-x : tie.Need-element-set-from-x
-element-set-from-x c = search needs
 
 returns : tie.Need-returns
 returns c =
@@ -104,22 +56,22 @@ pub put-back-spec : {M : Type 1} → statement M
 put-back-spec =
     tie.close
     (tie.spec
-    sub-x
-    add-x
-    mul-x
-    element-copy-out-x
-    sub-y
-    add-y
-    mul-y
-    element-copy-out-y
+    (λ c. search needs)
+    (λ c. search needs)
+    (λ c. search needs)
+    (λ c. search needs)
+    (λ c. search needs)
+    (λ c. search needs)
+    (λ c. search needs)
+    (λ c. search needs)
     add-y-2
-    mul-place
-    add-place
-    sub-place
-    add-place-2
-    mul-y-2
-    element-set-from-y
-    mul-x-2
-    element-set-from-x
+    (λ c. search needs)
+    (λ c. search needs)
+    (λ c. search needs)
+    (λ c. search needs)
+    (λ c. search needs)
+    (λ c. search needs)
+    (λ c. search needs)
+    (λ c. search needs)
     returns
     returns-2)

@@ -29,24 +29,6 @@ Inv-loop weights bit sums₀ low high filled j₀ sums j = Filling weights fille
 abbrev μ-loop : tie.MeasureT-loop
 μ-loop weights bit sums₀ low high filled j₀ sums j = filled - j
 
-mul-low : tie.Need-mul-low Inv-loop μ-loop
-mul-low c = search needs
-
-element-copy-out-low : tie.Need-element-copy-out-low Inv-loop μ-loop
-element-copy-out-low c = search needs
-
-add-high : tie.Need-add-high Inv-loop μ-loop
-add-high c = search needs
-
-mul-high : tie.Need-mul-high Inv-loop μ-loop
-mul-high c = search needs
-
-element-copy-out-high : tie.Need-element-copy-out-high Inv-loop μ-loop
-element-copy-out-high c = search needs
-
-settings-requires : tie.Need-settings-requires Inv-loop μ-loop
-settings-requires c κs = search needs
-
 loop-holds : tie.Need-loop-holds Inv-loop μ-loop
 loop-holds c =
     let s = c .before .before .before in
@@ -88,9 +70,6 @@ module _ (c : tie.In-loop Inv-loop μ-loop) where
   high-small : natAbs (old-high +ℤ high) ≤ 9000000
   high-small = omega (arith, size-add old-high high, ahead .high-small, start .pre .1 .0 (8 + start .args .bit))
 
-mul-x : tie.Need-mul-x Inv-loop μ-loop
-mul-x c = search needs
-
 element-copy-out-x : tie.Need-element-copy-out-x Inv-loop μ-loop
 element-copy-out-x c = omega arith
 
@@ -101,9 +80,6 @@ add-x c =
 
 add-y : tie.Need-add-y Inv-loop μ-loop
 add-y c = omega arith
-
-mul-y : tie.Need-mul-y Inv-loop μ-loop
-mul-y c = search needs
 
 element-copy-out-y : tie.Need-element-copy-out-y Inv-loop μ-loop
 element-copy-out-y c = omega arith
@@ -116,17 +92,11 @@ add-y-2 c =
 add-next : tie.Need-add-next Inv-loop μ-loop
 add-next c = omega arith
 
-mul-x-2 : tie.Need-mul-x-2 Inv-loop μ-loop
-mul-x-2 c = search needs
-
 element-set-from-x : tie.Need-element-set-from-x Inv-loop μ-loop
 element-set-from-x c = omega arith
 
 add-y-3 : tie.Need-add-y-3 Inv-loop μ-loop
 add-y-3 c = omega arith
-
-mul-y-2 : tie.Need-mul-y-2 Inv-loop μ-loop
-mul-y-2 c = search needs
 
 element-set-from-y : tie.Need-element-set-from-y Inv-loop μ-loop
 element-set-from-y c = omega arith
@@ -166,25 +136,25 @@ extend-spec =
     (tie.spec
     Inv-loop
     μ-loop
-    mul-low
-    element-copy-out-low
-    add-high
-    mul-high
-    element-copy-out-high
-    settings-requires
+    (λ c. search needs)
+    (λ c. search needs)
+    (λ c. search needs)
+    (λ c. search needs)
+    (λ c. search needs)
+    (λ c κs. search needs)
     loop-holds
-    mul-x
+    (λ c. search needs)
     element-copy-out-x
     add-x
     add-y
-    mul-y
+    (λ c. search needs)
     element-copy-out-y
     add-y-2
     add-next
-    mul-x-2
+    (λ c. search needs)
     element-set-from-x
     add-y-3
-    mul-y-2
+    (λ c. search needs)
     element-set-from-y
     add-j
     loop-less

@@ -7,11 +7,8 @@ use borrow.Author.Needs.{needs}
 use Rattle.gate_sums.proofs.unchecked.settings.Statement.{statement}
 use Rattle.gate_sums.proofs.unchecked.settings.Tie as tie
 
-shl-result : tie.Need-shl-result
-shl-result c = search needs
-
 returns : tie.Need-returns
 returns c = let h : 2 ^ (c .args .count) < 2 ^ 64 = pow-lt {j = 64} (omega arith) in rw one-mul (mod-eq-of-lt h)
 
 pub settings-spec : {M : Type 1} → statement M
-settings-spec = tie.close (tie.spec shl-result returns)
+settings-spec = tie.close (tie.spec (λ c. search needs) returns)

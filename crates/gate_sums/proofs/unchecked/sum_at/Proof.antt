@@ -12,21 +12,6 @@ use borrow.Author.Needs.{needs}
 use Rattle.gate_sums.proofs.unchecked.sum_at.Statement.{statement}
 use Rattle.gate_sums.proofs.unchecked.sum_at.Tie as tie
 
-mul-result : tie.Need-mul-result
-mul-result c = search needs
-
-element-copy-out-result : tie.Need-element-copy-out-result
-element-copy-out-result c = search needs
-
-add-result : tie.Need-add-result
-add-result c = search needs
-
-mul-result-2 : tie.Need-mul-result-2
-mul-result-2 c = search needs
-
-element-copy-out-result-2 : tie.Need-element-copy-out-result-2
-element-copy-out-result-2 c = search needs
-
 module _ (c : tie.Start) where
   abbrev low : ℤ
   low = getD (c .args .sums .now) (c .args .setting % 256) (pos 0)
@@ -54,10 +39,10 @@ pub sum-at-spec : {M : Type 1} → statement M
 sum-at-spec =
     tie.close
     (tie.spec
-    mul-result
-    element-copy-out-result
-    add-result
-    mul-result-2
-    element-copy-out-result-2
+    (λ c. search needs)
+    (λ c. search needs)
+    (λ c. search needs)
+    (λ c. search needs)
+    (λ c. search needs)
     add-result-2
     returns)

@@ -5,15 +5,6 @@ use Rattle.journal.specs.EnteringLaws.{raised-entered}
 use Rattle.journal.proofs.unchecked.enter_bytes.Statement.{statement}
 use Rattle.journal.proofs.unchecked.enter_bytes.Tie as tie
 
-raise-bytes-requires : tie.Need-raise-bytes-requires
-raise-bytes-requires c κs = search needs
-
-store-bytes-requires : tie.Need-store-bytes-requires
-store-bytes-requires c κs = search needs
-
-same-length : tie.Need-same-length
-same-length c = search needs
-
 returns : tie.Need-returns
 returns c =
     let at-store = c .before .before in
@@ -23,4 +14,4 @@ returns c =
 
 pub enter-bytes-spec : {M : Type 1} → statement M
 enter-bytes-spec =
-    tie.close (tie.spec raise-bytes-requires store-bytes-requires same-length returns)
+    tie.close (tie.spec (λ c κs. search needs) (λ c κs. search needs) (λ c. search needs) returns)

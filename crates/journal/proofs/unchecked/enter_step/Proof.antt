@@ -32,40 +32,10 @@ start-of c =
     let kinds = signals .before .before .before in
     kinds .before .before .before
 
-slice-aggregate-enter-bytes : tie.Need-slice-aggregate-enter-bytes
-slice-aggregate-enter-bytes c = search needs
-
-enter-bytes-requires : tie.Need-enter-bytes-requires
-enter-bytes-requires c κs = search needs
-
-slice-aggregate-enter-bytes-2 : tie.Need-slice-aggregate-enter-bytes-2
-slice-aggregate-enter-bytes-2 c = search needs
-
-enter-bytes-requires-2 : tie.Need-enter-bytes-requires-2
-enter-bytes-requires-2 c κs = search needs
-
-slice-aggregate-enter-bytes-3 : tie.Need-slice-aggregate-enter-bytes-3
-slice-aggregate-enter-bytes-3 c = search needs
-
-enter-bytes-requires-3 : tie.Need-enter-bytes-requires-3
-enter-bytes-requires-3 c κs = search needs
-
-slice-aggregate-enter-integers : tie.Need-slice-aggregate-enter-integers
-slice-aggregate-enter-integers c = search needs
-
-enter-integers-requires : tie.Need-enter-integers-requires
-enter-integers-requires c κs = search needs
-
-slice-aggregate-enter-bytes-4 : tie.Need-slice-aggregate-enter-bytes-4
-slice-aggregate-enter-bytes-4 c = search needs
-
 enter-bytes-requires-4 : tie.Need-enter-bytes-requires-4
 enter-bytes-requires-4 c κs =
     let thresholds = c .before .before .before in
     omega (arith, c .before .enter-bytes-arg4 .given .0 .1, long-row-signals (start-of thresholds))
-
-slice-aggregate-enter-integers-2 : tie.Need-slice-aggregate-enter-integers-2
-slice-aggregate-enter-integers-2 c = search needs
 
 enter-integers-requires-2 : tie.Need-enter-integers-requires-2
 enter-integers-requires-2 c κs =
@@ -102,16 +72,16 @@ pub enter-step-spec : {M : Type 1} → statement M
 enter-step-spec =
     tie.close
     (tie.spec
-    slice-aggregate-enter-bytes
-    enter-bytes-requires
-    slice-aggregate-enter-bytes-2
-    enter-bytes-requires-2
-    slice-aggregate-enter-bytes-3
-    enter-bytes-requires-3
-    slice-aggregate-enter-integers
-    enter-integers-requires
-    slice-aggregate-enter-bytes-4
+    (λ c. search needs)
+    (λ c κs. search needs)
+    (λ c. search needs)
+    (λ c κs. search needs)
+    (λ c. search needs)
+    (λ c κs. search needs)
+    (λ c. search needs)
+    (λ c κs. search needs)
+    (λ c. search needs)
     enter-bytes-requires-4
-    slice-aggregate-enter-integers-2
+    (λ c. search needs)
     enter-integers-requires-2
     returns)

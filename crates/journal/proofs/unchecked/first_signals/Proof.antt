@@ -18,18 +18,6 @@ abbrev μ-loop : tie.MeasureT-loop
 loop-holds : tie.Need-loop-holds Inv-loop μ-loop
 loop-holds c = (omega arith, pasted-none _ _ _ _)
 
-element-copy-out-signal : tie.Need-element-copy-out-signal Inv-loop μ-loop
-element-copy-out-signal c = search needs
-
-array-write-result : tie.Need-array-write-result Inv-loop μ-loop
-array-write-result c = search needs
-
-add-i : tie.Need-add-i Inv-loop μ-loop
-add-i c = search needs
-
-loop-less : tie.Need-loop-less Inv-loop μ-loop
-loop-less c = search needs
-
 loop-again : tie.Need-loop-again Inv-loop μ-loop
 loop-again c = (omega arith, pasted-more _ _ (c .before .before .loop .inv .1) (omega arith) refl)
 
@@ -43,9 +31,9 @@ first-signals-spec =
     Inv-loop
     μ-loop
     loop-holds
-    element-copy-out-signal
-    array-write-result
-    add-i
-    loop-less
+    (λ c. search needs)
+    (λ c. search needs)
+    (λ c. search needs)
+    (λ c. search needs)
     loop-again
     returns)

@@ -12,24 +12,6 @@ use Rattle.journal.specs.NewestLaws.{newest-row}
 use Rattle.journal.proofs.unchecked.newest_gate.Statement.{statement}
 use Rattle.journal.proofs.unchecked.newest_gate.Tie as tie
 
-element-copy-out-fanin : tie.Need-element-copy-out-fanin
-element-copy-out-fanin c = search needs
-
-element-copy-out-threshold : tie.Need-element-copy-out-threshold
-element-copy-out-threshold c = search needs
-
-wide-requires : tie.Need-wide-requires
-wide-requires c κs = search needs
-
-first-signals-requires : tie.Need-first-signals-requires
-first-signals-requires c κs = search needs
-
-wide-requires-2 : tie.Need-wide-requires-2
-wide-requires-2 c κs = search needs
-
-first-weights-requires : tie.Need-first-weights-requires
-first-weights-requires c κs = search needs
-
 returns : tie.Need-returns
 returns c =
     let signals = c .before .before .before .before in
@@ -50,10 +32,10 @@ pub newest-gate-spec : {M : Type 1} → statement M
 newest-gate-spec =
     tie.close
     (tie.spec
-    element-copy-out-fanin
-    element-copy-out-threshold
-    wide-requires
-    first-signals-requires
-    wide-requires-2
-    first-weights-requires
+    (λ c. search needs)
+    (λ c. search needs)
+    (λ c κs. search needs)
+    (λ c κs. search needs)
+    (λ c κs. search needs)
+    (λ c κs. search needs)
     returns)

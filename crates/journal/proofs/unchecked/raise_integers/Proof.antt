@@ -21,27 +21,6 @@ abbrev μ-loop : tie.MeasureT-loop
 loop-holds : tie.Need-loop-holds Inv-loop μ-loop
 loop-holds c = (omega arith, omega arith, raised-none _ _ _)
 
-sub-p : tie.Need-sub-p Inv-loop μ-loop
-sub-p c = search needs
-
-sub-integer : tie.Need-sub-integer Inv-loop μ-loop
-sub-integer c = search needs
-
-mul-integer : tie.Need-mul-integer Inv-loop μ-loop
-mul-integer c = search needs
-
-slice-copy-out-integer : tie.Need-slice-copy-out-integer Inv-loop μ-loop
-slice-copy-out-integer c = search needs
-
-mul-integer-2 : tie.Need-mul-integer-2 Inv-loop μ-loop
-mul-integer-2 c = search needs
-
-slice-set-from-integer : tie.Need-slice-set-from-integer Inv-loop μ-loop
-slice-set-from-integer c = search needs
-
-loop-less : tie.Need-loop-less Inv-loop μ-loop
-loop-less c = search needs
-
 loop-again : tie.Need-loop-again Inv-loop μ-loop
 loop-again c =
     let inv = c .before .before .loop .inv in
@@ -60,13 +39,13 @@ raise-integers-spec =
     Inv-loop
     μ-loop
     loop-holds
-    sub-p
-    sub-integer
-    mul-integer
-    slice-copy-out-integer
-    mul-integer-2
-    slice-set-from-integer
-    loop-less
+    (λ c. search needs)
+    (λ c. search needs)
+    (λ c. search needs)
+    (λ c. search needs)
+    (λ c. search needs)
+    (λ c. search needs)
+    (λ c. search needs)
     loop-again
     same-length
     returns)

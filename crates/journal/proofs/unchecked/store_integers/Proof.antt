@@ -22,23 +22,8 @@ abbrev μ-loop : tie.MeasureT-loop
 loop-holds : tie.Need-loop-holds Inv-loop μ-loop
 loop-holds c = (omega arith, pasted-none _ _ _ _)
 
-mul-integer : tie.Need-mul-integer Inv-loop μ-loop
-mul-integer c = search needs
-
-shared-slice-copy-out-integer : tie.Need-shared-slice-copy-out-integer Inv-loop μ-loop
-shared-slice-copy-out-integer c = search needs
-
-mul-integer-2 : tie.Need-mul-integer-2 Inv-loop μ-loop
-mul-integer-2 c = search needs
-
 slice-set-from-integer : tie.Need-slice-set-from-integer Inv-loop μ-loop
 slice-set-from-integer c = omega (arith, c .before .before .loop .inv .1 .long)
-
-add-i : tie.Need-add-i Inv-loop μ-loop
-add-i c = search needs
-
-loop-less : tie.Need-loop-less Inv-loop μ-loop
-loop-less c = search needs
 
 loop-again : tie.Need-loop-again Inv-loop μ-loop
 loop-again c =
@@ -59,12 +44,12 @@ store-integers-spec =
     Inv-loop
     μ-loop
     loop-holds
-    mul-integer
-    shared-slice-copy-out-integer
-    mul-integer-2
+    (λ c. search needs)
+    (λ c. search needs)
+    (λ c. search needs)
     slice-set-from-integer
-    add-i
-    loop-less
+    (λ c. search needs)
+    (λ c. search needs)
     loop-again
     same-length
     returns)

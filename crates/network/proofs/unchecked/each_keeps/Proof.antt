@@ -47,9 +47,6 @@ loop-holds c = (omega arith, below-none (placesKeep (c .args .board) (c .args .f
 element-copy-out-wide : tie.Need-element-copy-out-wide Inv-loop μ-loop
 element-copy-out-wide c = omega (arith, c .before .before .pre .few)
 
-wide-requires : tie.Need-wide-requires Inv-loop μ-loop
-wide-requires c κs = search needs
-
 mul-places-keep : tie.Need-mul-places-keep Inv-loop μ-loop
 mul-places-keep c = omega (arith, c .before .before .before .before .pre .few)
 
@@ -127,7 +124,7 @@ each-keeps-spec =
     μ-loop
     loop-holds
     element-copy-out-wide
-    wide-requires
+    (λ c κs. search needs)
     mul-places-keep
     mul-places-keep-2
     element-copy-out-places-keep

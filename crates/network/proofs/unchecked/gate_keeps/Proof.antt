@@ -31,9 +31,6 @@ module _ (board : Board) (r : GateRecord) (n : ℕ) (t : ℤ) (count : n ≡ r .
   unfolding keeps gateIn
   answered = rw (count, threshold) (sym (ap (everySum (outside (board .on) (board .off) (r .threshold))) (gate-weights r)))
 
-wide-requires : tie.Need-wide-requires
-wide-requires c κs = search needs
-
 threshold-held : (c : tie.Start) → toZ w32 (ofZ w32 (c .args .t1 .threshold)) ≡ c .args .t1 .threshold
 threshold-held c = toZ-ofZ (size-fits w32 (c .args .t1 .threshold) (omega (arith, c .pre .threshold-small)))
 
@@ -51,4 +48,4 @@ returns c =
     ∙ answered (s .args .board) (s .args .t1) (d .wide .result) (toZ w32 (ofZ w32 (s .args .t1 .threshold))) (d .wide .ensures .0) (threshold-held s)
 
 pub gate-keeps-spec : {M : Type 1} → statement M
-gate-keeps-spec = tie.close (tie.spec wide-requires first-keep-requires returns)
+gate-keeps-spec = tie.close (tie.spec (λ c κs. search needs) first-keep-requires returns)

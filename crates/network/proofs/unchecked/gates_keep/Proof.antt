@@ -14,11 +14,5 @@ returns c =
     let t = T-and (eqb (b .on) 0) (eqb (b .off) 1) (T-is _ (c .if1 .taken)) in
     sym (places-plain b (a .fanins .now) (a .thresholds .now) (a .weights .now) (a .gates) (eqb→eq (b .on) 0 (t .0)) (eqb→eq (b .off) 1 (t .1)))
 
-each-keeps-requires : tie.Need-each-keeps-requires
-each-keeps-requires c κs = search needs
-
-returns-2 : tie.Need-returns-2
-returns-2 c = search needs
-
 pub gates-keep-spec : {M : Type 1} → statement M
-gates-keep-spec = tie.close (tie.spec returns each-keeps-requires returns-2)
+gates-keep-spec = tie.close (tie.spec returns (λ c κs. search needs) (λ c. search needs))

@@ -12,21 +12,6 @@ use borrow.Author.Needs.{needs}
 use Rattle.network.proofs.unchecked.places_keep.Statement.{statement}
 use Rattle.network.proofs.unchecked.places_keep.Tie as tie
 
-add-end : tie.Need-add-end
-add-end c = search needs
-
-mul-keeps-margins : tie.Need-mul-keeps-margins
-mul-keeps-margins c = search needs
-
-sub-keeps-margins : tie.Need-sub-keeps-margins
-sub-keeps-margins c = search needs
-
-part-keeps-margins-start : tie.Need-part-keeps-margins-start
-part-keeps-margins-start c = search needs
-
-part-keeps-margins-end : tie.Need-part-keeps-margins-end
-part-keeps-margins-end c = search needs
-
 -- the part that is lent
 module _ (c : tie.After-all) where
   abbrev weights : List ℤ
@@ -51,10 +36,10 @@ pub places-keep-spec : {M : Type 1} → statement M
 places-keep-spec =
     tie.close
     (tie.spec
-    add-end
-    mul-keeps-margins
-    sub-keeps-margins
-    part-keeps-margins-start
-    part-keeps-margins-end
+    (λ c. search needs)
+    (λ c. search needs)
+    (λ c. search needs)
+    (λ c. search needs)
+    (λ c. search needs)
     keeps-margins-requires
     returns)

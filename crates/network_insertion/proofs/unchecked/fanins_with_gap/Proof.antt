@@ -7,12 +7,6 @@ use Rattle.network_insertion.specs.Gaps.{withPlaces}
 use Rattle.network_insertion.proofs.unchecked.fanins_with_gap.Statement.{statement}
 use Rattle.network_insertion.proofs.unchecked.fanins_with_gap.Tie as tie
 
-slice-aggregate-bytes-with-gap : tie.Need-slice-aggregate-bytes-with-gap
-slice-aggregate-bytes-with-gap c = search needs
-
-bytes-with-gap-requires : tie.Need-bytes-with-gap-requires
-bytes-with-gap-requires c κs = search needs
-
 returns : tie.Need-returns
 returns c =
     let start = c .before .before .before .before in
@@ -20,4 +14,4 @@ returns c =
     c .before .bytes-with-gap .ensures ∙ ap (λ (k : ℕ). withPlaces 0 k (a .g) 1 (now (a .fanins))) (start .pre .1)
 
 pub fanins-with-gap-spec : {M : Type 1} → statement M
-fanins-with-gap-spec = tie.close (tie.spec slice-aggregate-bytes-with-gap bytes-with-gap-requires returns)
+fanins-with-gap-spec = tie.close (tie.spec (λ c. search needs) (λ c κs. search needs) returns)

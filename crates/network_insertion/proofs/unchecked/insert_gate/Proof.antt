@@ -26,15 +26,6 @@ fanins-done c = thresholds-done c .before .before .before
 abbrev start-of : tie.After-weights → tie.Start
 start-of c = fanins-done c .before .before .before
 
-sub-g : tie.Need-sub-g
-sub-g c = search needs
-
-mul-first : tie.Need-mul-first
-mul-first c = search needs
-
-add-gates : tie.Need-add-gates
-add-gates c = search needs
-
 fanins-with-gap-requires : tie.Need-fanins-with-gap-requires
 fanins-with-gap-requires c κs = let start = c .before .before in (omega (arith, start .pre .0), shaped start .fanins)
 
@@ -77,9 +68,9 @@ pub insert-gate-spec : {M : Type 1} → statement M
 insert-gate-spec =
     tie.close
     (tie.spec
-    sub-g
-    mul-first
-    add-gates
+    (λ c. search needs)
+    (λ c. search needs)
+    (λ c. search needs)
     fanins-with-gap-requires
     thresholds-with-gap-requires
     signals-with-gap-requires

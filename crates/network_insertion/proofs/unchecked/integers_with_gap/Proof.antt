@@ -24,23 +24,8 @@ abbrev μ-loop : tie.MeasureT-loop
 loop-holds : tie.Need-loop-holds Inv-loop μ-loop
 loop-holds c = (omega arith, pasted-none _ _ _ _)
 
-source-of-requires : tie.Need-source-of-requires Inv-loop μ-loop
-source-of-requires c κs = search needs
-
-integer-at-requires : tie.Need-integer-at-requires Inv-loop μ-loop
-integer-at-requires c κs = search needs
-
-mul-integer : tie.Need-mul-integer Inv-loop μ-loop
-mul-integer c = search needs
-
 slice-set-from-integer : tie.Need-slice-set-from-integer Inv-loop μ-loop
 slice-set-from-integer c = omega (arith, c .before .before .before .loop .inv .1 .long)
-
-add-p : tie.Need-add-p Inv-loop μ-loop
-add-p c = search needs
-
-loop-less : tie.Need-loop-less Inv-loop μ-loop
-loop-less c = search needs
 
 loop-again : tie.Need-loop-again Inv-loop μ-loop
 loop-again c =
@@ -69,12 +54,12 @@ integers-with-gap-spec =
     Inv-loop
     μ-loop
     loop-holds
-    source-of-requires
-    integer-at-requires
-    mul-integer
+    (λ c κs. search needs)
+    (λ c κs. search needs)
+    (λ c. search needs)
     slice-set-from-integer
-    add-p
-    loop-less
+    (λ c. search needs)
+    (λ c. search needs)
     loop-again
     same-length
     returns)

@@ -34,12 +34,6 @@ raise-requires c κs =
 slice-write-signals : tie.Need-slice-write-signals Inv-loop μ-loop
 slice-write-signals c = omega (arith, c .before .before .before .loop .inv .1 .long)
 
-add-p : tie.Need-add-p Inv-loop μ-loop
-add-p c = search needs
-
-loop-less : tie.Need-loop-less Inv-loop μ-loop
-loop-less c = search needs
-
 loop-again : tie.Need-loop-again Inv-loop μ-loop
 loop-again c =
     let loop = c .before .before .before .loop in
@@ -68,8 +62,8 @@ raise-all-spec =
     slice-read-signal
     raise-requires
     slice-write-signals
-    add-p
-    loop-less
+    (λ c. search needs)
+    (λ c. search needs)
     loop-again
     same-length
     returns)

@@ -11,15 +11,6 @@ use Rattle.network_insertion.specs.InsertLaws.{low-places}
 use Rattle.network_insertion.proofs.unchecked.signals_with_gap.Statement.{statement}
 use Rattle.network_insertion.proofs.unchecked.signals_with_gap.Tie as tie
 
-slice-aggregate-bytes-with-gap : tie.Need-slice-aggregate-bytes-with-gap
-slice-aggregate-bytes-with-gap c = search needs
-
-bytes-with-gap-requires : tie.Need-bytes-with-gap-requires
-bytes-with-gap-requires c κs = search needs
-
-slice-aggregate-raise-all : tie.Need-slice-aggregate-raise-all
-slice-aggregate-raise-all c = search needs
-
 raise-all-requires : tie.Need-raise-all-requires
 raise-all-requires c κs =
     let start = c .before .before .before .before .before in
@@ -38,8 +29,8 @@ pub signals-with-gap-spec : {M : Type 1} → statement M
 signals-with-gap-spec =
     tie.close
     (tie.spec
-    slice-aggregate-bytes-with-gap
-    bytes-with-gap-requires
-    slice-aggregate-raise-all
+    (λ c. search needs)
+    (λ c κs. search needs)
+    (λ c. search needs)
     raise-all-requires
     returns)

@@ -9,17 +9,11 @@ use Rattle.network_insertion.proofs.unchecked.source_of.Tie as tie
 returns : tie.Need-returns
 returns c = sym (source-low _ _ _ _ (c .if1 .taken))
 
-add-if2 : tie.Need-add-if2
-add-if2 c = search needs
-
 returns-2 : tie.Need-returns-2
 returns-2 c = sym (source-new _ _ _ _ (omega arith) (omega arith))
-
-sub-result : tie.Need-sub-result
-sub-result c = search needs
 
 returns-3 : tie.Need-returns-3
 returns-3 c = sym (source-high _ _ _ _ (omega arith))
 
 pub source-of-spec : {M : Type 1} → statement M
-source-of-spec = tie.close (tie.spec returns add-if2 returns-2 sub-result returns-3)
+source-of-spec = tie.close (tie.spec returns (λ c. search needs) returns-2 (λ c. search needs) returns-3)

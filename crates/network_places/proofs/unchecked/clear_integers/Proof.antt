@@ -20,18 +20,6 @@ abbrev μ-loop : tie.MeasureT-loop
 loop-holds : tie.Need-loop-holds Inv-loop μ-loop
 loop-holds c = let e : 0 ≡ c .args .from - c .args .from = omega arith in (omega arith, omega arith, rw (← e) (pasted-none _ _ _ _))
 
-mul-integers : tie.Need-mul-integers Inv-loop μ-loop
-mul-integers c = search needs
-
-slice-set-of-integers : tie.Need-slice-set-of-integers Inv-loop μ-loop
-slice-set-of-integers c = search needs
-
-add-p : tie.Need-add-p Inv-loop μ-loop
-add-p c = search needs
-
-loop-less : tie.Need-loop-less Inv-loop μ-loop
-loop-less c = search needs
-
 loop-again : tie.Need-loop-again Inv-loop μ-loop
 loop-again c =
     let loop = c .before .loop in
@@ -54,10 +42,10 @@ clear-integers-spec =
     Inv-loop
     μ-loop
     loop-holds
-    mul-integers
-    slice-set-of-integers
-    add-p
-    loop-less
+    (λ c. search needs)
+    (λ c. search needs)
+    (λ c. search needs)
+    (λ c. search needs)
     loop-again
     same-length
     returns)

@@ -24,50 +24,8 @@ abbrev μ-loop : tie.MeasureT-loop
 μ-loop fanins thresholds signals weights g fanin threshold row-signals₀ row-weights₀ base i₀ row-signals row-weights i =
     16 - i
 
-element-copy-out-fanin : tie.Need-element-copy-out-fanin Inv-loop μ-loop
-element-copy-out-fanin c = search needs
-
-mul-threshold : tie.Need-mul-threshold Inv-loop μ-loop
-mul-threshold c = search needs
-
-element-copy-out-threshold : tie.Need-element-copy-out-threshold Inv-loop μ-loop
-element-copy-out-threshold c = search needs
-
-mul-base : tie.Need-mul-base Inv-loop μ-loop
-mul-base c = search needs
-
 loop-holds : tie.Need-loop-holds Inv-loop μ-loop
 loop-holds c = (omega arith, pasted-none _ _ _ _, pasted-none _ _ _ _)
-
-add-signal : tie.Need-add-signal Inv-loop μ-loop
-add-signal c = search needs
-
-element-copy-out-signal : tie.Need-element-copy-out-signal Inv-loop μ-loop
-element-copy-out-signal c = search needs
-
-add-weight : tie.Need-add-weight Inv-loop μ-loop
-add-weight c = search needs
-
-mul-weight : tie.Need-mul-weight Inv-loop μ-loop
-mul-weight c = search needs
-
-element-copy-out-weight : tie.Need-element-copy-out-weight Inv-loop μ-loop
-element-copy-out-weight c = search needs
-
-array-write-row-signals : tie.Need-array-write-row-signals Inv-loop μ-loop
-array-write-row-signals c = search needs
-
-mul-row-weights : tie.Need-mul-row-weights Inv-loop μ-loop
-mul-row-weights c = search needs
-
-array-set-from-row-weights : tie.Need-array-set-from-row-weights Inv-loop μ-loop
-array-set-from-row-weights c = search needs
-
-add-i : tie.Need-add-i Inv-loop μ-loop
-add-i c = search needs
-
-loop-less : tie.Need-loop-less Inv-loop μ-loop
-loop-less c = search needs
 
 loop-again : tie.Need-loop-again Inv-loop μ-loop
 loop-again c =
@@ -97,20 +55,20 @@ gate-at-spec =
     (tie.spec
     Inv-loop
     μ-loop
-    element-copy-out-fanin
-    mul-threshold
-    element-copy-out-threshold
-    mul-base
+    (λ c. search needs)
+    (λ c. search needs)
+    (λ c. search needs)
+    (λ c. search needs)
     loop-holds
-    add-signal
-    element-copy-out-signal
-    add-weight
-    mul-weight
-    element-copy-out-weight
-    array-write-row-signals
-    mul-row-weights
-    array-set-from-row-weights
-    add-i
-    loop-less
+    (λ c. search needs)
+    (λ c. search needs)
+    (λ c. search needs)
+    (λ c. search needs)
+    (λ c. search needs)
+    (λ c. search needs)
+    (λ c. search needs)
+    (λ c. search needs)
+    (λ c. search needs)
+    (λ c. search needs)
     loop-again
     returns)

@@ -7,17 +7,8 @@ use denote.Ref.{now}
 use Rattle.network_places.proofs.unchecked.integer_at.Statement.{statement}
 use Rattle.network_places.proofs.unchecked.integer_at.Tie as tie
 
-mul-result : tie.Need-mul-result
-mul-result c = search needs
-
-shared-slice-copy-out-result : tie.Need-shared-slice-copy-out-result
-shared-slice-copy-out-result c = search needs
-
-returns : tie.Need-returns
-returns c = search needs
-
 returns-2 : tie.Need-returns-2
 returns-2 c = let a = c .before .args in sym (List·getD-eq-default (now (a .integers)) (pos 0) {n = a .p} (c .if1 .left))
 
 pub integer-at-spec : {M : Type 1} → statement M
-integer-at-spec = tie.close (tie.spec mul-result shared-slice-copy-out-result returns returns-2)
+integer-at-spec = tie.close (tie.spec (λ c. search needs) (λ c. search needs) (λ c. search needs) returns-2)

@@ -26,17 +26,8 @@ loop-holds c = (omega arith, pasted-none _ _ _ _)
 slice-read-signal : tie.Need-slice-read-signal Inv-loop μ-loop
 slice-read-signal c = omega (arith, c .before .before .loop .inv .1 .long)
 
-lower-requires : tie.Need-lower-requires Inv-loop μ-loop
-lower-requires c κs = search needs
-
 slice-write-signals : tie.Need-slice-write-signals Inv-loop μ-loop
 slice-write-signals c = omega (arith, c .before .before .before .loop .inv .1 .long)
-
-add-p : tie.Need-add-p Inv-loop μ-loop
-add-p c = search needs
-
-loop-less : tie.Need-loop-less Inv-loop μ-loop
-loop-less c = search needs
 
 loop-again : tie.Need-loop-again Inv-loop μ-loop
 loop-again c =
@@ -64,10 +55,10 @@ lower-all-spec =
     μ-loop
     loop-holds
     slice-read-signal
-    lower-requires
+    (λ c κs. search needs)
     slice-write-signals
-    add-p
-    loop-less
+    (λ c. search needs)
+    (λ c. search needs)
     loop-again
     same-length
     returns)

@@ -16,26 +16,8 @@ Inv-loop bytes₀ first gap end p₀ bytes p = (first ≤ p) × (p ≤ end) × P
 abbrev μ-loop : tie.MeasureT-loop
 μ-loop bytes₀ first gap end p₀ bytes p = end - p
 
-sub-end : tie.Need-sub-end Inv-loop μ-loop
-sub-end c = search needs
-
 loop-holds : tie.Need-loop-holds Inv-loop μ-loop
 loop-holds c = (omega arith, omega arith, moved-none _ _ _ _)
-
-add-byte : tie.Need-add-byte Inv-loop μ-loop
-add-byte c = search needs
-
-slice-read-byte : tie.Need-slice-read-byte Inv-loop μ-loop
-slice-read-byte c = search needs
-
-slice-write-bytes : tie.Need-slice-write-bytes Inv-loop μ-loop
-slice-write-bytes c = search needs
-
-add-p : tie.Need-add-p Inv-loop μ-loop
-add-p c = search needs
-
-loop-less : tie.Need-loop-less Inv-loop μ-loop
-loop-less c = search needs
 
 loop-again : tie.Need-loop-again Inv-loop μ-loop
 loop-again c =
@@ -57,13 +39,13 @@ move-bytes-spec =
     (tie.spec
     Inv-loop
     μ-loop
-    sub-end
+    (λ c. search needs)
     loop-holds
-    add-byte
-    slice-read-byte
-    slice-write-bytes
-    add-p
-    loop-less
+    (λ c. search needs)
+    (λ c. search needs)
+    (λ c. search needs)
+    (λ c. search needs)
+    (λ c. search needs)
     loop-again
     same-length
     returns)

@@ -20,32 +20,8 @@ Inv-loop integers₀ first gap end p₀ integers p = (first ≤ p) × (p ≤ end
 abbrev μ-loop : tie.MeasureT-loop
 μ-loop integers₀ first gap end p₀ integers p = end - p
 
-sub-end : tie.Need-sub-end Inv-loop μ-loop
-sub-end c = search needs
-
 loop-holds : tie.Need-loop-holds Inv-loop μ-loop
 loop-holds c = (omega arith, omega arith, moved-none _ _ _ _)
-
-add-integer : tie.Need-add-integer Inv-loop μ-loop
-add-integer c = search needs
-
-mul-integer : tie.Need-mul-integer Inv-loop μ-loop
-mul-integer c = search needs
-
-slice-copy-out-integer : tie.Need-slice-copy-out-integer Inv-loop μ-loop
-slice-copy-out-integer c = search needs
-
-mul-integer-2 : tie.Need-mul-integer-2 Inv-loop μ-loop
-mul-integer-2 c = search needs
-
-slice-set-from-integer : tie.Need-slice-set-from-integer Inv-loop μ-loop
-slice-set-from-integer c = search needs
-
-add-p : tie.Need-add-p Inv-loop μ-loop
-add-p c = search needs
-
-loop-less : tie.Need-loop-less Inv-loop μ-loop
-loop-less c = search needs
 
 loop-again : tie.Need-loop-again Inv-loop μ-loop
 loop-again c =
@@ -67,15 +43,15 @@ move-integers-spec =
     (tie.spec
     Inv-loop
     μ-loop
-    sub-end
+    (λ c. search needs)
     loop-holds
-    add-integer
-    mul-integer
-    slice-copy-out-integer
-    mul-integer-2
-    slice-set-from-integer
-    add-p
-    loop-less
+    (λ c. search needs)
+    (λ c. search needs)
+    (λ c. search needs)
+    (λ c. search needs)
+    (λ c. search needs)
+    (λ c. search needs)
+    (λ c. search needs)
     loop-again
     same-length
     returns)

@@ -5,18 +5,6 @@ use Rattle.network_places.specs.RemoveLaws.{moved-cleared}
 use Rattle.network_places.proofs.unchecked.remove_bytes.Statement.{statement}
 use Rattle.network_places.proofs.unchecked.remove_bytes.Tie as tie
 
-move-bytes-requires : tie.Need-move-bytes-requires
-move-bytes-requires c κs = search needs
-
-sub-end : tie.Need-sub-end
-sub-end c = search needs
-
-clear-bytes-requires : tie.Need-clear-bytes-requires
-clear-bytes-requires c κs = search needs
-
-same-length : tie.Need-same-length
-same-length c = search needs
-
 returns : tie.Need-returns
 returns c =
     let at-move = c .before .before .before .before .before .before in
@@ -25,4 +13,4 @@ returns c =
 
 pub remove-bytes-spec : {M : Type 1} → statement M
 remove-bytes-spec =
-    tie.close (tie.spec move-bytes-requires sub-end clear-bytes-requires same-length returns)
+    tie.close (tie.spec (λ c κs. search needs) (λ c. search needs) (λ c κs. search needs) (λ c. search needs) returns)

@@ -5,18 +5,6 @@ use Rattle.network_places.specs.RemoveLaws.{moved-cleared}
 use Rattle.network_places.proofs.unchecked.remove_integers.Statement.{statement}
 use Rattle.network_places.proofs.unchecked.remove_integers.Tie as tie
 
-move-integers-requires : tie.Need-move-integers-requires
-move-integers-requires c κs = search needs
-
-sub-end : tie.Need-sub-end
-sub-end c = search needs
-
-clear-integers-requires : tie.Need-clear-integers-requires
-clear-integers-requires c κs = search needs
-
-same-length : tie.Need-same-length
-same-length c = search needs
-
 returns : tie.Need-returns
 returns c =
     let start = c .before .before .before .before .before .before in
@@ -24,4 +12,4 @@ returns c =
 
 pub remove-integers-spec : {M : Type 1} → statement M
 remove-integers-spec =
-    tie.close (tie.spec move-integers-requires sub-end clear-integers-requires same-length returns)
+    tie.close (tie.spec (λ c κs. search needs) (λ c. search needs) (λ c κs. search needs) (λ c. search needs) returns)

@@ -10,27 +10,6 @@ use Rattle.network.specs.Places.{withoutPlaces}
 use Rattle.network_places.proofs.unchecked.remove_places.Statement.{statement}
 use Rattle.network_places.proofs.unchecked.remove_places.Tie as tie
 
-mul-first : tie.Need-mul-first
-mul-first c = search needs
-
-remove-bytes-requires : tie.Need-remove-bytes-requires
-remove-bytes-requires c κs = search needs
-
-remove-integers-requires : tie.Need-remove-integers-requires
-remove-integers-requires c κs = search needs
-
-remove-bytes-requires-2 : tie.Need-remove-bytes-requires-2
-remove-bytes-requires-2 c κs = search needs
-
-lower-all-requires : tie.Need-lower-all-requires
-lower-all-requires c κs = search needs
-
-remove-integers-requires-2 : tie.Need-remove-integers-requires-2
-remove-integers-requires-2 c κs = search needs
-
-lower-all-requires-2 : tie.Need-lower-all-requires-2
-lower-all-requires-2 c κs = search needs
-
 returns : tie.Need-returns
 returns c =
     let at-lowered = c .before .before .before .before in
@@ -57,11 +36,11 @@ pub remove-places-spec : {M : Type 1} → statement M
 remove-places-spec =
     tie.close
     (tie.spec
-    mul-first
-    remove-bytes-requires
-    remove-integers-requires
-    remove-bytes-requires-2
-    lower-all-requires
-    remove-integers-requires-2
-    lower-all-requires-2
+    (λ c. search needs)
+    (λ c κs. search needs)
+    (λ c κs. search needs)
+    (λ c κs. search needs)
+    (λ c κs. search needs)
+    (λ c κs. search needs)
+    (λ c κs. search needs)
     returns)

@@ -18,21 +18,6 @@ abbrev μ-loop : tie.MeasureT-loop
 loop-holds : tie.Need-loop-holds Inv-loop μ-loop
 loop-holds c = (omega arith, pasted-none _ _ _ _)
 
-array-read-signals : tie.Need-array-read-signals Inv-loop μ-loop
-array-read-signals c = search needs
-
-add-signals : tie.Need-add-signals Inv-loop μ-loop
-add-signals c = search needs
-
-element-write-signals : tie.Need-element-write-signals Inv-loop μ-loop
-element-write-signals c = search needs
-
-add-i : tie.Need-add-i Inv-loop μ-loop
-add-i c = search needs
-
-loop-less : tie.Need-loop-less Inv-loop μ-loop
-loop-less c = search needs
-
 loop-again : tie.Need-loop-again Inv-loop μ-loop
 loop-again c =
     let a = c .before .before .args in
@@ -49,10 +34,10 @@ store-signals-spec =
     Inv-loop
     μ-loop
     loop-holds
-    array-read-signals
-    add-signals
-    element-write-signals
-    add-i
-    loop-less
+    (λ c. search needs)
+    (λ c. search needs)
+    (λ c. search needs)
+    (λ c. search needs)
+    (λ c. search needs)
     loop-again
     returns)

@@ -13,23 +13,11 @@ use Rattle.network_report.proofs.LevelLaws.{highest-most, above-none, a
 use Rattle.network_report.proofs.unchecked.gate_level.Statement.{statement}
 use Rattle.network_report.proofs.unchecked.gate_level.Tie as tie
 
-element-copy-out-wide : tie.Need-element-copy-out-wide
-element-copy-out-wide c = search needs
-
-wide-requires : tie.Need-wide-requires
-wide-requires c κs = search needs
-
 returns : tie.Need-returns
 unfolding gateLevel gateFrom
 returns c = λ ts ws.
     let a = c .before .before .before .args in
     sym (above-none (levelsIn (a .levels .now)) (a .signals .now) ws (16 * a .g) _ (omega (arith, c .before .wide .ensures .0)))
-
-mul-highest-level : tie.Need-mul-highest-level
-mul-highest-level c = search needs
-
-highest-level-requires : tie.Need-highest-level-requires
-highest-level-requires c κs = search needs
 
 add-result : tie.Need-add-result
 add-result c =
@@ -56,10 +44,10 @@ pub gate-level-spec : {M : Type 1} → statement M
 gate-level-spec =
     tie.close
     (tie.spec
-    element-copy-out-wide
-    wide-requires
+    (λ c. search needs)
+    (λ c κs. search needs)
     returns
-    mul-highest-level
-    highest-level-requires
+    (λ c. search needs)
+    (λ c κs. search needs)
     add-result
     returns-2)

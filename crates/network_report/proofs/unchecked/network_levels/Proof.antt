@@ -21,21 +21,6 @@ gate-level-requires c κs =
     let at = c .before .before in
     ((omega arith, at .before .pre .1 .few-feeds _ (omega arith)), at .loop .inv .small)
 
-add-levels : tie.Need-add-levels Inv-loop μ-loop
-add-levels c = search needs
-
-array-write-levels : tie.Need-array-write-levels Inv-loop μ-loop
-array-write-levels c = search needs
-
-higher-requires : tie.Need-higher-requires Inv-loop μ-loop
-higher-requires c κs = search needs
-
-add-g : tie.Need-add-g Inv-loop μ-loop
-add-g c = search needs
-
-loop-less : tie.Need-loop-less Inv-loop μ-loop
-loop-less c = search needs
-
 loop-again : tie.Need-loop-again Inv-loop μ-loop
 loop-again c = levels-next (c .before .before .before .before .loop .inv) _ _ (c .before .gate-level .ensures) (c .higher .ensures) (omega arith) (omega arith)
 
@@ -50,10 +35,10 @@ network-levels-spec =
     μ-loop
     loop-holds
     gate-level-requires
-    add-levels
-    array-write-levels
-    higher-requires
-    add-g
-    loop-less
+    (λ c. search needs)
+    (λ c. search needs)
+    (λ c κs. search needs)
+    (λ c. search needs)
+    (λ c. search needs)
     loop-again
     returns)

@@ -24,9 +24,6 @@ network-levels-requires c κs =
     let s = at-cost .before .before .before .before .before in
     (sized-of _ (s .pre) .few-inputs, counted-of _ (s .pre))
 
-wide-requires : tie.Need-wide-requires
-wide-requires c κs = search needs
-
 -- a network's three figures are its report
 as-report : (N : Net) (n t h : ℕ) → n ≡ length (N .gates) → t ≡ cost (N .gates) → h ≡ levels N
     → _≡_ {A = SizeReport} (record { code = 0; gates = n; cost = t; levels = h }) (reportOf (accepted N))
@@ -51,4 +48,4 @@ returns c =
 
 pub size-of-spec : {M : Type 1} → statement M
 size-of-spec =
-    tie.close (tie.spec total-cost-requires network-levels-requires wide-requires returns)
+    tie.close (tie.spec total-cost-requires network-levels-requires (λ c κs. search needs) returns)

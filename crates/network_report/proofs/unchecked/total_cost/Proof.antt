@@ -22,12 +22,6 @@ gate-cost-requires c κs = (omega arith, c .before .before .pre .few-feeds _ (om
 add-total : tie.Need-add-total Inv-loop μ-loop
 add-total c = omega (arith, c .gate-cost .ensures .small, c .before .before .loop .inv .small)
 
-add-g : tie.Need-add-g Inv-loop μ-loop
-add-g c = search needs
-
-loop-less : tie.Need-loop-less Inv-loop μ-loop
-loop-less c = search needs
-
 loop-again : tie.Need-loop-again Inv-loop μ-loop
 loop-again c = gates-next (c .before .before .loop .inv) (c .gate-cost .ensures) (omega arith)
 
@@ -43,7 +37,7 @@ total-cost-spec =
     loop-holds
     gate-cost-requires
     add-total
-    add-g
-    loop-less
+    (λ c. search needs)
+    (λ c. search needs)
     loop-again
     returns)

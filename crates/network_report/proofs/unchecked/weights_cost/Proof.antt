@@ -18,21 +18,6 @@ abbrev μ-loop : tie.MeasureT-loop
 loop-holds : tie.Need-loop-holds Inv-loop μ-loop
 loop-holds c = weights-none _ _ _
 
-add-place : tie.Need-add-place Inv-loop μ-loop
-add-place c = search needs
-
-mul-magnitude : tie.Need-mul-magnitude Inv-loop μ-loop
-mul-magnitude c = search needs
-
-element-copy-out-magnitude : tie.Need-element-copy-out-magnitude Inv-loop μ-loop
-element-copy-out-magnitude c = search needs
-
-magnitude-requires : tie.Need-magnitude-requires Inv-loop μ-loop
-magnitude-requires c κs = search needs
-
-cast-total : tie.Need-cast-total Inv-loop μ-loop
-cast-total c = search needs
-
 -- a turn: the size of the weight at this place
 module _ (c : tie.After-magnitude Inv-loop μ-loop) where
   abbrev start : tie.Start Inv-loop μ-loop
@@ -47,12 +32,6 @@ module _ (c : tie.After-magnitude Inv-loop μ-loop) where
 add-total : tie.Need-add-total Inv-loop μ-loop
 add-total c = omega (arith, size c .small, at c .loop .inv .small)
 
-add-i : tie.Need-add-i Inv-loop μ-loop
-add-i c = search needs
-
-loop-less : tie.Need-loop-less Inv-loop μ-loop
-loop-less c = search needs
-
 loop-again : tie.Need-loop-again Inv-loop μ-loop
 loop-again c = weights-next (at c .loop .inv) (size c) (omega arith)
 
@@ -66,13 +45,13 @@ weights-cost-spec =
     Inv-loop
     μ-loop
     loop-holds
-    add-place
-    mul-magnitude
-    element-copy-out-magnitude
-    magnitude-requires
-    cast-total
+    (λ c. search needs)
+    (λ c. search needs)
+    (λ c. search needs)
+    (λ c κs. search needs)
+    (λ c. search needs)
     add-total
-    add-i
-    loop-less
+    (λ c. search needs)
+    (λ c. search needs)
     loop-again
     returns)

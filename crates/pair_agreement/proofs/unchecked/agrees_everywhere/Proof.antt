@@ -8,9 +8,6 @@ use Rattle.pair_agreement.specs.GateLaws.{plain-searchable, plain-all}
 use Rattle.pair_agreement.proofs.unchecked.agrees_everywhere.Statement.{statement}
 use Rattle.pair_agreement.proofs.unchecked.agrees_everywhere.Tie as tie
 
-without-margins-requires : tie.Need-without-margins-requires
-without-margins-requires c κs = search needs
-
 clears-everywhere-requires : tie.Need-clears-everywhere-requires
 clears-everywhere-requires c κs =
     let s = c .before in
@@ -24,4 +21,4 @@ returns c =
     c .clears-everywhere .ensures ∙ ap (λ (a : Alignment). clearsAll (alignedIn a) k l) (c .before .without-margins .ensures) ∙ plain-all (s .args .a) k l
 
 pub agrees-everywhere-spec : {M : Type 1} → statement M
-agrees-everywhere-spec = tie.close (tie.spec without-margins-requires clears-everywhere-requires returns)
+agrees-everywhere-spec = tie.close (tie.spec (λ c κs. search needs) clears-everywhere-requires returns)

@@ -27,9 +27,6 @@ upper-threshold-requires c κs = (c .before .pre .0, c .before .pre .1 .dial)
 lower-threshold-requires : tie.Need-lower-threshold-requires
 lower-threshold-requires c κs = (c .before .before .pre .0, c .before .before .pre .1 .dial)
 
-composed-bit-requires : tie.Need-composed-bit-requires
-composed-bit-requires c κs = search needs
-
 -- the numbers as the machine reads them
 module _ (c : tie.After-composed-bit) where
   abbrev start : tie.Start
@@ -57,4 +54,4 @@ unfolding clears
 returns c = simp (upper-is c, lower-is c, sum-is c, one-is c) (chosen (composedBit (t c) (start c .args .su) (start c .args .sv)) _ _)
 
 pub clears-spec : {M : Type 1} → statement M
-clears-spec = tie.close (tie.spec mixed-requires upper-threshold-requires lower-threshold-requires composed-bit-requires returns)
+clears-spec = tie.close (tie.spec mixed-requires upper-threshold-requires lower-threshold-requires (λ c κs. search needs) returns)

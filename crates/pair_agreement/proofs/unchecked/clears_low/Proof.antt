@@ -11,18 +11,6 @@ use borrow.Author.Needs.{needs}
 use Rattle.pair_agreement.proofs.unchecked.clears_low.Statement.{statement}
 use Rattle.pair_agreement.proofs.unchecked.clears_low.Tie as tie
 
-mul-clears : tie.Need-mul-clears
-mul-clears c = search needs
-
-element-copy-out-clears : tie.Need-element-copy-out-clears
-element-copy-out-clears c = search needs
-
-mul-clears-2 : tie.Need-mul-clears-2
-mul-clears-2 c = search needs
-
-element-copy-out-clears-2 : tie.Need-element-copy-out-clears-2
-element-copy-out-clears-2 c = search needs
-
 -- the two sums, as the machine reads them back
 module _ (c : tie.Start) where
   abbrev at : ℕ
@@ -48,9 +36,9 @@ pub clears-low-spec : {M : Type 1} → statement M
 clears-low-spec =
     tie.close
     (tie.spec
-    mul-clears
-    element-copy-out-clears
-    mul-clears-2
-    element-copy-out-clears-2
+    (λ c. search needs)
+    (λ c. search needs)
+    (λ c. search needs)
+    (λ c. search needs)
     clears-requires
     returns)

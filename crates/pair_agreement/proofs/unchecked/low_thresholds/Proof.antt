@@ -10,24 +10,6 @@ use borrow.Author.Needs.{needs}
 use Rattle.pair_agreement.proofs.unchecked.low_thresholds.Statement.{statement}
 use Rattle.pair_agreement.proofs.unchecked.low_thresholds.Tie as tie
 
-add-less-high-half : tie.Need-add-less-high-half
-add-less-high-half c = search needs
-
-mul-less-high-half : tie.Need-mul-less-high-half
-mul-less-high-half c = search needs
-
-element-copy-out-less-high-half : tie.Need-element-copy-out-less-high-half
-element-copy-out-less-high-half c = search needs
-
-add-less-high-half-2 : tie.Need-add-less-high-half-2
-add-less-high-half-2 c = search needs
-
-mul-less-high-half-2 : tie.Need-mul-less-high-half-2
-mul-less-high-half-2 c = search needs
-
-element-copy-out-less-high-half-2 : tie.Need-element-copy-out-less-high-half-2
-element-copy-out-less-high-half-2 c = search needs
-
 -- the two sums, as the machine reads them back
 module _ (c : tie.Start) where
   abbrev at : ℕ
@@ -49,11 +31,11 @@ pub low-thresholds-spec : {M : Type 1} → statement M
 low-thresholds-spec =
     tie.close
     (tie.spec
-    add-less-high-half
-    mul-less-high-half
-    element-copy-out-less-high-half
-    add-less-high-half-2
-    mul-less-high-half-2
-    element-copy-out-less-high-half-2
+    (λ c. search needs)
+    (λ c. search needs)
+    (λ c. search needs)
+    (λ c. search needs)
+    (λ c. search needs)
+    (λ c. search needs)
     less-high-half-requires
     returns)

@@ -13,12 +13,6 @@ use Rattle.pair_agreement.specs.GateLaws.{mixedThreshold-small}
 use Rattle.pair_agreement.proofs.unchecked.lower_threshold.Statement.{statement}
 use Rattle.pair_agreement.proofs.unchecked.lower_threshold.Tie as tie
 
-merged-threshold-requires : tie.Need-merged-threshold-requires
-merged-threshold-requires c κs = search needs
-
-margin-requires : tie.Need-margin-requires
-margin-requires c κs = search needs
-
 -- the numbers as the machine reads them
 module _ (c : tie.After-margin) where
   abbrev start : tie.Start
@@ -51,4 +45,4 @@ returns : tie.Need-returns
 returns c = simp (threshold-is c, margin-is c) (toZ-ofZ (fits c))
 
 pub lower-threshold-spec : {M : Type 1} → statement M
-lower-threshold-spec = tie.close (tie.spec merged-threshold-requires margin-requires sub-result returns)
+lower-threshold-spec = tie.close (tie.spec (λ c κs. search needs) (λ c κs. search needs) sub-result returns)

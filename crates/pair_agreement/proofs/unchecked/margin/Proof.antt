@@ -6,11 +6,8 @@ use borrow.Author.Needs.{needs}
 use Rattle.pair_agreement.proofs.unchecked.margin.Statement.{statement}
 use Rattle.pair_agreement.proofs.unchecked.margin.Tie as tie
 
-cast-result : tie.Need-cast-result
-cast-result c = search needs
-
 returns : tie.Need-returns
 returns c = (toZ-pos w32 (omega (arith, c .fits .x .fits)), omega (arith, c .fits .x .fits))
 
 pub margin-spec : {M : Type 1} → statement M
-margin-spec = tie.close (tie.spec cast-result returns)
+margin-spec = tie.close (tie.spec (λ c. search needs) returns)

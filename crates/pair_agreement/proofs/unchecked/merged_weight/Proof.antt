@@ -11,18 +11,6 @@ use borrow.Author.Needs.{needs}
 use Rattle.pair_agreement.proofs.unchecked.merged_weight.Statement.{statement}
 use Rattle.pair_agreement.proofs.unchecked.merged_weight.Tie as tie
 
-mul-mixed : tie.Need-mul-mixed
-mul-mixed c = search needs
-
-element-copy-out-mixed : tie.Need-element-copy-out-mixed
-element-copy-out-mixed c = search needs
-
-mul-mixed-2 : tie.Need-mul-mixed-2
-mul-mixed-2 c = search needs
-
-element-copy-out-mixed-2 : tie.Need-element-copy-out-mixed-2
-element-copy-out-mixed-2 c = search needs
-
 -- the two weights, as the machine reads them back
 module _ (c : tie.Start) where
   u-is : toZ w32 (ofZ w32 (getD (c .args .us .now) (c .args .feed) (pos 0))) ≡ getD (c .args .us .now) (c .args .feed) (pos 0)
@@ -44,9 +32,9 @@ pub merged-weight-spec : {M : Type 1} → statement M
 merged-weight-spec =
     tie.close
     (tie.spec
-    mul-mixed
-    element-copy-out-mixed
-    mul-mixed-2
-    element-copy-out-mixed-2
+    (λ c. search needs)
+    (λ c. search needs)
+    (λ c. search needs)
+    (λ c. search needs)
     mixed-requires
     returns)

@@ -35,9 +35,6 @@ merged-weight-requires c κs =
     let s = c .before .before .before .before .before in
     (s .pre .0 .fair .us-small, (s .pre .0 .fair .vs-small, (s .pre .1, omega (arith, s .pre .0 .few))))
 
-in-scale-requires : tie.Need-in-scale-requires Inv-loop μ-loop
-in-scale-requires c κs = search needs
-
 -- the test of a feed
 module _ (c : tie.After-in-scale Inv-loop μ-loop) where
   abbrev at : tie.At-loop Inv-loop μ-loop
@@ -81,9 +78,6 @@ loop-again c =
 merged-threshold-requires : tie.Need-merged-threshold-requires Inv-loop μ-loop
 merged-threshold-requires c κs = let s = c .before .before .before in (near-wider (s .args .t1 .thresholds) (s .pre .0 .fair .near), s .pre .1)
 
-in-scale-requires-2 : tie.Need-in-scale-requires-2 Inv-loop μ-loop
-in-scale-requires-2 c κs = search needs
-
 returns-2 : tie.Need-returns-2 Inv-loop μ-loop
 returns-2 c =
     let d = c .before .before .before .before .before in
@@ -102,11 +96,11 @@ scale-fits-spec =
     μ-loop
     loop-holds
     merged-weight-requires
-    in-scale-requires
+    (λ c κs. search needs)
     returns
     add-feed
     loop-less
     loop-again
     merged-threshold-requires
-    in-scale-requires-2
+    (λ c κs. search needs)
     returns-2)

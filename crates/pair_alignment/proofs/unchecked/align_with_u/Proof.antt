@@ -99,20 +99,11 @@ array-set-of-in-v c = u-low (c .before .before .before)
 loop-holds : tie.Need-loop-holds Inv-loop μ-loop
 loop-holds c = (omega arith, listed-none (edge (c .before .before .before)))
 
-mul-x : tie.Need-mul-x Inv-loop μ-loop
-mul-x c = search needs
-
 array-copy-out-x : tie.Need-array-copy-out-x Inv-loop μ-loop
 array-copy-out-x c = s-low c
 
-mul-y : tie.Need-mul-y Inv-loop μ-loop
-mul-y c = search needs
-
 array-copy-out-y : tie.Need-array-copy-out-y Inv-loop μ-loop
 array-copy-out-y c = s-low (c .before)
-
-either-requires : tie.Need-either-requires Inv-loop μ-loop
-either-requires c κs = search needs
 
 cast-signals : tie.Need-cast-signals Inv-loop μ-loop
 cast-signals c = record { fits = s-low (c .before .before .before .before .before) }
@@ -120,26 +111,14 @@ cast-signals c = record { fits = s-low (c .before .before .before .before .befor
 array-write-signals : tie.Need-array-write-signals Inv-loop μ-loop
 array-write-signals c = c .if2 .taken
 
-mul-us : tie.Need-mul-us Inv-loop μ-loop
-mul-us c = search needs
-
 array-set-from-us : tie.Need-array-set-from-us Inv-loop μ-loop
 array-set-from-us c = c .if2 .taken
-
-mul-vs : tie.Need-mul-vs Inv-loop μ-loop
-mul-vs c = search needs
 
 array-set-from-vs : tie.Need-array-set-from-vs Inv-loop μ-loop
 array-set-from-vs c = c .if2 .taken
 
 add-count : tie.Need-add-count Inv-loop μ-loop
 add-count c = record { fits = omega (arith, count-low (c .before .before .before .before .before .before), s-low (c .before .before .before .before .before)) }
-
-add-s : tie.Need-add-s Inv-loop μ-loop
-add-s c = search needs
-
-loop-less : tie.Need-loop-less Inv-loop μ-loop
-loop-less c = search needs
 
 loop-again : tie.Need-loop-again Inv-loop μ-loop
 loop-again c =
@@ -217,20 +196,20 @@ align-with-u-spec =
     mul-in-v
     array-set-of-in-v
     loop-holds
-    mul-x
+    (λ c. search needs)
     array-copy-out-x
-    mul-y
+    (λ c. search needs)
     array-copy-out-y
-    either-requires
+    (λ c κs. search needs)
     cast-signals
     array-write-signals
-    mul-us
+    (λ c. search needs)
     array-set-from-us
-    mul-vs
+    (λ c. search needs)
     array-set-from-vs
     add-count
-    add-s
-    loop-less
+    (λ c. search needs)
+    (λ c. search needs)
     loop-again
     sub-on
     returns)

@@ -5,15 +5,9 @@ use borrow.Author.Needs.{needs}
 use Rattle.pair_alignment.proofs.unchecked.either.Statement.{statement}
 use Rattle.pair_alignment.proofs.unchecked.either.Tie as tie
 
-magnitude-requires : tie.Need-magnitude-requires
-magnitude-requires c κs = search needs
-
-magnitude-requires-2 : tie.Need-magnitude-requires-2
-magnitude-requires-2 c κs = search needs
-
 returns : tie.Need-returns
 unfolding isZero
 returns c = rw (c .before .magnitude .ensures, c .magnitude2 .ensures, toZ-ofZ (c .before .before .fits .x), toZ-ofZ (c .before .before .fits .y))
 
 pub either-spec : {M : Type 1} → statement M
-either-spec = tie.close (tie.spec magnitude-requires magnitude-requires-2 returns)
+either-spec = tie.close (tie.spec (λ c κs. search needs) (λ c κs. search needs) returns)

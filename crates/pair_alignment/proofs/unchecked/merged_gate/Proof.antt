@@ -78,23 +78,14 @@ on-is c = search needs
 loop-holds : tie.Need-loop-holds Inv-loop μ-loop
 loop-holds c = (omega arith, combined-none (c .args .t1) (c .args .k) (c .args .l))
 
-mul-mixed : tie.Need-mul-mixed Inv-loop μ-loop
-mul-mixed c = search needs
-
 element-copy-out-mixed : tie.Need-element-copy-out-mixed Inv-loop μ-loop
 element-copy-out-mixed c = i-low c
-
-mul-mixed-2 : tie.Need-mul-mixed-2 Inv-loop μ-loop
-mul-mixed-2 c = search needs
 
 element-copy-out-mixed-2 : tie.Need-element-copy-out-mixed-2 Inv-loop μ-loop
 element-copy-out-mixed-2 c = i-low (c .before)
 
 mixed-requires : tie.Need-mixed-requires Inv-loop μ-loop
 mixed-requires c κs = let d = c .before .before in rw (x-is d, y-is d) (mixable d)
-
-magnitude-requires : tie.Need-magnitude-requires Inv-loop μ-loop
-magnitude-requires c κs = search needs
 
 element-copy-out-signals : tie.Need-element-copy-out-signals Inv-loop μ-loop
 element-copy-out-signals c = i-low (c .before .before .before .before .before)
@@ -110,12 +101,6 @@ array-set-from-weights c = fanin-low (c .before .before .before .before .before 
 
 add-fanin : tie.Need-add-fanin Inv-loop μ-loop
 add-fanin c = record { fits = omega (arith, fanin-low (c .before .before .before .before .before .before)) }
-
-add-i : tie.Need-add-i Inv-loop μ-loop
-add-i c = search needs
-
-loop-less : tie.Need-loop-less Inv-loop μ-loop
-loop-less c = search needs
 
 loop-again : tie.Need-loop-again Inv-loop μ-loop
 unfolding isZero
@@ -169,19 +154,19 @@ merged-gate-spec =
     Inv-loop
     μ-loop
     loop-holds
-    mul-mixed
+    (λ c. search needs)
     element-copy-out-mixed
-    mul-mixed-2
+    (λ c. search needs)
     element-copy-out-mixed-2
     mixed-requires
-    magnitude-requires
+    (λ c κs. search needs)
     element-copy-out-signals
     array-write-signals
     mul-weights
     array-set-from-weights
     add-fanin
-    add-i
-    loop-less
+    (λ c. search needs)
+    (λ c. search needs)
     loop-again
     mixed-requires-2
     cast-t31

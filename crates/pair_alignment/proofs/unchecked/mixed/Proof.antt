@@ -47,14 +47,8 @@ module _ (c : tie.Start) where
       let ly-size = times (c .args .l) _ (c .args .y) (c .pre .dial .l-high) (c .pre .y-small) in
       size-fits w32 (kx +ℤ ly) (omega (arith, kx-size, ly-size, size-add kx ly))
 
-cast-result : tie.Need-cast-result
-cast-result c = search needs
-
 mul-result : tie.Need-mul-result
 mul-result c = simp (k-is c, toZ-ofZ (c .fits .x)) (kx-fits c)
-
-cast-result-2 : tie.Need-cast-result-2
-cast-result-2 c = search needs
 
 mul-result-2 : tie.Need-mul-result-2
 mul-result-2 c = simp (l-is c, toZ-ofZ (c .fits .y)) (ly-fits c)
@@ -68,4 +62,4 @@ returns c =
     simp (k-is c, l-is c, toZ-ofZ (c .fits .x), toZ-ofZ (c .fits .y), toZ-ofZ (kx-fits c), toZ-ofZ (ly-fits c), toZ-ofZ (sum-fits c))
 
 pub mixed-spec : {M : Type 1} → statement M
-mixed-spec = tie.close (tie.spec cast-result mul-result cast-result-2 mul-result-2 add-result returns)
+mixed-spec = tie.close (tie.spec (λ c. search needs) mul-result (λ c. search needs) mul-result-2 add-result returns)

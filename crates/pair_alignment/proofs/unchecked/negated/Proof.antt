@@ -40,12 +40,6 @@ abbrev μ-loop : tie.MeasureT-loop
 loop-holds : tie.Need-loop-holds Inv-loop μ-loop
 loop-holds c = (omega arith, refl)
 
-mul-number : tie.Need-mul-number Inv-loop μ-loop
-mul-number c = search needs
-
-element-copy-out-number : tie.Need-element-copy-out-number Inv-loop μ-loop
-element-copy-out-number c = search needs
-
 -- the number at i, as the machine reads it back, and minus it
 module _ (c : tie.In-loop Inv-loop μ-loop) where
   abbrev numbers : List ℤ
@@ -67,18 +61,6 @@ module _ (c : tie.In-loop Inv-loop μ-loop) where
 sub-number : tie.Need-sub-number Inv-loop μ-loop
 sub-number c = rw (number-is (c .before)) (minus-fits (c .before))
 
-mul-result : tie.Need-mul-result Inv-loop μ-loop
-mul-result c = search needs
-
-array-set-from-result : tie.Need-array-set-from-result Inv-loop μ-loop
-array-set-from-result c = search needs
-
-add-i : tie.Need-add-i Inv-loop μ-loop
-add-i c = search needs
-
-loop-less : tie.Need-loop-less Inv-loop μ-loop
-loop-less c = search needs
-
 loop-again : tie.Need-loop-again Inv-loop μ-loop
 loop-again c =
     let d = c .before in
@@ -98,12 +80,12 @@ negated-spec =
     Inv-loop
     μ-loop
     loop-holds
-    mul-number
-    element-copy-out-number
+    (λ c. search needs)
+    (λ c. search needs)
     sub-number
-    mul-result
-    array-set-from-result
-    add-i
-    loop-less
+    (λ c. search needs)
+    (λ c. search needs)
+    (λ c. search needs)
+    (λ c. search needs)
     loop-again
     returns)

@@ -20,37 +20,19 @@ Inv-loop gate table₀ i₀ table i =
 abbrev μ-loop : tie.MeasureT-loop
 μ-loop gate table₀ i₀ table i = i
 
-wide-requires : tie.Need-wide-requires Inv-loop μ-loop
-wide-requires c κs = search needs
-
 loop-holds : tie.Need-loop-holds Inv-loop μ-loop
 loop-holds c =
     let g = c .before .args .t1 in
     (omega (arith, c .wide .ensures), rw (c .wide .ensures .0) (store-none (g .signals) (g .weights) (g .fanin)))
 
-sub-i : tie.Need-sub-i Inv-loop μ-loop
-sub-i c = search needs
-
 element-copy-out-wide : tie.Need-element-copy-out-wide Inv-loop μ-loop
 element-copy-out-wide c = omega arith
-
-wide-requires-2 : tie.Need-wide-requires-2 Inv-loop μ-loop
-wide-requires-2 c κs = search needs
-
-mul-table : tie.Need-mul-table Inv-loop μ-loop
-mul-table c = search needs
 
 element-copy-out-table : tie.Need-element-copy-out-table Inv-loop μ-loop
 element-copy-out-table c = omega arith
 
-mul-table-2 : tie.Need-mul-table-2 Inv-loop μ-loop
-mul-table-2 c = search needs
-
 array-set-from-table : tie.Need-array-set-from-table Inv-loop μ-loop
 array-set-from-table c = omega arith
-
-loop-less : tie.Need-loop-less Inv-loop μ-loop
-loop-less c = search needs
 
 loop-again : tie.Need-loop-again Inv-loop μ-loop
 loop-again c =
@@ -73,15 +55,15 @@ spread-spec =
     (tie.spec
     Inv-loop
     μ-loop
-    wide-requires
+    (λ c κs. search needs)
     loop-holds
-    sub-i
+    (λ c. search needs)
     element-copy-out-wide
-    wide-requires-2
-    mul-table
+    (λ c κs. search needs)
+    (λ c. search needs)
     element-copy-out-table
-    mul-table-2
+    (λ c. search needs)
     array-set-from-table
-    loop-less
+    (λ c. search needs)
     loop-again
     returns)

@@ -44,9 +44,6 @@ Inv-loop a sums-u sums-v thresholds count high-count highs lows last₀ earlier�
 abbrev μ-loop : tie.MeasureT-loop
 μ-loop a sums-u sums-v thresholds count high-count highs lows last₀ earlier₀ sum₀ last earlier sum = 65 - sum
 
-high-feeds-requires : tie.Need-high-feeds-requires Inv-loop3 μ-loop3 Inv-loop2 μ-loop2 Inv-candidate μ-candidate Inv-loop μ-loop
-high-feeds-requires c κs = search needs
-
 settings-requires : tie.Need-settings-requires Inv-loop3 μ-loop3 Inv-loop2 μ-loop2 Inv-candidate μ-candidate Inv-loop μ-loop
 settings-requires c κs = omega (arith, c .high-feeds .ensures, c .before .before .pre .0 .few)
 
@@ -411,7 +408,7 @@ scan-spec =
     μ-candidate
     Inv-loop
     μ-loop
-    high-feeds-requires
+    (λ c κs. search needs)
     settings-requires
     sub-settings
     settings-requires-2

@@ -14,9 +14,6 @@ use Rattle.pmn_converter.specs.FileLaws.{converted-open}
 use Rattle.pmn_converter.proofs.files.convert_file.Statement.{statement}
 use Rattle.pmn_converter.proofs.files.convert_file.Tie as tie
 
-read-requires : tie.Need-read-requires
-read-requires c κs = search needs
-
 refusal-requires : tie.Need-refusal-requires
 refusal-requires c κs = (λ i. c .before .before .before .shared-slice-known .given i .fits, c .read .ensures)
 
@@ -25,9 +22,6 @@ unfolding conversionPlaces
 returns c =
     let a = c .before .before .before .before .before .before .args in
     refused-two (a .out .now) (a .answer .now) (open-refused (c .before .refusal .ensures) _ (c .if1 .taken))
-
-is-convertible-requires : tie.Need-is-convertible-requires
-is-convertible-requires c κs = search needs
 
 -- the file that was read
 file-open : (c : tie.Else1) → let at-read = c .before .before in
@@ -47,20 +41,11 @@ returns-2 c =
 can : (c : tie.Else2) → let at-read = c .before .before .before .before .before in convertible (at-read .read .result .network .board) ≡ true
 can c = sym (c .before .is-convertible .ensures) ∙ not-false _ (c .if2 .left)
 
-in-other-version-requires : tie.Need-in-other-version-requires
-in-other-version-requires c κs = search needs
-
 put-file-requires : tie.Need-put-file-requires
 put-file-requires c κs =
     let at-other = c .before .before in
     let o = file-open (at-other .before .before .before .before) in
     (with-sound _ (file-sound o) (can (at-other .before)) (at-other .in-other-version .ensures), o .room)
-
-same-length : tie.Need-same-length
-same-length c = search needs
-
-same-length-2 : tie.Need-same-length-2
-same-length-2 c = search needs
 
 returns-3 : tie.Need-returns-3
 returns-3 c =
@@ -76,13 +61,13 @@ pub convert-file-spec : {M : Type 1} → statement M
 convert-file-spec =
     tie.close
     (tie.spec
-    read-requires
+    (λ c κs. search needs)
     refusal-requires
     returns
-    is-convertible-requires
+    (λ c κs. search needs)
     returns-2
-    in-other-version-requires
+    (λ c κs. search needs)
     put-file-requires
-    same-length
-    same-length-2
+    (λ c. search needs)
+    (λ c. search needs)
     returns-3)

@@ -13,9 +13,6 @@ use Rattle.pmn_converter.specs.ConversionLaws.{conversion-refused, with-
 use Rattle.pmn_converter.proofs.unchecked.convert_sound.Statement.{statement}
 use Rattle.pmn_converter.proofs.unchecked.convert_sound.Tie as tie
 
-is-convertible-requires : tie.Need-is-convertible-requires
-is-convertible-requires c κs = search needs
-
 returns : tie.Need-returns
 unfolding asConverted stored netOf
 returns c =
@@ -29,17 +26,11 @@ returns c =
 can : (c : tie.Else1) → convertible (c .before .before .before .before .args .network .board) ≡ true
 can c = sym (c .before .is-convertible .ensures) ∙ not-false _ (c .if1 .left)
 
-in-other-version-requires : tie.Need-in-other-version-requires
-in-other-version-requires c κs = search needs
-
 write-sound-requires : tie.Need-write-sound-requires
 write-sound-requires c κs =
     let at-other = c .before in
     let start = at-other .before .before .before .before .before in
     with-sound (start .args .network) (start .pre) (can (at-other .before)) (at-other .in-other-version .ensures)
-
-same-length : tie.Need-same-length
-same-length c = search needs
 
 returns-2 : tie.Need-returns-2
 returns-2 c =
@@ -56,9 +47,9 @@ pub convert-sound-spec : {M : Type 1} → statement M
 convert-sound-spec =
     tie.close
     (tie.spec
-    is-convertible-requires
+    (λ c κs. search needs)
     returns
-    in-other-version-requires
+    (λ c κs. search needs)
     write-sound-requires
-    same-length
+    (λ c. search needs)
     returns-2)

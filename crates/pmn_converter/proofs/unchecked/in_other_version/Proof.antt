@@ -4,9 +4,6 @@ use Rattle.pmn_converter.specs.Versions.{otherRecord}
 use Rattle.pmn_converter.proofs.unchecked.in_other_version.Statement.{statement}
 use Rattle.pmn_converter.proofs.unchecked.in_other_version.Tie as tie
 
-other-version-requires : tie.Need-other-version-requires
-other-version-requires c κs = search needs
-
 returns : tie.Need-returns
 unfolding otherRecord
 returns c =
@@ -24,4 +21,4 @@ returns c =
     }
 
 pub in-other-version-spec : {M : Type 1} → statement M
-in-other-version-spec = tie.close (tie.spec other-version-requires returns)
+in-other-version-spec = tie.close (tie.spec (λ c κs. search needs) returns)

@@ -5,18 +5,6 @@ use Rattle.pmn_files.specs.FileLaws.{file-left}
 use Rattle.pmn_files.proofs.unchecked.put_file.Statement.{statement}
 use Rattle.pmn_files.proofs.unchecked.put_file.Tie as tie
 
-write-sound-requires : tie.Need-write-sound-requires
-write-sound-requires c κs = search needs
-
-put-one-requires : tie.Need-put-one-requires
-put-one-requires c κs = search needs
-
-same-length : tie.Need-same-length
-same-length c = search needs
-
-same-length-2 : tie.Need-same-length-2
-same-length-2 c = search needs
-
 returns : tie.Need-returns
 returns c =
     let at-put = c .before .before in
@@ -27,4 +15,4 @@ returns c =
     (at-put .put-one .ensures .0 ∙ l .0, (l .1 .0, at-put .put-one .ensures .1 ∙ l .1 .1))
 
 pub put-file-spec : {M : Type 1} → statement M
-put-file-spec = tie.close (tie.spec write-sound-requires put-one-requires same-length same-length-2 returns)
+put-file-spec = tie.close (tie.spec (λ c κs. search needs) (λ c κs. search needs) (λ c. search needs) (λ c. search needs) returns)

@@ -6,9 +6,6 @@ use Rattle.pmn_opening.specs.Opening.{Opening}
 use Rattle.pmn_opening.proofs.unchecked.read_refusal.Statement.{statement}
 use Rattle.pmn_opening.proofs.unchecked.read_refusal.Tie as tie
 
-read-requires : tie.Need-read-requires
-read-requires c κs = search needs
-
 refusal-requires : tie.Need-refusal-requires
 refusal-requires c κs = (λ i. c .before .shared-slice-known .given i .fits, c .read .ensures)
 
@@ -18,4 +15,4 @@ returns c =
     subst (λ (l : Loaded). Opening (a .file .now) (a .places) (a .needed) (c .refusal .result) (l .network)) (c .before .read .ensures) (c .refusal .ensures)
 
 pub read-refusal-spec : {M : Type 1} → statement M
-read-refusal-spec = tie.close (tie.spec read-requires refusal-requires returns)
+read-refusal-spec = tie.close (tie.spec (λ c κs. search needs) refusal-requires returns)

@@ -9,9 +9,6 @@ use Rattle.pmn_format.specs.PartLaws.{start-within}
 use Rattle.pmn_part.proofs.unchecked.gate_bytes.Statement.{statement}
 use Rattle.pmn_part.proofs.unchecked.gate_bytes.Tie as tie
 
-gate-start-requires : tie.Need-gate-start-requires
-gate-start-requires c κs = search needs
-
 -- the gate lies in the file
 within : (c : tie.After-gate-start) → let s = c .before .before .args .file .now in
     c .gate-start .result + (5 + 5 * getD s (c .gate-start .result) 0) ≤ length s
@@ -22,23 +19,8 @@ within c =
 shared-slice-read-wide : tie.Need-shared-slice-read-wide
 shared-slice-read-wide c = omega (arith, within (c .before))
 
-wide-requires : tie.Need-wide-requires
-wide-requires c κs = search needs
-
-mul-end : tie.Need-mul-end
-mul-end c = search needs
-
-add-end : tie.Need-add-end
-add-end c = search needs
-
 add-end-2 : tie.Need-add-end-2
 add-end-2 c = omega (arith, within (c .before .before))
-
-sub-result : tie.Need-sub-result
-sub-result c = search needs
-
-part-result-start : tie.Need-part-result-start
-part-result-start c = search needs
 
 part-result-end : tie.Need-part-result-end
 part-result-end c = omega (arith, within (c .before .before))
@@ -57,13 +39,13 @@ pub gate-bytes-spec : {M : Type 1} → statement M
 gate-bytes-spec =
     tie.close
     (tie.spec
-    gate-start-requires
+    (λ c κs. search needs)
     shared-slice-read-wide
-    wide-requires
-    mul-end
-    add-end
+    (λ c κs. search needs)
+    (λ c. search needs)
+    (λ c. search needs)
     add-end-2
-    sub-result
-    part-result-start
+    (λ c. search needs)
+    (λ c. search needs)
     part-result-end
     returns)

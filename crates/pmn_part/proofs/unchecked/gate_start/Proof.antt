@@ -26,32 +26,14 @@ within c =
 shared-slice-read-header-length : tie.Need-shared-slice-read-header-length Inv-loop μ-loop
 shared-slice-read-header-length c = let file = c .before .before .pre in omega (arith, file-long (file .net), ap length (file .file))
 
-header-length-requires : tie.Need-header-length-requires Inv-loop μ-loop
-header-length-requires c κs = search needs
-
 loop-holds : tie.Need-loop-holds Inv-loop μ-loop
 loop-holds c = (c .header-length .ensures ∙ sym (startBy-none (c .before .before .before .args .file .now)), zero-le)
 
 shared-slice-read-wide : tie.Need-shared-slice-read-wide Inv-loop μ-loop
 shared-slice-read-wide c = omega (arith, within (c .before .before))
 
-wide-requires : tie.Need-wide-requires Inv-loop μ-loop
-wide-requires c κs = search needs
-
-mul-at : tie.Need-mul-at Inv-loop μ-loop
-mul-at c = search needs
-
-add-at : tie.Need-add-at Inv-loop μ-loop
-add-at c = search needs
-
 add-at-2 : tie.Need-add-at-2 Inv-loop μ-loop
 add-at-2 c = omega (arith, within (c .before .before .before))
-
-add-i : tie.Need-add-i Inv-loop μ-loop
-add-i c = search needs
-
-loop-less : tie.Need-loop-less Inv-loop μ-loop
-loop-less c = search needs
 
 loop-again : tie.Need-loop-again Inv-loop μ-loop
 loop-again c =
@@ -73,14 +55,14 @@ gate-start-spec =
     Inv-loop
     μ-loop
     shared-slice-read-header-length
-    header-length-requires
+    (λ c κs. search needs)
     loop-holds
     shared-slice-read-wide
-    wide-requires
-    mul-at
-    add-at
+    (λ c κs. search needs)
+    (λ c. search needs)
+    (λ c. search needs)
     add-at-2
-    add-i
-    loop-less
+    (λ c. search needs)
+    (λ c. search needs)
     loop-again
     returns)

@@ -5,23 +5,11 @@ use Rattle.pmn_reader.proofs.Body.{gates-failed, outputs-failed, tail-l
 use Rattle.pmn_reader.proofs.unchecked.read_body.Statement.{statement}
 use Rattle.pmn_reader.proofs.unchecked.read_body.Tie as tie
 
-read-gates-requires : tie.Need-read-gates-requires
-read-gates-requires c κs = search needs
-
-refuse-requires : tie.Need-refuse-requires
-refuse-requires c κs = search needs
-
 returns : tie.Need-returns
 returns c =
     let at-gates = c .before .before in
     let h = at-gates .before .before .before .args .head in
     c .refuse .ensures ∙ gates-failed (h .board) (h .inputs) (h .gates) (h .outputs) (h .next) (at-gates .read-gates .ensures) (c .before .if1 .taken)
-
-read-outputs-requires : tie.Need-read-outputs-requires
-read-outputs-requires c κs = search needs
-
-refuse-requires-2 : tie.Need-refuse-requires-2
-refuse-requires-2 c κs = search needs
 
 returns-2 : tie.Need-returns-2
 returns-2 c =
@@ -32,9 +20,6 @@ returns-2 c =
     c .refuse2 .ensures
     ∙ outputs-failed (h .board) (h .inputs) (h .gates) (h .outputs) (h .next) (at-gates .read-gates .ensures) (at-else .if1 .left)
     (at-outputs .read-outputs .ensures) (c .before .if2 .taken)
-
-refuse-requires-3 : tie.Need-refuse-requires-3
-refuse-requires-3 c κs = search needs
 
 returns-3 : tie.Need-returns-3
 returns-3 c =
@@ -62,12 +47,12 @@ pub read-body-spec : {M : Type 1} → statement M
 read-body-spec =
     tie.close
     (tie.spec
-    read-gates-requires
-    refuse-requires
+    (λ c κs. search needs)
+    (λ c κs. search needs)
     returns
-    read-outputs-requires
-    refuse-requires-2
+    (λ c κs. search needs)
+    (λ c κs. search needs)
     returns-2
-    refuse-requires-3
+    (λ c κs. search needs)
     returns-3
     returns-4)

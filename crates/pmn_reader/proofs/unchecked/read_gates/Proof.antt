@@ -18,30 +18,12 @@ abbrev μ-loop : tie.MeasureT-loop
 loop-holds : tie.Need-loop-holds Inv-loop μ-loop
 loop-holds c = let a = c .before .args in gates-start (a .file .now) (a .board) (a .start) (a .inputs) (a .gates) (c .before .pre .0)
 
-add-read-gate : tie.Need-add-read-gate Inv-loop μ-loop
-add-read-gate c = search needs
-
-read-gate-requires : tie.Need-read-gate-requires Inv-loop μ-loop
-read-gate-requires c κs = search needs
-
-no-gates-requires : tie.Need-no-gates-requires Inv-loop μ-loop
-no-gates-requires c κs = search needs
-
 returns : tie.Need-returns Inv-loop μ-loop
 returns c =
     let at-read = c .before .before in
     let bad = c .before .if1 .taken in
     seen-refused (at-read .read-gate .result .code) (omega arith) (c .no-gates .ensures)
     (gates-bad (at-read .before .before .loop .inv) (omega arith) (failed (at-read .read-gate .ensures) bad))
-
-store-gate-requires : tie.Need-store-gate-requires Inv-loop μ-loop
-store-gate-requires c κs = search needs
-
-add-g : tie.Need-add-g Inv-loop μ-loop
-add-g c = search needs
-
-loop-less : tie.Need-loop-less Inv-loop μ-loop
-loop-less c = search needs
 
 loop-again : tie.Need-loop-again Inv-loop μ-loop
 loop-again c =
@@ -61,12 +43,12 @@ read-gates-spec =
     Inv-loop
     μ-loop
     loop-holds
-    add-read-gate
-    read-gate-requires
-    no-gates-requires
+    (λ c. search needs)
+    (λ c κs. search needs)
+    (λ c κs. search needs)
     returns
-    store-gate-requires
-    add-g
-    loop-less
+    (λ c κs. search needs)
+    (λ c. search needs)
+    (λ c. search needs)
     loop-again
     returns-2)

@@ -29,23 +29,8 @@ signal-is c =
 loop-holds : tie.Need-loop-holds Inv-loop μ-loop
 loop-holds c = let a = c .before .args in outputs-start (a .file .now) (a .start) (a .inputs) (a .gates) (a .count) (c .before .pre .0)
 
-no-outputs-requires : tie.Need-no-outputs-requires Inv-loop μ-loop
-no-outputs-requires c κs = search needs
-
 returns : tie.Need-returns Inv-loop μ-loop
 returns c = seen-refused 4 (omega arith) (c .no-outputs .ensures) (outputs-cut (c .before .before .before .loop .inv) (omega arith) (omega arith))
-
-shared-slice-read-signal : tie.Need-shared-slice-read-signal Inv-loop μ-loop
-shared-slice-read-signal c = search needs
-
-wide-requires : tie.Need-wide-requires Inv-loop μ-loop
-wide-requires c κs = search needs
-
-is-gate-requires : tie.Need-is-gate-requires Inv-loop μ-loop
-is-gate-requires c κs = search needs
-
-no-outputs-requires-2 : tie.Need-no-outputs-requires-2 Inv-loop μ-loop
-no-outputs-requires-2 c κs = search needs
 
 returns-2 : tie.Need-returns-2 Inv-loop μ-loop
 returns-2 c =
@@ -53,18 +38,6 @@ returns-2 c =
     seen-refused 8 (omega arith) (c .no-outputs2 .ensures)
     (outputs-stray (at-test .before .before .before .before .before .loop .inv) (omega arith) (omega arith)
     (signal-is at-test ∙ not-true _ (c .before .if2 .taken)))
-
-array-write-drivers : tie.Need-array-write-drivers Inv-loop μ-loop
-array-write-drivers c = search needs
-
-add-at : tie.Need-add-at Inv-loop μ-loop
-add-at c = search needs
-
-add-j : tie.Need-add-j Inv-loop μ-loop
-add-j c = search needs
-
-loop-less : tie.Need-loop-less Inv-loop μ-loop
-loop-less c = search needs
 
 loop-again : tie.Need-loop-again Inv-loop μ-loop
 loop-again c =
@@ -82,16 +55,16 @@ read-outputs-spec =
     Inv-loop
     μ-loop
     loop-holds
-    no-outputs-requires
+    (λ c κs. search needs)
     returns
-    shared-slice-read-signal
-    wide-requires
-    is-gate-requires
-    no-outputs-requires-2
+    (λ c. search needs)
+    (λ c κs. search needs)
+    (λ c κs. search needs)
+    (λ c κs. search needs)
     returns-2
-    array-write-drivers
-    add-at
-    add-j
-    loop-less
+    (λ c. search needs)
+    (λ c. search needs)
+    (λ c. search needs)
+    (λ c. search needs)
     loop-again
     returns-3)

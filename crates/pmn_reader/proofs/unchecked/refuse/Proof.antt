@@ -6,12 +6,9 @@ use Rattle.pmn_reader.specs.Answers.{asLoaded}
 use Rattle.pmn_reader.proofs.unchecked.refuse.Statement.{statement}
 use Rattle.pmn_reader.proofs.unchecked.refuse.Tie as tie
 
-blank-requires : tie.Need-blank-requires
-blank-requires c κs = search needs
-
 returns : tie.Need-returns
 unfolding asLoaded
 returns c = ap (λ (n : Network). record { code = c .before .args .code; network = n }) (c .blank .ensures)
 
 pub refuse-spec : {M : Type 1} → statement M
-refuse-spec = tie.close (tie.spec blank-requires returns)
+refuse-spec = tie.close (tie.spec (λ c κs. search needs) returns)

@@ -16,36 +16,12 @@ Inv-loop fanins gates outputs total₀ g₀ total g = (g ≤ gates) × (total �
 abbrev μ-loop : tie.MeasureT-loop
 μ-loop fanins gates outputs total₀ g₀ total g = gates - g
 
-header-length-requires : tie.Need-header-length-requires Inv-loop μ-loop
-header-length-requires c κs = search needs
-
 loop-holds : tie.Need-loop-holds Inv-loop μ-loop
 loop-holds c =
     let a = c .before .args in
     let e = gatesLength-none (a .fanins .now) in
     let f : c .header-length .result ≡ headerLength (a .board) = c .header-length .ensures in
     (zero-le, omega arith, omega (arith, header-long (a .board)))
-
-element-copy-out-wide : tie.Need-element-copy-out-wide Inv-loop μ-loop
-element-copy-out-wide c = search needs
-
-wide-requires : tie.Need-wide-requires Inv-loop μ-loop
-wide-requires c κs = search needs
-
-mul-total : tie.Need-mul-total Inv-loop μ-loop
-mul-total c = search needs
-
-add-total : tie.Need-add-total Inv-loop μ-loop
-add-total c = search needs
-
-add-total-2 : tie.Need-add-total-2 Inv-loop μ-loop
-add-total-2 c = search needs
-
-add-g : tie.Need-add-g Inv-loop μ-loop
-add-g c = search needs
-
-loop-less : tie.Need-loop-less Inv-loop μ-loop
-loop-less c = search needs
 
 loop-again : tie.Need-loop-again Inv-loop μ-loop
 loop-again c =
@@ -54,9 +30,6 @@ loop-again c =
     let e = gatesLength-more (start .args .fanins .now) (l .g) in
     let m = start .pre .0 .few-feeds (l .g) (omega arith) in
     (omega arith, omega arith, omega arith)
-
-add-result : tie.Need-add-result Inv-loop μ-loop
-add-result c = search needs
 
 returns : tie.Need-returns Inv-loop μ-loop
 returns c =
@@ -74,15 +47,15 @@ file-length-spec =
     (tie.spec
     Inv-loop
     μ-loop
-    header-length-requires
+    (λ c κs. search needs)
     loop-holds
-    element-copy-out-wide
-    wide-requires
-    mul-total
-    add-total
-    add-total-2
-    add-g
-    loop-less
+    (λ c. search needs)
+    (λ c κs. search needs)
+    (λ c. search needs)
+    (λ c. search needs)
+    (λ c. search needs)
+    (λ c. search needs)
+    (λ c. search needs)
     loop-again
-    add-result
+    (λ c. search needs)
     returns)

@@ -18,9 +18,6 @@ second c = marked-second (c .before .before .args .board) (c .if1 .taken)
 first : (c : tie.Else1) → markBytes (c .before .before .args .board) ≡ 80 ∷ 77 ∷ 78 ∷ 1 ∷ 0 ∷ []
 first c = marked-first (c .before .before .args .board) (c .if1 .left)
 
-slice-write-out : tie.Need-slice-write-out
-slice-write-out c = search needs
-
 slice-write-out-2 : tie.Need-slice-write-out-2
 slice-write-out-2 c = simp length-set (omega arith)
 
@@ -39,9 +36,6 @@ slice-write-out-6 c = let e = ap length (second c) in simp length-set (omega ari
 slice-write-out-7 : tie.Need-slice-write-out-7
 slice-write-out-7 c = let e = ap length (second c) in simp length-set (omega arith)
 
-same-length : tie.Need-same-length
-same-length c = search needs
-
 returns : tie.Need-returns
 returns c =
     let out = c .before .before .args .out .now in
@@ -57,9 +51,6 @@ slice-write-out-8 c = let e = ap length (first c) in simp length-set (omega arit
 slice-write-out-9 : tie.Need-slice-write-out-9
 slice-write-out-9 c = let e = ap length (first c) in simp length-set (omega arith)
 
-same-length-2 : tie.Need-same-length-2
-same-length-2 c = search needs
-
 returns-2 : tie.Need-returns-2
 returns-2 c =
     let out = c .before .before .args .out .now in
@@ -72,16 +63,16 @@ pub put-board-spec : {M : Type 1} → statement M
 put-board-spec =
     tie.close
     (tie.spec
-    slice-write-out
+    (λ c. search needs)
     slice-write-out-2
     slice-write-out-3
     slice-write-out-4
     slice-write-out-5
     slice-write-out-6
     slice-write-out-7
-    same-length
+    (λ c. search needs)
     returns
     slice-write-out-8
     slice-write-out-9
-    same-length-2
+    (λ c. search needs)
     returns-2)

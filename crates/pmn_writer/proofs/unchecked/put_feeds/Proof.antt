@@ -28,36 +28,6 @@ loop-holds c =
     let start = c .before in
     (zero-le, sym (ap (λ (l : List ℕ). l ++ start .args .out .now) (firstFeeds-none (start .args .signals .now) (start .args .weights .now))), refl)
 
-mul-at : tie.Need-mul-at Inv-loop μ-loop
-mul-at c = search needs
-
-sub-put-pair : tie.Need-sub-put-pair Inv-loop μ-loop
-sub-put-pair c = search needs
-
-part-put-pair-start : tie.Need-part-put-pair-start Inv-loop μ-loop
-part-put-pair-start c = search needs
-
-part-put-pair-end : tie.Need-part-put-pair-end Inv-loop μ-loop
-part-put-pair-end c = search needs
-
-element-copy-out-put-pair : tie.Need-element-copy-out-put-pair Inv-loop μ-loop
-element-copy-out-put-pair c = search needs
-
-mul-put-pair : tie.Need-mul-put-pair Inv-loop μ-loop
-mul-put-pair c = search needs
-
-element-copy-out-put-pair-2 : tie.Need-element-copy-out-put-pair-2 Inv-loop μ-loop
-element-copy-out-put-pair-2 c = search needs
-
-put-pair-requires : tie.Need-put-pair-requires Inv-loop μ-loop
-put-pair-requires c κs = search needs
-
-add-i : tie.Need-add-i Inv-loop μ-loop
-add-i c = search needs
-
-loop-less : tie.Need-loop-less Inv-loop μ-loop
-loop-less c = search needs
-
 loop-again : tie.Need-loop-again Inv-loop μ-loop
 unfolding feedAt
 loop-again c =
@@ -98,16 +68,16 @@ put-feeds-spec =
     Inv-loop
     μ-loop
     loop-holds
-    mul-at
-    sub-put-pair
-    part-put-pair-start
-    part-put-pair-end
-    element-copy-out-put-pair
-    mul-put-pair
-    element-copy-out-put-pair-2
-    put-pair-requires
-    add-i
-    loop-less
+    (λ c. search needs)
+    (λ c. search needs)
+    (λ c. search needs)
+    (λ c. search needs)
+    (λ c. search needs)
+    (λ c. search needs)
+    (λ c. search needs)
+    (λ c κs. search needs)
+    (λ c. search needs)
+    (λ c. search needs)
     loop-again
     same-length
     returns)

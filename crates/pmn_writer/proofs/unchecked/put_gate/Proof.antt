@@ -15,33 +15,6 @@ use Rattle.pmn_writer.specs.WritingLaws.{firstFeeds-length, gateIn-bytes
 use Rattle.pmn_writer.proofs.unchecked.put_gate.Statement.{statement}
 use Rattle.pmn_writer.proofs.unchecked.put_gate.Tie as tie
 
-wide-requires : tie.Need-wide-requires
-wide-requires c κs = search needs
-
-put-pair-requires : tie.Need-put-pair-requires
-put-pair-requires c κs = search needs
-
-sub-put-feeds : tie.Need-sub-put-feeds
-sub-put-feeds c = search needs
-
-part-put-feeds-start : tie.Need-part-put-feeds-start
-part-put-feeds-start c = search needs
-
-part-put-feeds-end : tie.Need-part-put-feeds-end
-part-put-feeds-end c = search needs
-
-put-feeds-requires : tie.Need-put-feeds-requires
-put-feeds-requires c κs = search needs
-
-mul-result : tie.Need-mul-result
-mul-result c = search needs
-
-add-result : tie.Need-add-result
-add-result c = search needs
-
-same-length : tie.Need-same-length
-same-length c = search needs
-
 returns : tie.Need-returns
 returns c =
     let feeds = c .before .before in
@@ -66,13 +39,13 @@ pub put-gate-spec : {M : Type 1} → statement M
 put-gate-spec =
     tie.close
     (tie.spec
-    wide-requires
-    put-pair-requires
-    sub-put-feeds
-    part-put-feeds-start
-    part-put-feeds-end
-    put-feeds-requires
-    mul-result
-    add-result
-    same-length
+    (λ c κs. search needs)
+    (λ c κs. search needs)
+    (λ c. search needs)
+    (λ c. search needs)
+    (λ c. search needs)
+    (λ c κs. search needs)
+    (λ c. search needs)
+    (λ c. search needs)
+    (λ c. search needs)
     returns)

@@ -62,9 +62,6 @@ sub-put-gate c = omega (arith, room (c .before))
 part-put-gate-start : tie.Need-part-put-gate-start Inv-loop μ-loop
 part-put-gate-start c = omega (arith, room (c .before))
 
-part-put-gate-end : tie.Need-part-put-gate-end Inv-loop μ-loop
-part-put-gate-end c = search needs
-
 put-gate-requires : tie.Need-put-gate-requires Inv-loop μ-loop
 put-gate-requires c κs =
     let in-loop = c .before .before in
@@ -82,12 +79,6 @@ add-at c =
     let e = fanin-is (put .before .before) in
     let f = put .put-gate .ensures .0 in
     omega arith
-
-add-g : tie.Need-add-g Inv-loop μ-loop
-add-g c = search needs
-
-loop-less : tie.Need-loop-less Inv-loop μ-loop
-loop-less c = search needs
 
 loop-again : tie.Need-loop-again Inv-loop μ-loop
 loop-again c =
@@ -139,11 +130,11 @@ put-gates-spec =
     gate-at-requires
     sub-put-gate
     part-put-gate-start
-    part-put-gate-end
+    (λ c. search needs)
     put-gate-requires
     add-at
-    add-g
-    loop-less
+    (λ c. search needs)
+    (λ c. search needs)
     loop-again
     same-length
     returns)

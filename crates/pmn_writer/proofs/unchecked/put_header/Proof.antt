@@ -24,9 +24,6 @@ sub-put-counts c = omega (arith, room (c .before .before))
 part-put-counts-start : tie.Need-part-put-counts-start
 part-put-counts-start c = omega (arith, room (c .before .before))
 
-part-put-counts-end : tie.Need-part-put-counts-end
-part-put-counts-end c = search needs
-
 put-counts-requires : tie.Need-put-counts-requires
 put-counts-requires c κs =
     let put = c .before .before .before in
@@ -39,9 +36,6 @@ add-result c =
     let put = c .before .before .before .before .before .before in
     let b = put .before .before .before .args .board in
     omega (arith, put .put-board .ensures .0, markBytes-length b, header-long b)
-
-same-length : tie.Need-same-length
-same-length c = search needs
 
 returns : tie.Need-returns
 returns c =
@@ -64,8 +58,8 @@ put-header-spec =
     put-board-requires
     sub-put-counts
     part-put-counts-start
-    part-put-counts-end
+    (λ c. search needs)
     put-counts-requires
     add-result
-    same-length
+    (λ c. search needs)
     returns)

@@ -12,17 +12,11 @@ use Rattle.basics.specs.WriteLaws.{tail-length, first-put, write-on}
 use Rattle.pmn_writer.proofs.unchecked.put_pair.Statement.{statement}
 use Rattle.pmn_writer.proofs.unchecked.put_pair.Tie as tie
 
-slice-write-out : tie.Need-slice-write-out
-slice-write-out c = search needs
-
 sub-put-int : tie.Need-sub-put-int
 sub-put-int c = simp length-set (omega arith)
 
 part-put-int-start : tie.Need-part-put-int-start
 part-put-int-start c = simp length-set (omega arith)
-
-part-put-int-end : tie.Need-part-put-int-end
-part-put-int-end c = search needs
 
 put-int-requires : tie.Need-put-int-requires
 put-int-requires c κs =
@@ -45,10 +39,10 @@ pub put-pair-spec : {M : Type 1} → statement M
 put-pair-spec =
     tie.close
     (tie.spec
-    slice-write-out
+    (λ c. search needs)
     sub-put-int
     part-put-int-start
-    part-put-int-end
+    (λ c. search needs)
     put-int-requires
     same-length
     returns)

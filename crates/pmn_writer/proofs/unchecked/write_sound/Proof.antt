@@ -99,27 +99,12 @@ sub-put-gates c = omega (arith, room (c .before .before))
 part-put-gates-start : tie.Need-part-put-gates-start
 part-put-gates-start c = omega (arith, room (c .before .before))
 
-part-put-gates-end : tie.Need-part-put-gates-end
-part-put-gates-end c = search needs
-
 put-gates-requires : tie.Need-put-gates-requires
 put-gates-requires c κs =
     let lent = c .before .before in
     let put = lent .before .before .before .before .before .before in
     let t = tail-length (put .put-header .result) (put .put-header .last .0) in
     (counted-of (start-of put .args .t1) (start-of put .pre), omega (arith, t, room put))
-
-add-at : tie.Need-add-at
-add-at c = search needs
-
-sub-put-outputs : tie.Need-sub-put-outputs
-sub-put-outputs c = search needs
-
-part-put-outputs-start : tie.Need-part-put-outputs-start
-part-put-outputs-start c = search needs
-
-part-put-outputs-end : tie.Need-part-put-outputs-end
-part-put-outputs-end c = search needs
 
 put-outputs-requires : tie.Need-put-outputs-requires
 put-outputs-requires c κs =
@@ -130,9 +115,6 @@ put-outputs-requires c κs =
     let k = put .put-header .kept .0 in
     let e = ends gates .1 in
     (bounded (start-of put) .few-outputs, omega (arith, t, l, k, e))
-
-same-length : tie.Need-same-length
-same-length c = search needs
 
 returns-2 : tie.Need-returns-2
 returns-2 c =
@@ -174,12 +156,12 @@ write-sound-spec =
     put-header-requires
     sub-put-gates
     part-put-gates-start
-    part-put-gates-end
+    (λ c. search needs)
     put-gates-requires
-    add-at
-    sub-put-outputs
-    part-put-outputs-start
-    part-put-outputs-end
+    (λ c. search needs)
+    (λ c. search needs)
+    (λ c. search needs)
+    (λ c. search needs)
     put-outputs-requires
-    same-length
+    (λ c. search needs)
     returns-2)

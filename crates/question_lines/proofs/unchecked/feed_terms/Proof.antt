@@ -34,12 +34,6 @@ below c = let w = c .before .before in omega (arith, w .wide .ensures, w .before
 small : (c : tie.In-loop Inv-loop μ-loop) → natAbs (getD (c .before .before .before .before .args .t1 .weights) (c .before .loop .i) (pos 0)) ≤ scale
 small c = let start = c .before .before .before .before in scaled-at (start .args .t1) (start .pre .0) (c .before .loop .i) (below c .0)
 
-no-terms-requires : tie.Need-no-terms-requires Inv-loop μ-loop
-no-terms-requires c κs = search needs
-
-wide-requires : tie.Need-wide-requires Inv-loop μ-loop
-wide-requires c κs = search needs
-
 loop-holds : tie.Need-loop-holds Inv-loop μ-loop
 loop-holds c =
     let a = c .before .before .args in (
@@ -50,12 +44,6 @@ loop-holds c =
 
 element-copy-out-wide : tie.Need-element-copy-out-wide Inv-loop μ-loop
 element-copy-out-wide c = below c .1
-
-wide-requires-2 : tie.Need-wide-requires-2 Inv-loop μ-loop
-wide-requires-2 c κs = search needs
-
-variable-of-requires : tie.Need-variable-of-requires Inv-loop μ-loop
-variable-of-requires c κs = search needs
 
 mul-signed : tie.Need-mul-signed Inv-loop μ-loop
 mul-signed c = let h = below (c .before .before .before) in record { fits = omega arith }
@@ -117,12 +105,12 @@ feed-terms-spec =
     (tie.spec
     Inv-loop
     μ-loop
-    no-terms-requires
-    wide-requires
+    (λ c κs. search needs)
+    (λ c κs. search needs)
     loop-holds
     element-copy-out-wide
-    wide-requires-2
-    variable-of-requires
+    (λ c κs. search needs)
+    (λ c κs. search needs)
     mul-signed
     element-copy-out-signed
     signed-requires

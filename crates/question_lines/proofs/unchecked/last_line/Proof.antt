@@ -15,23 +15,11 @@ Inv-loop d count line₀ j₀ line j = (j ≤ count) × RecordOfLine line (lastL
 abbrev μ-loop : tie.MeasureT-loop
 μ-loop d count line₀ j₀ line j = count - j
 
-no-terms-requires : tie.Need-no-terms-requires Inv-loop μ-loop
-no-terms-requires c κs = search needs
-
 loop-holds : tie.Need-loop-holds Inv-loop μ-loop
 loop-holds c = (omega arith, stands-is (last-none (c .before .args .d)) (c .no-terms .ensures))
 
-add-with-term : tie.Need-add-with-term Inv-loop μ-loop
-add-with-term c = search needs
-
 with-term-requires : tie.Need-with-term-requires Inv-loop μ-loop
 with-term-requires c κs = let l = c .before .loop in stands-extendable (l .inv .1) (omega (arith, last-count (c .before .before .before .args .d) (l .j)))
-
-add-j : tie.Need-add-j Inv-loop μ-loop
-add-j c = search needs
-
-loop-less : tie.Need-loop-less Inv-loop μ-loop
-loop-less c = search needs
 
 loop-again : tie.Need-loop-again Inv-loop μ-loop
 loop-again c =
@@ -53,11 +41,11 @@ last-line-spec =
     (tie.spec
     Inv-loop
     μ-loop
-    no-terms-requires
+    (λ c κs. search needs)
     loop-holds
-    add-with-term
+    (λ c. search needs)
     with-term-requires
-    add-j
-    loop-less
+    (λ c. search needs)
+    (λ c. search needs)
     loop-again
     returns)

@@ -17,14 +17,8 @@ below c = let h = c .pre .1 in omega (arith, small-counts (c .pre .0))
 element-copy-out-wide : tie.Need-element-copy-out-wide
 element-copy-out-wide c = below c
 
-wide-requires : tie.Need-wide-requires
-wide-requires c κs = search needs
-
 element-copy-out-wide-2 : tie.Need-element-copy-out-wide-2
 element-copy-out-wide-2 c = below (c .before .before)
-
-wide-requires-2 : tie.Need-wide-requires-2
-wide-requires-2 c κs = search needs
 
 variable-of-requires : tie.Need-variable-of-requires
 variable-of-requires c κs = let s = small-counts (c .before .before .before .before .pre .0) in omega (arith, c .wide2 .ensures)
@@ -39,9 +33,6 @@ add-d-3 : tie.Need-add-d-3
 add-d-3 c = let s = small-counts (c .before .before .before .before .before .pre .0) in let h = below (c .before .before .before .before .before) in
     record { fits = omega arith }
 
-three-terms-requires : tie.Need-three-terms-requires
-three-terms-requires c κs = search needs
-
 returns : tie.Need-returns
 returns c =
     let named = c .before .before in
@@ -51,9 +42,6 @@ returns c =
     (even-output (start .pre .0) (a .i) (start .pre .1) (named .before .before .before .wide .ensures .0)
     (named .variable-of .ensures ∙ ap (secondVariable (a .t1 .inputs) (a .t1 .gates)) (named .before .wide2 .ensures .0)) refl (c .before .if1 .taken))
     (c .three-terms .ensures)
-
-three-terms-requires-2 : tie.Need-three-terms-requires-2
-three-terms-requires-2 c κs = search needs
 
 returns-2 : tie.Need-returns-2
 returns-2 c =
@@ -70,14 +58,14 @@ output-line-spec =
     tie.close
     (tie.spec
     element-copy-out-wide
-    wide-requires
+    (λ c κs. search needs)
     element-copy-out-wide-2
-    wide-requires-2
+    (λ c κs. search needs)
     variable-of-requires
     add-d
     add-d-2
     add-d-3
-    three-terms-requires
+    (λ c κs. search needs)
     returns
-    three-terms-requires-2
+    (λ c κs. search needs)
     returns-2)

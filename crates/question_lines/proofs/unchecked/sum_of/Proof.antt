@@ -34,9 +34,6 @@ below c = let w = c .before .before in omega (arith, w .wide .ensures, w .before
 small : (c : tie.In-loop Inv-loop μ-loop) → natAbs (weight c) ≤ scale
 small c = let start = c .before .before .before in scaled-at (start .args .t1) (start .pre) (c .before .loop .i) (below c .0)
 
-wide-requires : tie.Need-wide-requires Inv-loop μ-loop
-wide-requires c κs = search needs
-
 loop-holds : tie.Need-loop-holds Inv-loop μ-loop
 loop-holds c = (omega arith, summed-is (sym (sided-none (c .before .args .above) (c .before .args .t1))) (record { holds = refl; small = omega arith }))
 
@@ -91,7 +88,7 @@ sum-of-spec =
     (tie.spec
     Inv-loop
     μ-loop
-    wide-requires
+    (λ c κs. search needs)
     loop-holds
     mul-weight
     element-copy-out-weight

@@ -25,9 +25,6 @@ second : (c : tie.After-with-term2) → RecordOfLine (c .with-term2 .result)
 second c = let start = c .before .before .before in stands-next (start .args .q) (first (c .before)) (toZ-ofZ (start .fits .coefficient))
     (c .with-term2 .ensures)
 
-no-terms-requires : tie.Need-no-terms-requires
-no-terms-requires c κs = search needs
-
 with-term-requires : tie.Need-with-term-requires
 unfolding noTerms
 with-term-requires c κs = stands-extendable (none c) (omega arith)
@@ -49,7 +46,7 @@ pub three-terms-spec : {M : Type 1} → statement M
 three-terms-spec =
     tie.close
     (tie.spec
-    no-terms-requires
+    (λ c κs. search needs)
     with-term-requires
     with-term-requires-2
     with-term-requires-3

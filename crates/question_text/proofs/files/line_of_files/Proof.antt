@@ -8,9 +8,6 @@ use Rattle.question_text.specs.FileLaws.{line-refused, line-left}
 use Rattle.question_text.proofs.files.line_of_files.Statement.{statement}
 use Rattle.question_text.proofs.files.line_of_files.Tie as tie
 
-read-requires : tie.Need-read-requires
-read-requires c κs = search needs
-
 refusal-requires : tie.Need-refusal-requires
 refusal-requires c κs = (λ i. c .before .before .before .before .shared-slice-known .given i .fits, c .read .ensures)
 
@@ -20,9 +17,6 @@ returns c =
     let at-read = c .before .before in
     let a = at-read .before .before .before .before .before .args in
     refused-two (a .out .now) (a .answer .now) (read-refused (c .before .refusal .ensures) _ (c .if1 .taken))
-
-read-requires-2 : tie.Need-read-requires-2
-read-requires-2 c κs = search needs
 
 refusal-requires-2 : tie.Need-refusal-requires-2
 refusal-requires-2 c κs = (λ i. c .before .before .before .before .before .before .shared-slice-known2 .given i .fits, c .read2 .ensures)
@@ -35,17 +29,8 @@ returns-2 c =
     refused-two (a .out .now) (a .answer .now)
     (line-refused (s .before .refusal .ensures .gives (s .if1 .left)) (a .n) (a .out .now) (a .answer .now) (c .before .refusal2 .ensures) (c .if2 .taken))
 
-line-requires : tie.Need-line-requires
-line-requires c κs = search needs
-
 put-one-requires : tie.Need-put-one-requires
 put-one-requires c κs = let t = c .before .before .before .before .before in t .before .refusal2 .ensures .gives (t .if2 .left) .room
-
-same-length : tie.Need-same-length
-same-length c = search needs
-
-same-length-2 : tie.Need-same-length-2
-same-length-2 c = search needs
 
 returns-3 : tie.Need-returns-3
 returns-3 c =
@@ -65,14 +50,14 @@ pub line-of-files-spec : {M : Type 1} → statement M
 line-of-files-spec =
     tie.close
     (tie.spec
-    read-requires
+    (λ c κs. search needs)
     refusal-requires
     returns
-    read-requires-2
+    (λ c κs. search needs)
     refusal-requires-2
     returns-2
-    line-requires
+    (λ c κs. search needs)
     put-one-requires
-    same-length
-    same-length-2
+    (λ c. search needs)
+    (λ c. search needs)
     returns-3)

@@ -32,32 +32,14 @@ above c =
     ap (λ (n : ℕ). 43 ∷ decimal n) (size-is (c .before))
     ∙ sym (coefficient-above (start .args .z) (above-sign (start .args .z) (rw (toZ-ofZ (start .fits .z)) at (c .if1 .left))))
 
-magnitude-requires : tie.Need-magnitude-requires
-magnitude-requires c κs = search needs
-
-cast-size : tie.Need-cast-size
-cast-size c = search needs
-
-slice-aggregate-put-number : tie.Need-slice-aggregate-put-number
-slice-aggregate-put-number c = search needs
-
 put-number-requires : tie.Need-put-number-requires
 put-number-requires c κs = omega (arith, ap length (below (c .before .before)), c .before .before .before .before .before .pre)
-
-same-length : tie.Need-same-length
-same-length c = search needs
 
 returns : tie.Need-returns
 returns c = let done = c .before .before in put-text (done .put-number .ensures) (below (done .before .before .before))
 
-slice-aggregate-put-number-2 : tie.Need-slice-aggregate-put-number-2
-slice-aggregate-put-number-2 c = search needs
-
 put-number-requires-2 : tie.Need-put-number-requires-2
 put-number-requires-2 c κs = omega (arith, ap length (above (c .before .before)), c .before .before .before .before .before .pre)
-
-same-length-2 : tie.Need-same-length-2
-same-length-2 c = search needs
 
 returns-2 : tie.Need-returns-2
 returns-2 c = let done = c .before .before in put-text (done .put-number2 .ensures) (above (done .before .before .before))
@@ -66,13 +48,13 @@ pub put-coefficient-spec : {M : Type 1} → statement M
 put-coefficient-spec =
     tie.close
     (tie.spec
-    magnitude-requires
-    cast-size
-    slice-aggregate-put-number
+    (λ c κs. search needs)
+    (λ c. search needs)
+    (λ c. search needs)
     put-number-requires
-    same-length
+    (λ c. search needs)
     returns
-    slice-aggregate-put-number-2
+    (λ c. search needs)
     put-number-requires-2
-    same-length-2
+    (λ c. search needs)
     returns-2)

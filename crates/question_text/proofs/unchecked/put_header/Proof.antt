@@ -54,9 +54,6 @@ second : (c : tie.After-put-number2) →
 unfolding constraintWord
 second c = let h = room c in put-part (first (c .before .before .before .before .before)) (omega arith) (c .put-number2 .ensures)
 
-slice-aggregate-put-number : tie.Need-slice-aggregate-put-number
-slice-aggregate-put-number c = search needs
-
 put-number-requires : tie.Need-put-number-requires
 put-number-requires c κs = omega (arith, long (c .before .before .before))
 
@@ -65,12 +62,6 @@ sub-put-number c = omega (arith, first-long (c .before .before), first-room (c .
 
 part-put-number-start : tie.Need-part-put-number-start
 part-put-number-start c = omega (arith, first-long (c .before .before), first-room (c .before .before))
-
-part-put-number-end : tie.Need-part-put-number-end
-part-put-number-end c = search needs
-
-slice-aggregate-put-number-2 : tie.Need-slice-aggregate-put-number-2
-slice-aggregate-put-number-2 c = search needs
 
 put-number-requires-2 : tie.Need-put-number-requires-2
 put-number-requires-2 c κs =
@@ -103,12 +94,12 @@ pub put-header-spec : {M : Type 1} → statement M
 put-header-spec =
     tie.close
     (tie.spec
-    slice-aggregate-put-number
+    (λ c. search needs)
     put-number-requires
     sub-put-number
     part-put-number-start
-    part-put-number-end
-    slice-aggregate-put-number-2
+    (λ c. search needs)
+    (λ c. search needs)
     put-number-requires-2
     add-end
     slice-write-out

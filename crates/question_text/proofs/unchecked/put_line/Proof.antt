@@ -64,9 +64,6 @@ sub-put-relation c = omega (arith, terms-long (c .before .before), room (c .befo
 part-put-relation-start : tie.Need-part-put-relation-start
 part-put-relation-start c = omega (arith, terms-long (c .before .before), room (c .before .before))
 
-part-put-relation-end : tie.Need-part-put-relation-end
-part-put-relation-end c = search needs
-
 put-relation-requires : tie.Need-put-relation-requires
 put-relation-requires c κs =
     let done = c .before .before .before .before in
@@ -106,7 +103,7 @@ put-line-spec =
     put-terms-requires
     sub-put-relation
     part-put-relation-start
-    part-put-relation-end
+    (λ c. search needs)
     put-relation-requires
     add-result
     same-length

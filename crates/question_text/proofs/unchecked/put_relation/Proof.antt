@@ -68,9 +68,6 @@ second-long c = put-length (second c) (omega (arith, room c))
 end : (c : tie.After-put-bytes2) → c .put-bytes2 .result ≡ 3
 end c = omega (arith, c .put-bytes2 .ensures .long)
 
-slice-aggregate-put-bytes : tie.Need-slice-aggregate-put-bytes
-slice-aggregate-put-bytes c = search needs
-
 put-bytes-requires : tie.Need-put-bytes-requires
 put-bytes-requires c κs = omega (arith, long (c .before .before .before))
 
@@ -79,9 +76,6 @@ sub-put-right c = omega (arith, first-room (c .before .before), long (c .before 
 
 part-put-right-start : tie.Need-part-put-right-start
 part-put-right-start c = omega (arith, first-room (c .before .before), long (c .before .before .before .before .before .before))
-
-part-put-right-end : tie.Need-part-put-right-end
-part-put-right-end c = search needs
 
 put-right-requires : tie.Need-put-right-requires
 put-right-requires c κs =
@@ -100,12 +94,6 @@ sub-put-bytes c = omega (arith, second-long (c .before .before), room (c .before
 
 part-put-bytes-start : tie.Need-part-put-bytes-start
 part-put-bytes-start c = omega (arith, second-long (c .before .before), room (c .before .before))
-
-part-put-bytes-end : tie.Need-part-put-bytes-end
-part-put-bytes-end c = search needs
-
-slice-aggregate-put-bytes-2 : tie.Need-slice-aggregate-put-bytes-2
-slice-aggregate-put-bytes-2 c = search needs
 
 put-bytes-requires-2 : tie.Need-put-bytes-requires-2
 put-bytes-requires-2 c κs =
@@ -144,17 +132,17 @@ pub put-relation-spec : {M : Type 1} → statement M
 put-relation-spec =
     tie.close
     (tie.spec
-    slice-aggregate-put-bytes
+    (λ c. search needs)
     put-bytes-requires
     sub-put-right
     part-put-right-start
-    part-put-right-end
+    (λ c. search needs)
     put-right-requires
     add-end
     sub-put-bytes
     part-put-bytes-start
-    part-put-bytes-end
-    slice-aggregate-put-bytes-2
+    (λ c. search needs)
+    (λ c. search needs)
     put-bytes-requires-2
     add-result
     same-length

@@ -31,29 +31,14 @@ above c =
     let start = c .before .before .before in
     ap decimal (size-is (c .before)) ∙ sym (right-above (start .args .z) (above-sign (start .args .z) (rw (toZ-ofZ (start .fits .z)) at (c .if1 .left))))
 
-magnitude-requires : tie.Need-magnitude-requires
-magnitude-requires c κs = search needs
-
-cast-size : tie.Need-cast-size
-cast-size c = search needs
-
-slice-aggregate-put-number : tie.Need-slice-aggregate-put-number
-slice-aggregate-put-number c = search needs
-
 put-number-requires : tie.Need-put-number-requires
 put-number-requires c κs = omega (arith, ap length (below (c .before .before)), c .before .before .before .before .before .pre)
-
-same-length : tie.Need-same-length
-same-length c = search needs
 
 returns : tie.Need-returns
 returns c = let done = c .before .before in put-text (done .put-number .ensures) (below (done .before .before .before))
 
 put-decimal-requires : tie.Need-put-decimal-requires
 put-decimal-requires c κs = omega (arith, ap length (above (c .before)), c .before .before .before .before .pre)
-
-same-length-2 : tie.Need-same-length-2
-same-length-2 c = search needs
 
 returns-2 : tie.Need-returns-2
 returns-2 c = let done = c .before .before in put-text (done .put-decimal .ensures) (above (done .before .before))
@@ -62,12 +47,12 @@ pub put-right-spec : {M : Type 1} → statement M
 put-right-spec =
     tie.close
     (tie.spec
-    magnitude-requires
-    cast-size
-    slice-aggregate-put-number
+    (λ c κs. search needs)
+    (λ c. search needs)
+    (λ c. search needs)
     put-number-requires
-    same-length
+    (λ c. search needs)
     returns
     put-decimal-requires
-    same-length-2
+    (λ c. search needs)
     returns-2)

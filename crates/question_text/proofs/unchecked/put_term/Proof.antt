@@ -63,12 +63,6 @@ sub-put-number c = omega (arith, first-long (c .before .before), first-room (c .
 part-put-number-start : tie.Need-part-put-number-start
 part-put-number-start c = omega (arith, first-long (c .before .before), first-room (c .before .before))
 
-part-put-number-end : tie.Need-part-put-number-end
-part-put-number-end c = search needs
-
-slice-aggregate-put-number : tie.Need-slice-aggregate-put-number
-slice-aggregate-put-number c = search needs
-
 add-put-number : tie.Need-add-put-number
 add-put-number c = let lent = c .before .before .before in record { fits = omega (arith, lent .before .before .before .before .pre .0) }
 
@@ -106,8 +100,8 @@ put-term-spec =
     put-coefficient-requires
     sub-put-number
     part-put-number-start
-    part-put-number-end
-    slice-aggregate-put-number
+    (λ c. search needs)
+    (λ c. search needs)
     add-put-number
     put-number-requires
     add-end

@@ -79,21 +79,6 @@ sub-put-term c = omega (arith, room c, long c)
 part-put-term-start : tie.Need-part-put-term-start Inv-loop μ-loop
 part-put-term-start c = omega (arith, room c, long c)
 
-part-put-term-end : tie.Need-part-put-term-end Inv-loop μ-loop
-part-put-term-end c = search needs
-
-mul-put-term : tie.Need-mul-put-term Inv-loop μ-loop
-mul-put-term c = search needs
-
-element-copy-out-put-term : tie.Need-element-copy-out-put-term Inv-loop μ-loop
-element-copy-out-put-term c = search needs
-
-mul-put-term-2 : tie.Need-mul-put-term-2 Inv-loop μ-loop
-mul-put-term-2 c = search needs
-
-element-copy-out-put-term-2 : tie.Need-element-copy-out-put-term-2 Inv-loop μ-loop
-element-copy-out-put-term-2 c = search needs
-
 put-term-requires : tie.Need-put-term-requires Inv-loop μ-loop
 unfolding feedAt
 put-term-requires c κs =
@@ -165,11 +150,11 @@ put-terms-spec =
     loop-holds
     sub-put-term
     part-put-term-start
-    part-put-term-end
-    mul-put-term
-    element-copy-out-put-term
-    mul-put-term-2
-    element-copy-out-put-term-2
+    (λ c. search needs)
+    (λ c. search needs)
+    (λ c. search needs)
+    (λ c. search needs)
+    (λ c. search needs)
     put-term-requires
     add-at
     add-i

@@ -9,9 +9,6 @@ use Rattle.scorer.specs.FileLaws.{score-answer}
 use Rattle.scorer.proofs.files.score_file.Statement.{statement}
 use Rattle.scorer.proofs.files.score_file.Tie as tie
 
-read-requires : tie.Need-read-requires
-read-requires c κs = search needs
-
 refusal-requires : tie.Need-refusal-requires
 refusal-requires c κs = (λ i. c .before .before .before .shared-slice-known .given i .fits, c .read .ensures)
 
@@ -25,9 +22,6 @@ score-sound-requires c κs = file-sound (c .before .refusal .ensures .gives (c .
 put-sheet-requires : tie.Need-put-sheet-requires
 put-sheet-requires c κs = let s = c .before .before in s .before .refusal .ensures .gives (s .if1 .left) .room
 
-same-length : tie.Need-same-length
-same-length c = search needs
-
 returns-2 : tie.Need-returns-2
 returns-2 c =
     let g = c .before .before .before .before .score-sound in
@@ -40,10 +34,10 @@ pub score-file-spec : {M : Type 1} → statement M
 score-file-spec =
     tie.close
     (tie.spec
-    read-requires
+    (λ c κs. search needs)
     refusal-requires
     returns
     score-sound-requires
     put-sheet-requires
-    same-length
+    (λ c. search needs)
     returns-2)

@@ -12,9 +12,6 @@ returns : tie.Need-returns
 unfolding ball checks codeOf gameOf
 returns c = rw (lt-leb (c .before .before .args .lane .frame) 10 (c .if1 .taken))
 
-raises-requires : tie.Need-raises-requires
-raises-requires c κs = search needs
-
 returns-2 : tie.Need-returns-2
 unfolding ball checks codeOf gameOf
 returns-2 c =
@@ -28,4 +25,4 @@ returns-3 c =
     rw (le-leb (played .before .before .args .lane .frame) 10 (played .if1 .left), sym (c .before .raises .ensures) ∙ c .if2 .left)
 
 pub ball-code-spec : {M : Type 1} → statement M
-ball-code-spec = tie.close (tie.spec returns raises-requires returns-2 returns-3)
+ball-code-spec = tie.close (tie.spec returns (λ c κs. search needs) returns-2 returns-3)

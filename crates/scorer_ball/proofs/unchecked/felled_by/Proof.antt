@@ -10,12 +10,6 @@ use Rattle.scorer_ball.specs.PinLaws.{pins-ones, felled-word}
 use Rattle.scorer_ball.proofs.unchecked.felled_by.Statement.{statement}
 use Rattle.scorer_ball.proofs.unchecked.felled_by.Tie as tie
 
-standing-requires : tie.Need-standing-requires
-standing-requires c κs = search needs
-
-standing-requires-2 : tie.Need-standing-requires-2
-standing-requires-2 c κs = search needs
-
 -- the pins felled and those that stand after the ball are those that stood before it
 split : (c : tie.After-standing2) →
     let a = c .before .before .args in
@@ -44,4 +38,4 @@ returns c = omega (arith, split c)
 
 pub felled-by-spec : {M : Type 1} → statement M
 felled-by-spec =
-    tie.close (tie.spec standing-requires standing-requires-2 sub-result cast-result returns)
+    tie.close (tie.spec (λ c κs. search needs) (λ c κs. search needs) sub-result cast-result returns)

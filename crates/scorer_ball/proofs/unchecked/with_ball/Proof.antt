@@ -12,24 +12,9 @@ use Rattle.scorer_ball.specs.PinLaws.{fresh-word}
 use Rattle.scorer_ball.proofs.unchecked.with_ball.Statement.{statement}
 use Rattle.scorer_ball.proofs.unchecked.with_ball.Tie as tie
 
-add-balls : tie.Need-add-balls
-add-balls c = search needs
-
-add-down : tie.Need-add-down
-add-down c = search needs
-
-is-finished-requires : tie.Need-is-finished-requires
-is-finished-requires c κs = search needs
-
-add-t9 : tie.Need-add-t9
-add-t9 c = search needs
-
 returns : tie.Need-returns
 unfolding gameOf withBall
 returns c = record { game = rw (fresh-word, sym (c .before .is-finished .ensures) ∙ c .if1 .taken); ten-pins = omega arith }
-
-standing-requires : tie.Need-standing-requires
-standing-requires c κs = search needs
 
 returns-2 : tie.Need-returns-2
 unfolding gameOf withBall rackFor
@@ -50,11 +35,11 @@ pub with-ball-spec : {M : Type 1} → statement M
 with-ball-spec =
     tie.close
     (tie.spec
-    add-balls
-    add-down
-    is-finished-requires
-    add-t9
+    (λ c. search needs)
+    (λ c. search needs)
+    (λ c κs. search needs)
+    (λ c. search needs)
     returns
-    standing-requires
+    (λ c κs. search needs)
     returns-2
     returns-3)

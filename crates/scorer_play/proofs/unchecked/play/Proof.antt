@@ -21,20 +21,11 @@ abbrev μ-loop : tie.MeasureT-loop
 loop-holds : tie.Need-loop-holds Inv-loop μ-loop
 loop-holds c = playing-none _ _
 
-mul-throw : tie.Need-mul-throw Inv-loop μ-loop
-mul-throw c = search needs
-
-shared-slice-read-throw : tie.Need-shared-slice-read-throw Inv-loop μ-loop
-shared-slice-read-throw c = search needs
-
 throw-requires : tie.Need-throw-requires Inv-loop μ-loop
 throw-requires c κs =
     let inv = c .before .before .loop .inv in
     let s = c .before .before .before .before in
     (s .pre .0, (s .pre .1, inv .on-lane .ten-pins))
-
-refused-requires : tie.Need-refused-requires Inv-loop μ-loop
-refused-requires c κs = search needs
 
 returns : tie.Need-returns Inv-loop μ-loop
 returns c =
@@ -55,12 +46,6 @@ with-ball-requires c κs =
     let left = c .before .before .throw .ensures .left (c .before .if1 .left) in
     let inv = c .before .before .before .before .before .loop .inv in
     (inv .on-lane, (left .in-game, left .fair .ten-after))
-
-add-balls : tie.Need-add-balls Inv-loop μ-loop
-add-balls c = search needs
-
-loop-less : tie.Need-loop-less Inv-loop μ-loop
-loop-less c = search needs
 
 loop-again : tie.Need-loop-again Inv-loop μ-loop
 loop-again c =
@@ -88,16 +73,16 @@ play-spec =
     Inv-loop
     μ-loop
     loop-holds
-    mul-throw
-    shared-slice-read-throw
+    (λ c. search needs)
+    (λ c. search needs)
     throw-requires
-    refused-requires
+    (λ c κs. search needs)
     returns
     felled-by-requires
     array-write-felled
     with-ball-requires
-    add-balls
-    loop-less
+    (λ c. search needs)
+    (λ c. search needs)
     loop-again
     sheet-of-requires
     returns-2)

@@ -11,9 +11,6 @@ use Rattle.scorer_tally.specs.Sheets.{asSheet}
 use Rattle.scorer_play.proofs.unchecked.score_sound.Statement.{statement}
 use Rattle.scorer_play.proofs.unchecked.score_sound.Tie as tie
 
-refused-requires : tie.Need-refused-requires
-refused-requires c κs = search needs
-
 returns : tie.Need-returns
 unfolding game
 returns c =
@@ -32,4 +29,4 @@ returns-2 c =
     c .play .ensures ∙ ap asSheet (sym (checks-next _ 27 [] _ ten ∙ checks-none _))
 
 pub score-sound-spec : {M : Type 1} → statement M
-score-sound-spec = tie.close (tie.spec refused-requires returns play-requires returns-2)
+score-sound-spec = tie.close (tie.spec (λ c κs. search needs) returns play-requires returns-2)

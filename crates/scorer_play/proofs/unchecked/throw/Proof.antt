@@ -5,9 +5,6 @@ use Rattle.scorer_play.specs.PlayLaws.{throws-refused, throws-ball}
 use Rattle.scorer_play.proofs.unchecked.throw.Statement.{statement}
 use Rattle.scorer_play.proofs.unchecked.throw.Tie as tie
 
-read-sound-requires : tie.Need-read-sound-requires
-read-sound-requires c κs = search needs
-
 returns : tie.Need-returns
 returns c =
     let s = c .before .before in
@@ -25,4 +22,4 @@ returns-2 c =
     (s .pre .1 .0) (s .pre .1 .1) (c .before .before .if1 .left) (c .ball-code .ensures)
 
 pub throw-spec : {M : Type 1} → statement M
-throw-spec = tie.close (tie.spec read-sound-requires returns ball-code-requires returns-2)
+throw-spec = tie.close (tie.spec (λ c κs. search needs) returns ball-code-requires returns-2)

@@ -7,12 +7,6 @@ use lib.Seq.{getD-take}
 use Rattle.scorer_tally.proofs.unchecked.felled_at.Statement.{statement}
 use Rattle.scorer_tally.proofs.unchecked.felled_at.Tie as tie
 
-element-copy-out-wide : tie.Need-element-copy-out-wide
-element-copy-out-wide c = search needs
-
-wide-requires : tie.Need-wide-requires
-wide-requires c κs = search needs
-
 returns : tie.Need-returns
 returns c =
     let s = c .before .before .before in
@@ -25,4 +19,4 @@ returns-2 c =
     (sym (List·getD-eq-default thrown 0 {n = a .i} (omega (arith, length-take (a .balls) (a .felled .now)))), omega arith)
 
 pub felled-at-spec : {M : Type 1} → statement M
-felled-at-spec = tie.close (tie.spec element-copy-out-wide wide-requires returns returns-2)
+felled-at-spec = tie.close (tie.spec (λ c. search needs) (λ c κs. search needs) returns returns-2)

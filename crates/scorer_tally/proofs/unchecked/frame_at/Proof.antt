@@ -25,44 +25,11 @@ opens c =
       bytes = (c .before .before .felled-at .ensures .1, c .before .felled-at2 .ensures .1, c .felled-at3 .ensures .1);
     }
 
-felled-at-requires : tie.Need-felled-at-requires
-felled-at-requires c κs = search needs
-
-add-felled-at : tie.Need-add-felled-at
-add-felled-at c = search needs
-
-felled-at-requires-2 : tie.Need-felled-at-requires-2
-felled-at-requires-2 c κs = search needs
-
-add-felled-at-2 : tie.Need-add-felled-at-2
-add-felled-at-2 c = search needs
-
-felled-at-requires-3 : tie.Need-felled-at-requires-3
-felled-at-requires-3 c κs = search needs
-
-add-t9 : tie.Need-add-t9
-add-t9 c = search needs
-
-add-t10 : tie.Need-add-t10
-add-t10 c = search needs
-
 returns : tie.Need-returns
 returns c = count-strike (opens (c .before)) (c .if1 .taken)
 
-add-if2 : tie.Need-add-if2
-add-if2 c = search needs
-
-add-t11 : tie.Need-add-t11
-add-t11 c = search needs
-
-add-t12 : tie.Need-add-t12
-add-t12 c = search needs
-
 returns-2 : tie.Need-returns-2
 returns-2 c = count-spare (opens (c .before .before)) (c .before .if1 .left) (c .if2 .taken)
-
-add-t7 : tie.Need-add-t7
-add-t7 c = search needs
 
 returns-3 : tie.Need-returns-3
 returns-3 c = count-open (opens (c .before .before)) (c .before .if1 .left) (c .if2 .left)
@@ -71,17 +38,17 @@ pub frame-at-spec : {M : Type 1} → statement M
 frame-at-spec =
     tie.close
     (tie.spec
-    felled-at-requires
-    add-felled-at
-    felled-at-requires-2
-    add-felled-at-2
-    felled-at-requires-3
-    add-t9
-    add-t10
+    (λ c κs. search needs)
+    (λ c. search needs)
+    (λ c κs. search needs)
+    (λ c. search needs)
+    (λ c κs. search needs)
+    (λ c. search needs)
+    (λ c. search needs)
     returns
-    add-if2
-    add-t11
-    add-t12
+    (λ c. search needs)
+    (λ c. search needs)
+    (λ c. search needs)
     returns-2
-    add-t7
+    (λ c. search needs)
     returns-3)

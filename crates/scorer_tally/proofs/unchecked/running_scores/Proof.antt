@@ -34,27 +34,6 @@ returns c =
     let inv = c .before .before .before .before .loop .inv in
     scoring-answer inv (scoring-stop inv (c .before .before .frame-at .ensures) (omega arith) (omega (arith, many (c .before .before .before .before .before))))
 
-add-so-far : tie.Need-add-so-far Inv-loop μ-loop
-add-so-far c = search needs
-
-cast-scores : tie.Need-cast-scores Inv-loop μ-loop
-cast-scores c = search needs
-
-mul-scores : tie.Need-mul-scores Inv-loop μ-loop
-mul-scores c = search needs
-
-array-write-scores : tie.Need-array-write-scores Inv-loop μ-loop
-array-write-scores c = search needs
-
-add-at : tie.Need-add-at Inv-loop μ-loop
-add-at c = search needs
-
-add-frames : tie.Need-add-frames Inv-loop μ-loop
-add-frames c = search needs
-
-loop-less : tie.Need-loop-less Inv-loop μ-loop
-loop-less c = search needs
-
 loop-again : tie.Need-loop-again Inv-loop μ-loop
 loop-again c =
     let frame = c .before .before .before .before in
@@ -76,12 +55,12 @@ running-scores-spec =
     frame-at-requires
     add-if1
     returns
-    add-so-far
-    cast-scores
-    mul-scores
-    array-write-scores
-    add-at
-    add-frames
-    loop-less
+    (λ c. search needs)
+    (λ c. search needs)
+    (λ c. search needs)
+    (λ c. search needs)
+    (λ c. search needs)
+    (λ c. search needs)
+    (λ c. search needs)
     loop-again
     returns-2)

@@ -33,9 +33,6 @@ sub-put-decimal c = let done = c .before .before in omega (arith, room done, put
 part-put-decimal-start : tie.Need-part-put-decimal-start
 part-put-decimal-start c = let done = c .before .before in omega (arith, room done, put-length (done .put-bytes .ensures) (room done))
 
-part-put-decimal-end : tie.Need-part-put-decimal-end
-part-put-decimal-end c = search needs
-
 put-decimal-requires : tie.Need-put-decimal-requires
 put-decimal-requires c κs =
     let done = c .before .before .before in
@@ -63,7 +60,7 @@ put-number-spec =
     put-bytes-requires
     sub-put-decimal
     part-put-decimal-start
-    part-put-decimal-end
+    (λ c. search needs)
     put-decimal-requires
     add-result
     same-length

@@ -14,18 +14,6 @@ returns-2 c =
     let a = c .before .before .args in
     refused-one (a .answer .now) (too-high (a .table) (a .answer .now) (c .before .if1 .left) (omega arith))
 
-cast-entry : tie.Need-cast-entry
-cast-entry c = search needs
-
-entry-requires : tie.Need-entry-requires
-entry-requires c κs = search needs
-
-put-requires : tie.Need-put-requires
-put-requires c κs = search needs
-
-same-length : tie.Need-same-length
-same-length c = search needs
-
 returns-3 : tie.Need-returns-3
 returns-3 c =
     let found = c .before .before .before in
@@ -36,4 +24,4 @@ returns-3 c =
 pub put-entry-spec : {M : Type 1} → statement M
 put-entry-spec =
     tie.close
-    (tie.spec returns returns-2 cast-entry entry-requires put-requires same-length returns-3)
+    (tie.spec returns returns-2 (λ c. search needs) (λ c κs. search needs) (λ c κs. search needs) (λ c. search needs) returns-3)

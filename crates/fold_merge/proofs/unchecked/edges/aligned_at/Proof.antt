@@ -8,14 +8,8 @@ use borrow.Author.Needs.{needs}
 use Rattle.fold_merge.proofs.unchecked.edges.aligned_at.Statement.{statement}
 use Rattle.fold_merge.proofs.unchecked.edges.aligned_at.Tie as tie
 
-sub-gate-at : tie.Need-sub-gate-at
-sub-gate-at c = search needs
-
 gate-at-requires : tie.Need-gate-at-requires
 gate-at-requires c κs = signal-place (c .pre .0) (c .args .u) (c .pre .1 .0 .u-gate)
-
-sub-gate-at-2 : tie.Need-sub-gate-at-2
-sub-gate-at-2 c = search needs
 
 gate-at-requires-2 : tie.Need-gate-at-requires-2
 gate-at-requires-2 c κs = signal-place (c .before .pre .0) (c .before .args .v) (c .before .pre .1 .0 .v-gate)
@@ -38,4 +32,4 @@ returns c = c .align .ensures ∙ ap alignmentOf (same (c .before))
 pub aligned-at-spec : {M : Type 1} → statement M
 aligned-at-spec =
     tie.close
-    (tie.spec sub-gate-at gate-at-requires sub-gate-at-2 gate-at-requires-2 align-requires returns)
+    (tie.spec (λ c. search needs) gate-at-requires (λ c. search needs) gate-at-requires-2 align-requires returns)

@@ -16,12 +16,6 @@ use borrow.Author.Needs.{needs}
 use Rattle.fold_merge.proofs.unchecked.edges.edge_code.Statement.{statement}
 use Rattle.fold_merge.proofs.unchecked.edges.edge_code.Tie as tie
 
-is-gate-requires : tie.Need-is-gate-requires
-is-gate-requires c κs = search needs
-
-is-gate-requires-2 : tie.Need-is-gate-requires-2
-is-gate-requires-2 c κs = search needs
-
 -- what the first test found
 tested : (c : tie.After-is-gate2) → let a = c .before .before .args in
     (c .before .is-gate .result && c .is-gate2 .result) ≡ (gateSignal (a .inputs) (a .gates) (a .u) && gateSignal (a .inputs) (a .gates) (a .v))
@@ -63,8 +57,8 @@ pub edge-code-spec : {M : Type 1} → statement M
 edge-code-spec =
     tie.close
     (tie.spec
-    is-gate-requires
-    is-gate-requires-2
+    (λ c κs. search needs)
+    (λ c κs. search needs)
     returns
     sub-reads-gate
     reads-gate-requires

@@ -12,12 +12,6 @@ use borrow.Author.Needs.{needs}
 use Rattle.fold_merge.proofs.unchecked.merges.limit_code.Statement.{statement}
 use Rattle.fold_merge.proofs.unchecked.merges.limit_code.Tie as tie
 
-on-dial-requires : tie.Need-on-dial-requires
-on-dial-requires c κs = search needs
-
-on-dial-requires-2 : tie.Need-on-dial-requires-2
-on-dial-requires-2 c κs = search needs
-
 -- what the first test found
 dial : (c : tie.After-on-dial2) → let a = c .before .before .args in (c .before .on-dial .result && c .on-dial2 .result) ≡ (onDial (a .k) && onDial (a .l))
 dial c = rw (c .before .on-dial .ensures, c .on-dial2 .ensures)
@@ -75,8 +69,8 @@ pub limit-code-spec : {M : Type 1} → statement M
 limit-code-spec =
     tie.close
     (tie.spec
-    on-dial-requires
-    on-dial-requires-2
+    (λ c κs. search needs)
+    (λ c κs. search needs)
     returns
     returns-2
     scale-fits-requires

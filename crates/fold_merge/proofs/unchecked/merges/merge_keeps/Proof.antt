@@ -10,9 +10,6 @@ use Rattle.fold_merge.specs.AlignedLaws.{merged-scaled}
 use Rattle.fold_merge.proofs.unchecked.merges.merge_keeps.Statement.{statement}
 use Rattle.fold_merge.proofs.unchecked.merges.merge_keeps.Tie as tie
 
-merged-gate-requires : tie.Need-merged-gate-requires
-merged-gate-requires c κs = search needs
-
 -- the gate that was made
 made : (c : tie.After-merged-gate) → let a = c .before .before .before .args in gateIn (c .merged-gate .result) ≡ mergedOf (a .a) (a .k) (a .l)
 made c =
@@ -30,4 +27,4 @@ returns : tie.Need-returns
 returns c = let a = c .before .before .before .before .args in c .gate-keeps .ensures ∙ ap (keeps (a .a .thresholds .board)) (made (c .before))
 
 pub merge-keeps-spec : {M : Type 1} → statement M
-merge-keeps-spec = tie.close (tie.spec merged-gate-requires gate-keeps-requires returns)
+merge-keeps-spec = tie.close (tie.spec (λ c κs. search needs) gate-keeps-requires returns)

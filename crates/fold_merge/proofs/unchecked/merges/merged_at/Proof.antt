@@ -61,9 +61,6 @@ passed c = merge-passed _ _ _ _ (code-is (c .before)) (c .if2 .left)
 edge-code-requires : tie.Need-edge-code-requires
 edge-code-requires c κs = lent c
 
-no-gate-requires : tie.Need-no-gate-requires
-no-gate-requires c κs = search needs
-
 returns : tie.Need-returns
 returns c =
     let s = c .before .before .before in
@@ -76,9 +73,6 @@ aligned-at-requires c κs = let t = c .before in (lent (t .before .before), (joi
 
 merge-code-requires : tie.Need-merge-code-requires
 merge-code-requires c κs = subst AlignmentOnScale (sym (c .aligned-at .ensures)) (aligned-fair _ (edge-ok (c .before .before)))
-
-no-gate-requires-2 : tie.Need-no-gate-requires-2
-no-gate-requires-2 c κs = search needs
 
 returns-2 : tie.Need-returns-2
 returns-2 c =
@@ -112,11 +106,11 @@ merged-at-spec =
     tie.close
     (tie.spec
     edge-code-requires
-    no-gate-requires
+    (λ c κs. search needs)
     returns
     aligned-at-requires
     merge-code-requires
-    no-gate-requires-2
+    (λ c κs. search needs)
     returns-2
     merged-gate-requires
     returns-3)

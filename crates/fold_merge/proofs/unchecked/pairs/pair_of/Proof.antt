@@ -8,9 +8,6 @@ use borrow.Author.Needs.{needs}
 use Rattle.fold_merge.proofs.unchecked.pairs.pair_of.Statement.{statement}
 use Rattle.fold_merge.proofs.unchecked.pairs.pair_of.Tie as tie
 
-no-pair-requires : tie.Need-no-pair-requires
-no-pair-requires c κs = search needs
-
 returns : tie.Need-returns
 unfolding pairOfAlignment checks
 returns c = c .no-pair .ensures ∙ rw (lt-leb _ 16 (c .before .if1 .taken))
@@ -18,13 +15,10 @@ returns c = c .no-pair .ensures ∙ rw (lt-leb _ 16 (c .before .if1 .taken))
 find-pair-requires : tie.Need-find-pair-requires
 find-pair-requires c κs = record { few = c .if1 .left; fair = c .before .pre }
 
-answered-requires : tie.Need-answered-requires
-answered-requires c κs = search needs
-
 returns-2 : tie.Need-returns-2
 unfolding pairOfAlignment checks
 returns-2 c = c .answered .ensures ∙ ap asPair (c .before .find-pair .ensures) ∙ rw (le-leb _ 16 (c .before .before .if1 .left))
 
 pub pair-of-spec : {M : Type 1} → statement M
 pair-of-spec =
-    tie.close (tie.spec no-pair-requires returns find-pair-requires answered-requires returns-2)
+    tie.close (tie.spec (λ c κs. search needs) returns find-pair-requires (λ c κs. search needs) returns-2)

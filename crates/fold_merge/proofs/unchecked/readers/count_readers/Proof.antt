@@ -39,12 +39,6 @@ cast-count c = omega (arith, byte-below (c .reads-gate .result))
 add-count : tie.Need-add-count Inv-loop μ-loop
 add-count c = omega (arith, byte-below (c .reads-gate .result))
 
-add-g : tie.Need-add-g Inv-loop μ-loop
-add-g c = search needs
-
-loop-less : tie.Need-loop-less Inv-loop μ-loop
-loop-less c = search needs
-
 loop-again : tie.Need-loop-again Inv-loop μ-loop
 loop-again c =
     let a = c .before .before .before .args in
@@ -69,7 +63,7 @@ count-readers-spec =
     reads-gate-requires
     cast-count
     add-count
-    add-g
-    loop-less
+    (λ c. search needs)
+    (λ c. search needs)
     loop-again
     returns)

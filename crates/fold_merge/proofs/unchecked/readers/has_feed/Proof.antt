@@ -15,28 +15,13 @@ Inv-loop signals base count signal p₀ p-end p =
 abbrev μ-loop : tie.MeasureT-loop
 μ-loop signals base count signal p₀ p-end p = p-end - p
 
-add-p-end : tie.Need-add-p-end Inv-loop μ-loop
-add-p-end c = search needs
-
 loop-holds : tie.Need-loop-holds Inv-loop μ-loop
 loop-holds c = let a = c .before .args in (omega arith, omega arith, rw (let e : a .base + a .count - a .base ≡ a .count = omega arith in e))
-
-shared-slice-read-wide : tie.Need-shared-slice-read-wide Inv-loop μ-loop
-shared-slice-read-wide c = search needs
-
-wide-requires : tie.Need-wide-requires Inv-loop μ-loop
-wide-requires c κs = search needs
 
 returns : tie.Need-returns Inv-loop μ-loop
 returns c =
     let l = c .before .before .before .before .loop in
     sym (occurs-here _ _ _ _ (c .before .before .before .loop-test .taken) (sym (c .before .wide .ensures .0) ∙ c .if1 .taken)) ∙ l .inv .2
-
-add-p : tie.Need-add-p Inv-loop μ-loop
-add-p c = search needs
-
-loop-less : tie.Need-loop-less Inv-loop μ-loop
-loop-less c = search needs
 
 loop-again : tie.Need-loop-again Inv-loop μ-loop
 loop-again c =
@@ -55,12 +40,12 @@ has-feed-spec =
     (tie.spec
     Inv-loop
     μ-loop
-    add-p-end
+    (λ c. search needs)
     loop-holds
-    shared-slice-read-wide
-    wide-requires
+    (λ c. search needs)
+    (λ c κs. search needs)
     returns
-    add-p
-    loop-less
+    (λ c. search needs)
+    (λ c. search needs)
     loop-again
     returns-2)

@@ -3,11 +3,8 @@ use borrow.Author.Needs.{needs}
 use Rattle.fold_merge.proofs.unchecked.readers.is_output.Statement.{statement}
 use Rattle.fold_merge.proofs.unchecked.readers.is_output.Tie as tie
 
-has-feed-requires : tie.Need-has-feed-requires
-has-feed-requires c κs = search needs
-
 returns : tie.Need-returns
 returns c = c .has-feed .ensures
 
 pub is-output-spec : {M : Type 1} → statement M
-is-output-spec = tie.close (tie.spec has-feed-requires returns)
+is-output-spec = tie.close (tie.spec (λ c κs. search needs) returns)

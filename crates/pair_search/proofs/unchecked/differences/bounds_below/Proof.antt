@@ -9,12 +9,6 @@ sum-at-requires c κs = (c .pre .0 .u-small, c .pre .1)
 sum-at-requires-2 : tie.Need-sum-at-requires-2
 sum-at-requires-2 c κs = (c .before .pre .0 .v-small, c .before .pre .1)
 
-composed-bit-requires : tie.Need-composed-bit-requires
-composed-bit-requires c κs = search needs
-
-returns : tie.Need-returns
-returns c = search needs
-
 pub bounds-below-spec : {M : Type 1} → statement M
 bounds-below-spec =
-    tie.close (tie.spec sum-at-requires sum-at-requires-2 composed-bit-requires returns)
+    tie.close (tie.spec sum-at-requires sum-at-requires-2 (λ c κs. search needs) (λ c. search needs))

@@ -20,9 +20,6 @@ likely-high-half-requires c κs =
     let p = c .pre in
     (p .0, (p .1 .0, (p .1 .1 .0, (p .1 .1 .1 .0, high-inside (c .args .count) (c .args .last) (p .1 .1 .1 .0) (p .1 .1 .1 .1)))))
 
-high-feeds-requires : tie.Need-high-feeds-requires Inv-loop μ-loop
-high-feeds-requires c κs = search needs
-
 sub-settings : tie.Need-sub-settings Inv-loop μ-loop
 sub-settings c = omega (arith, c .high-feeds .ensures)
 
@@ -72,9 +69,6 @@ add-result c = record { fits = omega (arith, low-setting (c .before .before)) }
 returns : tie.Need-returns Inv-loop μ-loop
 returns c = inside (c .before .before)
 
-add-low : tie.Need-add-low Inv-loop μ-loop
-add-low c = search needs
-
 loop-less : tie.Need-loop-less Inv-loop μ-loop
 loop-less c = omega arith
 
@@ -91,7 +85,7 @@ likely-difference-spec =
     Inv-loop
     μ-loop
     likely-high-half-requires
-    high-feeds-requires
+    (λ c κs. search needs)
     sub-settings
     settings-requires
     loop-holds
@@ -101,7 +95,7 @@ likely-difference-spec =
     mul-result
     add-result
     returns
-    add-low
+    (λ c. search needs)
     loop-less
     loop-again
     returns-2)

@@ -16,9 +16,6 @@ Inv-loop sums-u sums-v thresholds k l count nearest high-count highs lows mixes 
 abbrev μ-loop : tie.MeasureT-loop
 μ-loop sums-u sums-v thresholds k l count nearest high-count highs lows mixes step₀ step = highs - step
 
-high-feeds-requires : tie.Need-high-feeds-requires Inv-loop μ-loop
-high-feeds-requires c κs = search needs
-
 settings-requires : tie.Need-settings-requires Inv-loop μ-loop
 settings-requires c κs = omega (arith, c .high-feeds .ensures, c .before .pre .1 .1 .1 .0)
 
@@ -93,9 +90,6 @@ differs-within-requires c κs = lows-few (halves (c .before .before .before .bef
 returns : tie.Need-returns Inv-loop μ-loop
 returns c = let d = c .before .before .before .before .before .before in omega (arith, inside d, highs-is (halves d))
 
-add-step : tie.Need-add-step Inv-loop μ-loop
-add-step c = search needs
-
 loop-less : tie.Need-loop-less Inv-loop μ-loop
 loop-less c = omega arith
 
@@ -111,7 +105,7 @@ likely-high-half-spec =
     (tie.spec
     Inv-loop
     μ-loop
-    high-feeds-requires
+    (λ c κs. search needs)
     settings-requires
     sub-settings
     settings-requires-2
@@ -122,7 +116,7 @@ likely-high-half-spec =
     lower-threshold-requires
     differs-within-requires
     returns
-    add-step
+    (λ c. search needs)
     loop-less
     loop-again
     returns-2)

@@ -20,18 +20,6 @@ abbrev μ-loop : tie.MeasureT-loop
 loop-holds : tie.Need-loop-holds Inv-loop μ-loop
 loop-holds c = omega arith
 
-mul-mixed : tie.Need-mul-mixed Inv-loop μ-loop
-mul-mixed c = search needs
-
-element-copy-out-mixed : tie.Need-element-copy-out-mixed Inv-loop μ-loop
-element-copy-out-mixed c = search needs
-
-mul-mixed-2 : tie.Need-mul-mixed-2 Inv-loop μ-loop
-mul-mixed-2 c = search needs
-
-element-copy-out-mixed-2 : tie.Need-element-copy-out-mixed-2 Inv-loop μ-loop
-element-copy-out-mixed-2 c = search needs
-
 -- the two sums, as the machine reads them back
 module _ (c : tie.In-loop Inv-loop μ-loop) where
   abbrev start : tie.Start Inv-loop μ-loop
@@ -52,23 +40,11 @@ mixed-requires c κs =
     let tables = start d .pre .0 in
     rw (u-is d, v-is d) (record { dial = start d .pre .1 .0; x-small = omega (arith, tables .u-small (at d)); y-small = omega (arith, tables .v-small (at d)) })
 
-mul-mixes : tie.Need-mul-mixes Inv-loop μ-loop
-mul-mixes c = search needs
-
-array-set-from-mixes : tie.Need-array-set-from-mixes Inv-loop μ-loop
-array-set-from-mixes c = search needs
-
-add-low : tie.Need-add-low Inv-loop μ-loop
-add-low c = search needs
-
 loop-less : tie.Need-loop-less Inv-loop μ-loop
 loop-less c = omega arith
 
 loop-again : tie.Need-loop-again Inv-loop μ-loop
 loop-again c = omega arith
-
-returns : tie.Need-returns Inv-loop μ-loop
-returns c = search needs
 
 pub mixed-sums-spec : {M : Type 1} → statement M
 mixed-sums-spec =
@@ -77,14 +53,14 @@ mixed-sums-spec =
     Inv-loop
     μ-loop
     loop-holds
-    mul-mixed
-    element-copy-out-mixed
-    mul-mixed-2
-    element-copy-out-mixed-2
+    (λ c. search needs)
+    (λ c. search needs)
+    (λ c. search needs)
+    (λ c. search needs)
     mixed-requires
-    mul-mixes
-    array-set-from-mixes
-    add-low
+    (λ c. search needs)
+    (λ c. search needs)
+    (λ c. search needs)
     loop-less
     loop-again
-    returns)
+    (λ c. search needs))

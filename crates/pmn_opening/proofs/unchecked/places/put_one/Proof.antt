@@ -6,12 +6,6 @@ use Rattle.pmn_opening.specs.AnswerLaws.{put-places, keep-places}
 use Rattle.pmn_opening.proofs.unchecked.places.put_one.Statement.{statement}
 use Rattle.pmn_opening.proofs.unchecked.places.put_one.Tie as tie
 
-slice-write-answer : tie.Need-slice-write-answer
-slice-write-answer c = search needs
-
-same-length : tie.Need-same-length
-same-length c = search needs
-
 returns : tie.Need-returns
 returns c = let a = c .before .args in (refl, put-places (a .code) (a .first ∷ []) (a .answer .now) (c .if1 .taken) (c .before .pre))
 
@@ -19,4 +13,4 @@ returns-2 : tie.Need-returns-2
 returns-2 c = let a = c .before .args in (refl, keep-places (a .code) (a .first ∷ []) (a .answer .now) (c .if1 .left))
 
 pub put-one-spec : {M : Type 1} → statement M
-put-one-spec = tie.close (tie.spec slice-write-answer same-length returns returns-2)
+put-one-spec = tie.close (tie.spec (λ c. search needs) (λ c. search needs) returns returns-2)

@@ -8,9 +8,6 @@ use Rattle.pmn_opening.specs.AnswerLaws.{put-places, keep-places}
 use Rattle.pmn_opening.proofs.unchecked.places.put_three.Statement.{statement}
 use Rattle.pmn_opening.proofs.unchecked.places.put_three.Tie as tie
 
-slice-write-answer : tie.Need-slice-write-answer
-slice-write-answer c = search needs
-
 slice-write-answer-2 : tie.Need-slice-write-answer-2
 slice-write-answer-2 c = simp length-set (omega arith)
 
@@ -30,7 +27,7 @@ pub put-three-spec : {M : Type 1} → statement M
 put-three-spec =
     tie.close
     (tie.spec
-    slice-write-answer
+    (λ c. search needs)
     slice-write-answer-2
     slice-write-answer-3
     same-length

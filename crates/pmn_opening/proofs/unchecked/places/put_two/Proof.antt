@@ -6,15 +6,6 @@ use Rattle.pmn_opening.specs.AnswerLaws.{put-places, keep-places}
 use Rattle.pmn_opening.proofs.unchecked.places.put_two.Statement.{statement}
 use Rattle.pmn_opening.proofs.unchecked.places.put_two.Tie as tie
 
-slice-write-answer : tie.Need-slice-write-answer
-slice-write-answer c = search needs
-
-slice-write-answer-2 : tie.Need-slice-write-answer-2
-slice-write-answer-2 c = search needs
-
-same-length : tie.Need-same-length
-same-length c = search needs
-
 returns : tie.Need-returns
 returns c = let a = c .before .args in (refl, put-places (a .code) (a .first ∷ a .second ∷ []) (a .answer .now) (c .if1 .taken) (c .before .pre))
 
@@ -23,4 +14,4 @@ returns-2 c = let a = c .before .args in (refl, keep-places (a .code) (a .first 
 
 pub put-two-spec : {M : Type 1} → statement M
 put-two-spec =
-    tie.close (tie.spec slice-write-answer slice-write-answer-2 same-length returns returns-2)
+    tie.close (tie.spec (λ c. search needs) (λ c. search needs) (λ c. search needs) returns returns-2)
