@@ -6,7 +6,7 @@ use Prim.Native.Nat.{ℕ, zero, suc, _+_, _-_, _≤_, _<_}
 use native.Mathlib.Numerals.{add-one}
 use native.Mathlib.Omega.{arith}
 use borrow.Author.Tests.{le-leb}
-use lib.ListN.{length}
+use lib.ListN.{length, replicate}
 use Rattle.basics.specs.Refusals.{Answer, accepted, refused, checks}
 use Rattle.basics.specs.RefusalLaws.{Refused}
 use Rattle.basics.specs.TestLaws.{is-true, T-is}
@@ -14,6 +14,7 @@ use Rattle.network.specs.Threshold.{Net}
 use Rattle.network.specs.Sound.{Sound}
 use Rattle.network.specs.Record.{netOf, layout, soundRecord}
 use Rattle.network.specs.RecordLaws.{ArrayLengths, shaped-layout, count-gates, gate-number, netOf-layout, layout-netOf, sound-layout}
+use Rattle.network.specs.SoundLaws.{sized-of}
 use Rattle.network.specs.declared.Network.{Network}
 use Rattle.fold_theory.specs.Collapse.{collapse}
 use Rattle.fold_theory.specs.Sweep.{readers, goOn, sweepOnce, Swept, sweeping}
@@ -25,7 +26,10 @@ use Rattle.journal.specs.declared.Journal.{Journal}
 use Rattle.journal.specs.declared.Record.{Record}
 use Rattle.fold_collapse.specs.Collapsing.{collapsedBy}
 use Rattle.fold_collapse.specs.declared.Pairs.{Pairs}
+use Rattle.fold_sweep.specs.declared.Choice.{Choice}
 use Rattle.fold_sweep.specs.Sweeping.{asked, NextCollapse}
+use Rattle.fold_sweep.specs.Memory.{Remembered, RememberedAfter}
+use Rattle.fold_sweep.specs.MemoryLaws.{remembered-none}
 use Rattle.journal.specs.Parts.{answered}
 use Rattle.call_steps.specs.EnterLaws.{enterAll-join}
 use Rattle.call_collapse.specs.Entering.{CollapseEntered}
@@ -104,7 +108,12 @@ module _ (r : Network) (b u : ℕ) (p : Pairs) (f : NextCollapse r b u p) where
   next-sound : soundRecord (layout (collapsedBy r u p)) ≡ true
   next-sound = is-true (soundRecord (layout (collapsedBy r u p))) (sound-layout (collapsedBy r u p) collapsed-sound)
 
--- ---- the network and the journal that a sweep of r has reached after so many collapses
+-- what is remembered after the collapse of a gate that was chosen; r and s are one record
+pub remembered-next : {r s : Network} {x : Choice} {kept : List ℕ} → r ≡ s → RememberedAfter r x kept → x .found ≡ true
+    → Remembered (collapsedBy s (x .u) (x .pairs)) kept
+remembered-next {r} {s} {x} {kept} e m f = subst (λ (c : Network). Remembered (collapsedBy c (x .u) (x .pairs)) kept) e (m .next f)
+
+-- ---- the network and the journal that a sweep of r has reached after so many collapses, and what it remembers of that network
 module _ (r : Record) (b turns : ℕ) where
   abbrev whole-sweep : Swept
   whole-sweep = sweeping turns b (netOf (r .network)) 0
@@ -112,31 +121,33 @@ module _ (r : Record) (b turns : ℕ) where
   abbrev whole-journal : Journal
   whole-journal = enterAll (r .journal) (sweepSteps turns b (netOf (r .network)))
 
-  pub record Reached (c : Network) (j : Journal) (done : ℕ) : Type 0 where
+  pub record Reached (c : Network) (j : Journal) (refusers : List ℕ) (done : ℕ) : Type 0 where
     pub few : done ≤ turns
     pub whole : soundRecord c ≡ true
     pub shape : ArrayLengths c
     pub rest : sweeping (turns - done) b (netOf c) done ≡ whole-sweep
     pub left : enterAll j (sweepSteps (turns - done) b (netOf c)) ≡ whole-journal
+    pub remembered : Remembered (netOf c) refusers
 
   -- what the sweep answers
   abbrev pub answerAfter : CallAnswer
   answerAfter = answered (layout (whole-sweep .net)) whole-journal (whole-sweep .collapses)
 
-  pub reached-none : soundRecord (r .network) ≡ true → ArrayLengths (r .network) → Reached (r .network) (r .journal) 0
+  pub reached-none : soundRecord (r .network) ≡ true → ArrayLengths (r .network) → Reached (r .network) (r .journal) (replicate 128 128) 0
   reached-none s l = let e : turns - 0 ≡ turns = omega arith in record {
     few = omega arith;
     whole = s;
     shape = l;
     rest = ap (λ (n : ℕ). sweeping n b (netOf (r .network)) 0) e;
     left = ap (λ (n : ℕ). enterAll (r .journal) (sweepSteps n b (netOf (r .network)))) e;
+    remembered = remembered-none (netOf (r .network)) (omega (arith, count-gates (r .network), sized-of (r .network) s .few-gates));
   }
 
-module _ {r : Record} {b turns : ℕ} {c : Network} {j : Journal} {done : ℕ} (h : Reached r b turns c j done) where
+module _ {r : Record} {b turns : ℕ} {c : Network} {j : Journal} {refusers : List ℕ} {done : ℕ} (h : Reached r b turns c j refusers done) where
   -- one collapse more
-  pub reached-more : (u : ℕ) (p : Pairs) → done < turns → NextCollapse c b u p
-      → {after : Record} → CollapseEntered (record { network = c; journal = j }) u p after → Reached r b turns (after .network) (after .journal) (done + 1)
-  reached-more u p l f {after} e =
+  pub reached-more : (u : ℕ) (p : Pairs) → done < turns → NextCollapse c b u p → {kept : List ℕ} → Remembered (collapsedBy c u p) kept
+      → {after : Record} → CollapseEntered (record { network = c; journal = j }) u p after → Reached r b turns (after .network) (after .journal) kept (done + 1)
+  reached-more u p l f {kept} m {after} e =
       let M = collapsedBy c u p in
       let n = after .network in
       let k = after .journal in
@@ -150,6 +161,7 @@ module _ {r : Record} {b turns : ℕ} {c : Network} {j : Journal} {done : ℕ} (
             ∙ ap (λ (x : Journal). enterAll x (sweepSteps (turns - (done + 1)) b M)) (e .journal-is)
             ∙ sym (ap (enterAll j) (steps-on c b u p f turns done l) ∙ enterAll-join j (collapseSteps (netOf c) u) (sweepSteps (turns - (done + 1)) b M))
             ∙ h .left;
+        remembered = subst (λ (L : Net). Remembered L kept) (sym net) m;
       }
 
   abbrev Ends : Type 0

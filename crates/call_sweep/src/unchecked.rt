@@ -44,6 +44,7 @@ pub fn sweep_in(
     let mut gates = head.gates;
     let mut steps = count;
     let mut hints = [0u8; 128];
+    let mut refusers = [128u8; 128];
     let mut collapses: usize = 0;
     while collapses < head.gates {
         let here = with_gates(head, gates);
@@ -56,6 +57,7 @@ pub fn sweep_in(
             drivers,
             b,
             &mut hints,
+            &mut refusers,
         );
         let found = choice.found;
         if !found {

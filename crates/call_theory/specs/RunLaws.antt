@@ -2,19 +2,18 @@
 -- collapses. Assumes nothing.
 use mathlib.Core.Path.{_≡_, refl, sym, ap, _∙_, subst}
 use mathlib.Core.List.{List, [], _∷_, _++_, append-assoc}
-use mathlib.Core.Logic.{_≢_}
 use Prim.Native.Nat.{ℕ, zero, suc, _-_, _≤_}
 use native.Mathlib.Omega.{arith}
 use lib.Dec.{T, T-not, leb}
 use lib.ListN.{length, set, length-append}
 use lib.Seq.{set-at, getD-at, getD-set-other}
 use Rattle.basics.specs.Lists.{all, other}
-use Rattle.basics.specs.TestLaws.{and-T, cond-case, ne-other}
+use Rattle.basics.specs.TestLaws.{and-T, cond-case}
 use Rattle.basics.specs.ListLaws.{of-each}
 use Rattle.basics.specs.Refusals.{Answer, accepted, refused, Test, _else_, checks, bind}
 use Rattle.basics.specs.RefusalLaws.{accepted≢refused, accepted-inj, checks-accepted, passed-checks, bind-accepted}
 use Rattle.network.specs.Threshold.{Gate, Net}
-use Rattle.network.specs.Limits.{isGate, sound, signalsOf}
+use Rattle.network.specs.Limits.{isGate, sound}
 use Rattle.network.specs.Record.{noGate}
 use Rattle.network.specs.Changes.{withGates, gateAt, withGate, without}
 use Rattle.network.specs.Sound.{GateOk, Has, Sound}
@@ -23,10 +22,10 @@ use Rattle.fold_theory.specs.Merge.{Edge, edgeOf, edge, silent, reads, feedTest
 use Rattle.fold_theory.specs.Pair.{pairOf, pair}
 use Rattle.fold_theory.specs.Collapse.{unread, dropGate, mergedReader, mergedReaders, collapse}
 use Rattle.fold_theory.specs.Sweep.{readers, orElse, sweepFrom, sweepOnce, Swept, goOn, sweeping, sweep}
-use Rattle.fold_theory.specs.LowerLaws.{DoesNotRead}
+use Rattle.fold_theory.specs.LowerLaws.{DoesNotRead, free-silent}
 use Rattle.fold_theory.specs.SoundLaws.{reader-above}
 use Rattle.fold_theory.specs.GuaranteeLaws.{pair-claim}
-use Rattle.fold_theory.specs.StepLaws.{mergedReaders-collapsed}
+use Rattle.fold_theory.specs.StepLaws.{mergedReader-silent, mergedReaders-collapsed}
 use Rattle.call_theory.specs.Steps.{Step, merging, dropping, enteredAll, State, readerSteps, collapseSteps, turnSteps, sweepSteps}
 use Rattle.call_theory.specs.Calls.{Given, withoutFigures, withCollapses, shown, stepsOf, moved, replyOf}
 use Rattle.call_theory.specs.Trail.{StepTaken, StepsTaken}
@@ -56,12 +55,6 @@ reader-took L u v h s hu hv t q = cond-case (λ x. x ≡ accepted h → StepTake
     (of-sound L s, (and-T (isGate L u) (isGate L v) (of-has L u hu) (of-has L v hv), (t, tt))) ∙ b .1 in
     subst (λ (x : Gate). StepTaken L (merging v (gateAt L v)) (withGate L v x)) (accepted-inj (b .2))
     (merge-took L u v (p .k) (p .l) _ (pair-claim L u v .merges p found))) q
-
--- a gate that does not read u stays
-mergedReader-silent : (e : Edge) (h : Gate) → T (silent (e .u) (e .gateV)) → mergedReader e ≡ accepted h → h ≡ e .gateV
-unfolding mergedReader
-mergedReader-silent e h t q = cond-case (λ x. x ≡ accepted h → h ≡ e .gateV) (silent (e .u) (e .gateV))
-    (λ s q. sym (accepted-inj q)) (λ s q. absurd (T-not (silent (e .u) (e .gateV)) s t)) q
 
 -- ---- the readers of u, one after another
 
@@ -125,11 +118,6 @@ module _ (N : Net) (u : ℕ) (gateU : Gate) where
       (λ t. let first = place-took n pre g gs h e low r t (a .1) in
       let rest = later (first .ready) in
       record { run = run-append _ _ _ (merging n g ∷ []) (readerSteps u (suc n) gs) (first .run) (rest .run); ready = rest .ready }))
-
--- no gate reads u afterwards
-free-silent : (u : ℕ) (g : Gate) → DoesNotRead u g → T (silent u g)
-unfolding silent
-free-silent u g h = of-each (other u) (λ s. s ≢ u) (ne-other u) (signalsOf (g .feeds)) h
 
 -- ---- a collapse
 collapse-run : (N : Net) (u : ℕ) (M : Net) → collapse N u ≡ accepted M → StepsTaken N (collapseSteps N u) M

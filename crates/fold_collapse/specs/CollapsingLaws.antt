@@ -1,5 +1,5 @@
 -- Laws of gates collapsed into their readers: what the pair of each gate says of all of them. Assumes nothing.
-use mathlib.Core.Path.{_≡_, refl, sym, ap, _∙_, subst}
+use mathlib.Core.Path.{_≡_, refl, sym, ap, ap₂, _∙_, subst}
 use mathlib.Core.Bool.{true, false, cond}
 use mathlib.Core.List.{List, _∷_, map}
 use mathlib.Core.Logic.{_≢_}
@@ -11,17 +11,17 @@ use lib.Dec.{T, not-T, leb→le}
 use Rattle.basics.specs.Lists.{range, tab}
 use Rattle.basics.specs.TestLaws.{is-true, T-isnt, not-not, cond-case}
 use Rattle.basics.specs.Refusals.{Answer, accepted, refused, bind}
-use Rattle.basics.specs.RefusalLaws.{Refused, accepted≢refused, accepted-inj}
+use Rattle.basics.specs.RefusalLaws.{accepted≢refused, accepted-inj}
 use Rattle.network.specs.Threshold.{Gate}
 use Rattle.network.specs.Sound.{GateOk}
 use Rattle.network.specs.Limits.{keeps}
 use Rattle.network.specs.declared.Board.{Board}
-use Rattle.network.specs.Record.{gateOf, netOf}
+use Rattle.network.specs.Record.{gateOf, netOf, nthGate}
 use Rattle.network.specs.Changes.{gateAt, withGates, without}
 use Rattle.network.specs.Places.{SoundGate}
 use Rattle.network.specs.RecordLaws.{gate-within, gate-number}
 use Rattle.network.specs.declared.Network.{Network}
-use Rattle.fold_theory.specs.Merge.{Edge, edgeOf, silent, reads, merged, narrow, mergeKeeps}
+use Rattle.fold_theory.specs.Merge.{Edge, edgeOf, edge, silent, reads, merged, narrow, mergeKeeps}
 use Rattle.fold_theory.specs.Pair.{Pair, qualifies, pairOf}
 use Rattle.fold_theory.specs.Collapse.{mergedReader, mergedReaders, collapsed}
 use Rattle.fold_theory.specs.RefusalLaws.{Numbered}
@@ -29,21 +29,10 @@ use Rattle.fold_theory.specs.NumberLaws.{pairOf-numbered}
 use Rattle.fold_theory.specs.SoundLaws.{merged-ok, reader-above}
 use Rattle.fold_theory.specs.PairLaws.{qualified-of, dial-of, pairOf-found}
 use Rattle.fold_merge.specs.Answers.{asPair}
-use Rattle.fold_collapse.specs.Collapsing.{edgeTo, noPair, readerPair, withPair, allMerged, pairAt, AllPairs, ReaderPairs, TriedPairs}
+use Rattle.fold_collapse.specs.Collapsing.{edgeTo, noPair, readerPair, withPair, allMerged, pairAt, AllPairs, ReaderPairs}
 use Rattle.fold_collapse.specs.Collapsing.{gatesWithPairs, collapsedBy}
 use Rattle.fold_merge.specs.declared.PairFound.{PairFound}
 use Rattle.fold_collapse.specs.declared.Pairs.{Pairs}
-
--- ---- refusals that go on
-refused-bind : {A B : Type 0} (r : Answer A) (f : A → Answer B) → Refused r → Refused (bind r f)
-unfolding bind
-refused-bind (accepted a) f h = absurd h
-refused-bind (refused c) f h = tt
-
-each-refused : {A B : Type 0} (r : Answer A) (f : A → Answer B) → ((a : A) → Refused (f a)) → Refused (bind r f)
-unfolding bind
-each-refused (accepted a) f h = h a
-each-refused (refused c) f h = tt
 
 -- ---- the number of a refusal
 pub readerPair-numbered : (e : Edge) → Numbered (readerPair e)
@@ -103,6 +92,10 @@ module _ (e : Edge) where
     pub pair-small : (p .k ≤ 32) × (p .l ≤ 32)
     pair-small = pair-case (λ t q. rw q (omega arith)) (λ t q m. (m .dials .1, m .dials .3))
 
+    -- only a gate that does not read u has the k 0
+    pub pair-zero : p .k ≡ 0 → silent (e .u) (e .gateV) ≡ true
+    pair-zero z = pair-case (λ t q. t) (λ t q m. absurd (omega (arith, m .dials)))
+
     pub pair-merges : p .k ≢ 0 → Merges p
     pair-merges n = pair-case (λ t q. absurd (n (ap (λ (x : Pair). x .k) q))) (λ t q m. m)
 
@@ -139,6 +132,12 @@ module _ (e : Edge) where
     gateCollapsed-keeps kept = pair-case
         (λ t q. subst (λ (g : Gate). T (keeps (e .board) g)) (sym (withPair-silent t)) kept)
         (λ t q m. subst (λ (g : Gate). T (keeps (e .board) g)) (sym (withPair-merged (λ z. omega (arith, m .dials)))) (qualified-of e p (m .qualified) .kept))
+
+  -- a gate whose pair is refused reads u, and the two have no pair
+  pub pair-refused : (c : ℕ) → readerPair e ≡ refused c → T (reads (e .u) (e .gateV)) × (pairOf e ≡ refused c)
+  unfolding readerPair reads
+  pair-refused c h = cond-case {A = Answer Pair} (λ x. x ≡ refused c → T (reads (e .u) (e .gateV)) × (pairOf e ≡ refused c)) (silent (e .u) (e .gateV))
+      (λ t q. accepted≢refused q) (λ t q. (t, q)) h
 
   -- a reader whose pair is refused
   fuse-refused : (c : ℕ) → readerPair e ≡ refused c → mergedReader e ≡ refused c
@@ -184,18 +183,6 @@ module _ (board : Board) (u : ℕ) (gateU : Gate) (inputs : ℕ) (gate : ℕ →
         | no j ↦ let e : a ≡ g = omega arith in rw (e, r)
       ])
 
-  -- any refused gate is a refusal
-  mergedReaders-some : (a n g : ℕ) → a ≤ g → g < a + n → Refused (mergedReader (at g)) → Refused (from a n)
-  unfolding bind
-  mergedReaders-some a zero g k l r = absurd (omega arith)
-  mergedReaders-some a (suc n) g k l r =
-      subst Refused (sym (mergedReaders-step a n)) (elim (decLt a g) as
-      (λ d. Refused (bind (mergedReader (at a)) (λ h. bind (from (suc a) n) (λ hs. accepted (h ∷ hs))))) [
-        | yes j ↦ each-refused (mergedReader (at a)) (λ h. bind (from (suc a) n) (λ hs. accepted (h ∷ hs)))
-            (λ h. refused-bind (from (suc a) n) (λ hs. accepted (h ∷ hs)) (mergedReaders-some (suc a) n g j (omega arith) r))
-        | no j ↦ let e : a ≡ g = omega arith in refused-bind (mergedReader (at a)) (λ h. bind (from (suc a) n) (λ hs. accepted (h ∷ hs))) (rw e r)
-      ])
-
 -- ---- all gates by their pairs
 module _ (board : Board) (gate : ℕ → Gate) (inputs gates u : ℕ) where
   -- the answer from the first gate on
@@ -222,13 +209,6 @@ module _ (board : Board) (gate : ℕ → Gate) (inputs gates u : ℕ) where
       (omega arith) (omega arith)
       (λ i k. mergedReader-pair (edgeTo board gate inputs u i) (q i) (h i k)) (fuse-refused (edgeTo board gate inputs u g) c r)
 
-  -- any gate whose pair is refused is a refusal
-  allMerged-some : (g c : ℕ) → g < gates → readerPair (edgeTo board gate inputs u g) ≡ refused c → Refused (allMerged board gate inputs gates u)
-  allMerged-some g c l r =
-      subst Refused from-first
-      (mergedReaders-some board u (gate (u - inputs)) inputs gate 0 gates g (omega arith) (omega arith)
-      (subst Refused (sym (fuse-refused (edgeTo board gate inputs u g) c r)) tt))
-
   -- by what the pairs of all readers say
   module _ (p : Pairs) (h : ReaderPairs board gate inputs gates u p) where
     pub pairs-all : p .code ≡ 0 → AllPairs board gate inputs gates u p
@@ -237,12 +217,15 @@ module _ (board : Board) (gate : ℕ → Gate) (inputs gates u : ℕ) where
     pub pairs-first : p .code ≢ 0 → allMerged board gate inputs gates u ≡ refused (p .code)
     pairs-first n = let r = h .refuses n in allMerged-first (pairAt p) (p .last) (p .code) (r .within) (h .found) (r .refusal)
 
-  -- a gate whose pair is refused is a refusal
-  pub tried-refused : (p : Pairs) → TriedPairs board gate inputs gates u p → p .code ≢ 0 → Refused (allMerged board gate inputs gates u)
-  tried-refused p h n = let r = h .refuses n in allMerged-some (p .last) (p .code) (r .within) (r .refusal)
-
 -- ---- a record's gate collapsed into its readers
 module _ (r : Network) (u : ℕ) (s : SoundGate r u) where
+  -- gates u and g, g by its number, as an edge of the network
+  pub edgeTo-net : (g : ℕ) → g < r .gates → edgeTo (r .board) (gateOf r) (r .inputs) u g ≡ edge (netOf r) u (r .inputs + g)
+  unfolding edge gateAt netOf
+  edgeTo-net g h = ap₂ (λ (x y : Gate). edgeOf (r .board) u (r .inputs + g) x y)
+      (sym (gate-within r (u - r .inputs) (gate-number r u s .1)))
+      (sym (ap (nthGate (netOf r .gates)) (let e : r .inputs + g - r .inputs ≡ g = omega arith in e) ∙ gate-within r g h))
+
   -- the collapse, by the gates' numbers
   collapsed-readers : collapsed (netOf r) u
       ≡ bind (allMerged (r .board) (gateOf r) (r .inputs) (r .gates) u) (λ gs. accepted (without (withGates (netOf r) gs) u))
@@ -258,8 +241,3 @@ module _ (r : Network) (u : ℕ) (s : SoundGate r u) where
   pub collapsed-first : (c : ℕ) → allMerged (r .board) (gateOf r) (r .inputs) (r .gates) u ≡ refused c → collapsed (netOf r) u ≡ refused c
   unfolding bind
   collapsed-first c h = collapsed-readers ∙ rw h
-
-  pub collapsed-some : Refused (allMerged (r .board) (gateOf r) (r .inputs) (r .gates) u) → Refused (collapsed (netOf r) u)
-  collapsed-some h =
-      subst Refused (sym collapsed-readers)
-      (refused-bind (allMerged (r .board) (gateOf r) (r .inputs) (r .gates) u) (λ gs. accepted (without (withGates (netOf r) gs) u)) h)

@@ -1,4 +1,6 @@
 // The choice of the gate that a sweep of a sound record, whose arrays are lent, folds next.
+mod memory;
+
 use crate::Choice;
 use basics::wide;
 use fold_collapse::Pairs;
@@ -7,6 +9,8 @@ use fold_collapse::unchecked::reader_pair;
 use fold_collapse::unchecked::reader_pairs;
 use fold_merge::unchecked::readers::count_readers;
 use fold_merge::unchecked::readers::is_output;
+use memory::kept_refusers;
+use memory::lower_hints;
 use network::Board;
 use network_places::Head;
 ghost use mathlib.Core.Path.{_≡_};
@@ -14,11 +18,12 @@ ghost use mathlib.Core.Bool.{true};
 ghost use lib.Dec.{T};
 ghost use Rattle.network.specs.Limits.{boardOk};
 ghost use Rattle.network.specs.Sound.{HasSignal};
-ghost use Rattle.network.specs.Record.{gateFrom, soundRecord};
+ghost use Rattle.network.specs.Record.{gateFrom, netOf, soundRecord};
 ghost use Rattle.network_places.specs.Parts.{fromParts};
 ghost use Rattle.fold_merge.specs.Arrays.{SoundArrays};
 ghost use Rattle.fold_collapse.specs.Collapsing.{TriedPairs};
 ghost use Rattle.fold_sweep.specs.Sweeping.{Chosen};
+ghost use Rattle.fold_sweep.specs.Memory.{Remembered, RememberedAfter};
 
 // The pairs of all readers of u. The gate with number hint is tried first: if it is a reader whose pair is refused, there is no need to
 // try the others.
@@ -66,22 +71,9 @@ fn hinted_pairs<'a>(
     )
 }
 
-// A hint after gate g is gone.
-fn lowered_hint(hint: u8, g: usize) -> u8 {
-    if g < wide(hint) { hint - 1 } else { hint }
-}
-
-// The hints after gate g is gone: those of the higher gates move down by one, and each hint to a higher gate falls by one.
-fn lower_hints(hints: &mut [u8; 128], g: usize) {
-    for i in 0..127 {
-        let from = if i < g { i } else { i + 1 };
-        let hint = lowered_hint(hints[from], g);
-        hints[i] = hint;
-    }
-}
-
-// The lowest gate with at most b readers that can be collapsed into them. A hint is the reader that refused a gate the last time; any
-// hints give the same answer. Where a gate is found, the hints are left as they are after it is gone.
+// The lowest gate with at most b readers that can be collapsed into them. A gate with a known refuser is passed over. A hint is the reader
+// that refused a gate the last time; any hints give the same answer. Where a gate is found, hints and refusers are left as they are after its
+// collapse.
 pub fn lowest_collapsible<'a>(
     head: Head,
     fanins: &'a [u8; 128],
@@ -91,13 +83,21 @@ pub fn lowest_collapsible<'a>(
     drivers: &[u8; 16],
     b: usize,
     hints: &mut [u8; 128],
+    refusers: &mut [u8; 128],
 ) -> Choice
-    requires { ⌜ soundRecord (fromParts head (now fanins) (now thresholds) (now signals) (now weights) (now drivers)) ≡ true ⌝ }
+    requires { ⌜ (soundRecord (fromParts head (now fanins) (now thresholds) (now signals) (now weights) (now drivers)) ≡ true)
+        × Remembered (netOf (fromParts head (now fanins) (now thresholds) (now signals) (now weights) (now drivers))) (now refusers) ⌝ }
     ensures { λ r. ⌜ Chosen
-        (fromParts head (now (fanins .entry)) (now (thresholds .entry)) (now (signals .entry)) (now (weights .entry)) (now (drivers .entry))) b r ⌝ }
+        (fromParts head (now (fanins .entry)) (now (thresholds .entry)) (now (signals .entry)) (now (weights .entry)) (now (drivers .entry))) b r
+        × RememberedAfter
+        (fromParts head (now (fanins .entry)) (now (thresholds .entry)) (now (signals .entry)) (now (weights .entry)) (now (drivers .entry)))
+        r (now (refusers .exit)) ⌝ }
 {
     let board = head.board;
     for g in 0..head.gates {
+        if wide(refusers[g]) < 128 {
+            continue;
+        }
         let u = head.inputs + g;
         let readers = count_readers(fanins, signals, head.gates, u);
         if (b < readers) | is_output(drivers, head.outputs, u) {
@@ -118,14 +118,16 @@ pub fn lowest_collapsible<'a>(
         let code = pairs.code;
         if code == 0 {
             lower_hints(hints, g);
+            kept_refusers(refusers, &pairs.ks, g);
             return Choice {
                 found: true,
                 u,
                 pairs,
             };
         }
-        let last = pairs.last;
-        hints[g] = last as u8;
+        let last = pairs.last as u8;
+        hints[g] = last;
+        refusers[g] = last;
     }
     let pairs = no_pairs(0, 0);
     Choice {

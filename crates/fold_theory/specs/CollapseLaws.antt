@@ -31,10 +31,10 @@ use Rattle.fold_theory.specs.PairLaws.{pairOf-found, pairOf-given, quali
 abbrev Paired : Edge → Type 0
 Paired e = (p : Pair) × (pairOf e ≡ accepted p)
 
-paired-of : (N : Net) (u v : ℕ) → HasPair N u v → Paired (edge N u v)
+pub paired-of : (N : Net) (u v : ℕ) → HasPair N u v → Paired (edge N u v)
 paired-of N u v h = pairOf-given (edge N u v) (h .0) (qualifying-limited N u v (h .0) (h .1) .searched) (qualifying-test N u v (h .0) (h .1))
 
-found-accepted : (e : Edge) → Paired e → Refused (pairOf e) → ⊥
+pub found-accepted : (e : Edge) → Paired e → Refused (pairOf e) → ⊥
 found-accepted e p r = subst Refused (p .1) r
 
 mergedReader-tried : (e : Edge) → (T (reads (e .u) (e .gateV)) → Paired e) → Refused (mergedReader e) → ⊥

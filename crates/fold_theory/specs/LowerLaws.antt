@@ -8,8 +8,9 @@ use native.Mathlib.Omega.{arith}
 use lib.Dec.{T}
 use lib.Signed.{leZ}
 use lib.ListN.{length}
-use Rattle.basics.specs.Lists.{Each}
-use Rattle.basics.specs.ListLaws.{all-other}
+use Rattle.basics.specs.Lists.{other, Each}
+use Rattle.basics.specs.TestLaws.{ne-other}
+use Rattle.basics.specs.ListLaws.{of-each, all-other}
 use Rattle.network.specs.Threshold.{Feed, Gate, Net, Assignment, sum, bit}
 use Rattle.network.specs.Limits.{signalsOf}
 use Rattle.network.specs.Changes.{lowered, loweredFeed, loweredGate, removeAt, without, raised}
@@ -27,6 +28,10 @@ DoesNotRead u g = Each (λ s. s ≢ u) (signalsOf (g .feeds))
 pub silent-free : (u : ℕ) (g : Gate) → T (silent u g) → DoesNotRead u g
 unfolding silent
 silent-free u g t = all-other u (signalsOf (g .feeds)) t
+
+pub free-silent : (u : ℕ) (g : Gate) → DoesNotRead u g → T (silent u g)
+unfolding silent
+free-silent u g h = of-each (other u) (λ s. s ≢ u) (ne-other u) (signalsOf (g .feeds)) h
 
 -- ---- what is left fits
 module _ (ρ : Assignment) (u : ℕ) where

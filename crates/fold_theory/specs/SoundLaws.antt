@@ -18,7 +18,7 @@ use Rattle.network.specs.Sound.{Rise, GateOk, GatesOk, Has, Sound}
 use Rattle.network.specs.LimitLaws.{rise-below}
 use Rattle.network.specs.MarginLaws.{keeps-with, keeps-without}
 use Rattle.fold_theory.specs.Merge.{silent, reads, Edge, among, distinct, mergedFeed, merged}
-use Rattle.network.specs.ChangeLaws.{lowered-low, lowered-high, length-remove}
+use Rattle.network.specs.ChangeLaws.{lowered-low, lowered-high, lowered-suc, length-remove}
 use Rattle.fold_theory.specs.LowerLaws.{DoesNotRead}
 use Rattle.fold_theory.specs.AgreeLaws.{FeedsBelow}
 
@@ -103,12 +103,6 @@ lowered-mono u a b h = go (decLt u a) (decLt u b)
     go (no p) (yes q) = rw (lowered-low u a (omega arith), lowered-high u b q) (omega arith)
     go (no p) (no q) = rw (lowered-low u a (omega arith), lowered-low u b (omega arith)) h
 
-lowered-suc : (u a : ℕ) → a ≢ u → lowered u (suc a) ≡ suc (lowered u a)
-lowered-suc u a h = elim (decLt u a) as (λ d. lowered u (suc a) ≡ suc (lowered u a)) [
-  | yes p ↦ rw (lowered-high u a p, lowered-high u (suc a) (omega arith)) (omega arith)
-  | no p ↦ rw (lowered-low u a (omega arith), lowered-low u (suc a) (omega arith))
-]
-
 rise-lowered : (u a n : ℕ) (fs : List Feed) → Each (λ s. s ≢ u) (signalsOf fs) → Rise a n (signalsOf fs)
     → Rise (lowered u a) (lowered u n) (signalsOf (map (loweredFeed u) fs))
 unfolding loweredFeed signalsOf
@@ -126,7 +120,8 @@ weights-lowered u (f ∷ fs) t =
     let h = T-and (weightOk f) (all weightOk fs) t in
     and-T (weightOk f) (all weightOk (map (loweredFeed u) fs)) (h .0) (weights-lowered u fs (h .1))
 
-lowered-ok : (u n : ℕ) (g : Gate) → DoesNotRead u g → GateOk n g → GateOk (lowered u n) (loweredGate u g)
+-- a lowered gate is within the limits
+pub lowered-ok : (u n : ℕ) (g : Gate) → DoesNotRead u g → GateOk n g → GateOk (lowered u n) (loweredGate u g)
 unfolding loweredGate scaleOk
 lowered-ok u n g h o = record {
   few = rw (length-map (g .feeds) (loweredFeed u)) (o .few);

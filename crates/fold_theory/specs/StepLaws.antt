@@ -1,11 +1,11 @@
 -- What each accepted merge, drop and collapse keeps: the network that it leaves is sound and simulates the one before. Assumes nothing.
-use mathlib.Core.Path.{_≡_, refl, ap, _∙_, subst}
+use mathlib.Core.Path.{_≡_, refl, sym, ap, _∙_, subst}
 use mathlib.Core.Bool.{_&&_}
 use mathlib.Core.List.{List, [], _∷_, map}
 use mathlib.Core.Logic.{_≢_, _↔_}
 use Prim.Native.Nat.{ℕ, suc, _-_}
 use native.Mathlib.Omega.{arith}
-use lib.Dec.{T}
+use lib.Dec.{T, T-not}
 use lib.ListN.{length}
 use lib.Seq.{map-set-same}
 use Rattle.basics.specs.Lists.{all, range, other, Each}
@@ -113,6 +113,12 @@ merged-free e k l o = merged-signals (λ s. s ≢ e .u) e k l (distinct e) (each
     (λ a. let h = reader-above s (e .u) (e .gateU) o a in omega arith)
     (λ b. other-ne (e .u) s (T-and (other (e .u) s) (reads s (e .gateV)) b .0)))
     (distinct e) (kept (among e) (range 0 (e .v))))
+
+-- a gate that does not read u stays
+pub mergedReader-silent : (e : Edge) (h : Gate) → T (silent (e .u) (e .gateV)) → mergedReader e ≡ accepted h → h ≡ e .gateV
+unfolding mergedReader
+mergedReader-silent e h t q = cond-case (λ x. x ≡ accepted h → h ≡ e .gateV) (silent (e .u) (e .gateV))
+    (λ s q. sym (accepted-inj q)) (λ s q. absurd (T-not (silent (e .u) (e .gateV)) s t)) q
 
 -- what becomes of a gate: the same bit where u has its own, no feed u, within the limits
 record GateCollapsed (e : Edge) (h : Gate) : Type 0 where

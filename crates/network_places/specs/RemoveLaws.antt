@@ -1,7 +1,7 @@
 -- The record of a network without one of its gates: its arrays without the gate's places, and its signals lowered. Assumes nothing.
 use mathlib.Core.Path.{_≡_, refl, sym, ap, _∙_, subst}
-use mathlib.Core.List.{List, [], _∷_, map}
-use Prim.Native.Nat.{ℕ, zero, suc, _+_, _*_, _/_, _%_, _-_, _≤_, _<_}
+use mathlib.Core.List.{List, map}
+use Prim.Native.Nat.{ℕ, _+_, _*_, _/_, _%_, _-_, _≤_, _<_}
 use native.Mathlib.Decide.{decLt}
 use native.Mathlib.Numerals.{add-one}
 use native.Mathlib.Omega.{arith}
@@ -14,7 +14,7 @@ use Rattle.network.specs.declared.Network.{Network}
 use Rattle.network.specs.Threshold.{Feed, Gate}
 use Rattle.network.specs.Record.{netOf, layout, soundRecord, noFeed, noGate, nthGate, placeOf, faninsOf, thresholdsOf, placeSignals, placeWeights, driversOf}
 use Rattle.network.specs.Changes.{lowered, loweredFeed, loweredGate, removeAt, without}
-use Rattle.network.specs.ChangeLaws.{lowered-low, length-remove}
+use Rattle.network.specs.ChangeLaws.{lowered-low, length-remove, remove-low, remove-high}
 use Rattle.network.specs.Places.{Pasted, SoundGate, origin, withoutPlaces}
 use Rattle.basics.specs.TableLaws.{map-tab, tab-any}
 use Rattle.network.specs.PlaceLaws.{gate-beyond}
@@ -35,21 +35,6 @@ origin-high first gap p h = rw (le-ltb p first h)
 -- ---- a list without one member
 
 -- the members before it stay, the later ones move by one
-remove-low : {A : Type 0} (d : A) (xs : List A) (i j : ℕ) → j < i → getD (removeAt i xs) j d ≡ getD xs j d
-unfolding removeAt
-remove-low d [] i j h = refl
-remove-low d (x ∷ xs) zero j h = absurd (omega arith)
-remove-low d (x ∷ xs) (suc i) zero h = refl
-remove-low d (x ∷ xs) (suc i) (suc j) h = remove-low d xs i j (omega arith)
-
-remove-high : {A : Type 0} (d : A) (xs : List A) (i j : ℕ) → i ≤ j → getD (removeAt i xs) j d ≡ getD xs (suc j) d
-unfolding removeAt
-remove-high d [] i j h = refl
-remove-high d (x ∷ xs) zero j h = refl
-remove-high d (x ∷ xs) (suc i) zero h = absurd (omega arith)
-remove-high d (x ∷ xs) (suc i) (suc j) h = remove-high d xs i j (omega arith)
-
--- both in one
 remove-at : {A : Type 0} (d : A) (xs : List A) (i j : ℕ) → getD (removeAt i xs) j d ≡ getD xs (origin i 1 j) d
 remove-at d xs i j = elim (decLt j i) as (λ t. getD (removeAt i xs) j d ≡ getD xs (origin i 1 j) d) [
   | yes k ↦ remove-low d xs i j k ∙ ap (λ (m : ℕ). getD xs m d) (sym (origin-low i 1 j k))

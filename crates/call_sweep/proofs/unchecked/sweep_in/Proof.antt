@@ -1,7 +1,8 @@
--- After each collapse the sweep of the record that is reached is the whole sweep, and its steps are those left to enter (TurnLaws). Assumes nothing.
+-- After each collapse the sweep of the record that is reached is the whole sweep, its steps are those left to enter, and what is remembered
+-- holds of it (TurnLaws). Assumes nothing.
 use borrow.Author.Needs.{needs}
 use borrow.Author.Tests.{not-true, not-false}
-use mathlib.Core.Path.{refl, _∙_}
+use mathlib.Core.Path.{refl, ap, _∙_}
 use Prim.Native.Nat.{_-_}
 use native.Mathlib.Omega.{arith}
 use denote.Ref.{now}
@@ -9,6 +10,7 @@ use Rattle.network.specs.RecordLaws.{gate-number}
 use Rattle.network.specs.SoundLaws.{sized-of}
 use Rattle.network.specs.declared.Network.{Network}
 use Rattle.network_places.specs.Parts.{fromParts, counting}
+use Rattle.network_places.specs.declared.Head.{Head}
 use Rattle.network_places.specs.PartsLaws.{shaped-parts, lengths}
 use Rattle.fold_sweep.specs.Sweeping.{Chosen, NextCollapse}
 use Rattle.journal.specs.Parts.{journalParts, recordParts}
@@ -16,20 +18,22 @@ use Rattle.journal.specs.AnswerLaws.{whole-network}
 use Rattle.journal.specs.declared.Record.{Record}
 use Rattle.call_sweep.proofs.CallLaws.{sweep-off, sweep-done}
 use Rattle.journal.specs.PartsLaws.{refused-parts, answered-parts}
-use Rattle.call_sweep.proofs.TurnLaws.{Reached, reached-none, reached-more, reached-settled, reached-last}
+use Rattle.call_sweep.proofs.TurnLaws.{Reached, reached-none, remembered-next, reached-more, reached-settled, reached-last}
 use Rattle.call_sweep.proofs.unchecked.sweep_in.Statement.{statement}
 use Rattle.call_sweep.proofs.unchecked.sweep_in.Tie as tie
 
 abbrev Inv-loop : tie.InvT-loop
 Inv-loop head fanins₀ thresholds₀ signals₀ weights₀ drivers₀ count kinds₀ step-signals₀ step-fanins₀ step-thresholds₀ feeds₀ step-weights₀ b gates₀ steps₀
-    hints₀ collapses₀ fanins thresholds signals weights drivers kinds step-signals step-fanins step-thresholds feeds step-weights gates steps hints collapses =
+    hints₀ refusers₀ collapses₀ fanins thresholds signals weights drivers kinds step-signals step-fanins step-thresholds feeds step-weights gates steps
+    hints refusers collapses =
     Reached (recordParts head fanins₀ thresholds₀ signals₀ weights₀ drivers₀ count kinds₀ step-signals₀ step-fanins₀ step-thresholds₀ feeds₀ step-weights₀)
     b (head .gates) (fromParts (counting head gates) fanins thresholds signals weights drivers)
-    (journalParts steps kinds step-signals step-fanins step-thresholds feeds step-weights) collapses
+    (journalParts steps kinds step-signals step-fanins step-thresholds feeds step-weights) refusers collapses
 
 abbrev μ-loop : tie.MeasureT-loop
 μ-loop head fanins₀ thresholds₀ signals₀ weights₀ drivers₀ count kinds₀ step-signals₀ step-fanins₀ step-thresholds₀ feeds₀ step-weights₀ b gates₀ steps₀
-    hints₀ collapses₀ fanins thresholds signals weights drivers kinds step-signals step-fanins step-thresholds feeds step-weights gates steps hints collapses =
+    hints₀ refusers₀ collapses₀ fanins thresholds signals weights drivers kinds step-signals step-fanins step-thresholds feeds step-weights gates steps
+    hints refusers collapses =
     head .gates - collapses
 
 -- the record whose arrays are lent
@@ -37,14 +41,16 @@ abbrev held : tie.Start Inv-loop μ-loop → Record
 held c = let a = c .args in recordParts (a .head) (now (a .fanins)) (now (a .thresholds)) (now (a .signals)) (now (a .weights)) (now (a .drivers)) (a .count)
     (now (a .kinds)) (now (a .step-signals)) (now (a .step-fanins)) (now (a .step-thresholds)) (now (a .feeds)) (now (a .step-weights))
 
--- the record that is reached
+-- the record that is reached, and with any head
+abbrev reachedWith : tie.At-loop Inv-loop μ-loop → Head → Network
+reachedWith c head = fromParts head (c .loop .fanins) (c .loop .thresholds) (c .loop .signals) (c .loop .weights) (c .loop .drivers)
+
 abbrev reached : tie.At-loop Inv-loop μ-loop → Network
-reached c = fromParts (counting (c .before .before .args .head) (c .loop .gates)) (c .loop .fanins) (c .loop .thresholds) (c .loop .signals)
-    (c .loop .weights) (c .loop .drivers)
+reached c = reachedWith c (counting (c .before .before .args .head) (c .loop .gates))
 
 -- the record with its count of gates made, the loop, and the test before a collapse
 abbrev made-of : tie.After-lowest-collapsible Inv-loop μ-loop → tie.After-with-gates Inv-loop μ-loop
-made-of c = let network-lent = c .before .before in network-lent .before .before .before .before .before
+made-of c = let network-lent = c .before .before .before in network-lent .before .before .before .before .before
 
 abbrev turn-of : tie.After-lowest-collapsible Inv-loop μ-loop → tie.Then2 Inv-loop μ-loop
 turn-of c = made-of c .before
@@ -61,7 +67,7 @@ else-of c =
 -- what was found is the next gate, or there is none
 chosen : (c : tie.After-lowest-collapsible Inv-loop μ-loop) → let at = loop-of c in
     Chosen (reached at) (at .before .before .args .b) (c .lowest-collapsible .result)
-chosen c = rw (made-of c .with-gates .ensures) at (c .lowest-collapsible .ensures)
+chosen c = rw (made-of c .with-gates .ensures) at (c .lowest-collapsible .ensures .0)
 
 next : (c : tie.Else3 Inv-loop μ-loop) → let at = loop-of (c .before) in
     let x = c .before .lowest-collapsible .result in NextCollapse (reached at) (at .before .before .args .b) (x .u) (x .pairs)
@@ -79,8 +85,10 @@ loop-holds c =
 
 lowest-collapsible-requires : tie.Need-lowest-collapsible-requires Inv-loop μ-loop
 lowest-collapsible-requires c κs =
-    let made = c .before .before .before .before .before .before in
-    rw (made .with-gates .ensures) (made .before .before .before .loop .inv .whole)
+    let network-lent = c .before .before in
+    let made = network-lent .before .before .before .before .before in
+    let inv = made .before .before .before .loop .inv in
+    (rw (made .with-gates .ensures) (inv .whole), rw (made .with-gates .ensures) (inv .remembered))
 
 returns-2 : tie.Need-returns-2 Inv-loop μ-loop
 returns-2 c =
@@ -115,9 +123,12 @@ loop-less c = omega (arith, turn-of (else-of (c .before) .before) .if2 .taken)
 loop-again : tie.Need-loop-again Inv-loop μ-loop
 loop-again c =
     let else = else-of (c .before) in
-    let turn = turn-of (else .before) in
-    reached-more (loop-of (else .before) .loop .inv) _ _ (turn .if2 .taken) (next else)
-    (rw (made-of (else .before) .with-gates .ensures) at (c .collapse-entered .ensures))
+    let found = else .before in
+    let made = made-of found in
+    let at = loop-of found in
+    let kept = remembered-next (ap (reachedWith at) (made .with-gates .ensures)) (found .lowest-collapsible .ensures .1) (not-false _ (else .if3 .left)) in
+    reached-more (at .loop .inv) _ _ (turn-of found .if2 .taken) (next else) kept
+    (rw (made .with-gates .ensures) at (c .collapse-entered .ensures))
 
 returns-3 : tie.Need-returns-3 Inv-loop μ-loop
 returns-3 c =

@@ -1,0 +1,3 @@
+pub mod Unchanged
+pub mod LoweredLaws
+pub mod UnchangedLaws
