@@ -23,6 +23,7 @@ use Rattle.pair_alignment.specs.Alignments.{alignedIn, ThresholdsWithin, Search
 use Rattle.gate_sums.specs.Tables.{Sums, sumFrom, sumAt}
 use Rattle.gate_sums.specs.SumLaws.{sums-small, sum-from}
 use Rattle.pair_agreement.specs.Agreement.{SumTables, reduced, plainly}
+use Rattle.pair_agreement.specs.Blocks.{BlockClear}
 use Rattle.pair_agreement.specs.HalfLaws.{SettingHalves, sum-halves, clears-reduced}
 
 -- the merged threshold's size
@@ -99,6 +100,12 @@ module _ {a : Alignment} {tu tv : List ℤ} (f : Searchable a) (u : Sums (a .us)
       (t
       ∙ clears-reduced (a .thresholds) k l (getD tu (256 + high) (pos 0)) (getD tv (256 + high) (pos 0)) (getD tu low (pos 0)) (getD tv low (pos 0))
       ∙ sym (ap₂ (clears (a .thresholds) k l) (sum-halves tu (a .count) lows high low h) (sum-halves tv (a .count) lows high low h)))
+
+  -- a block, from what is left for the low half
+  pub tested-block : (k l lows high : ℕ) → ((j : ℕ) → j < lows → SettingHalves (a .count) lows high j)
+      → BlockClear (reduced (a .thresholds) (getD tu (256 + high) (pos 0)) (getD tv (256 + high) (pos 0))) k l lows tu tv
+      → (j : ℕ) → j < lows → T (clearsOn (alignedIn a) k l (high * lows + j))
+  tested-block k l lows high halves clear j h = subst T (tested-low k l lows high j (halves j h) refl) (clear j h)
 
 -- ---- agreement is clearing without margins
 pub plain-searchable : (a : Alignment) → Searchable a → Searchable (plainly a)

@@ -17,6 +17,9 @@ ghost use Rattle.network.specs.Limits.{inScale};
 ghost use Rattle.fold_theory.specs.Aligned.{mix, composedBit, mixedThreshold, clears, agreesAll, clearsAll, scaleFits};
 ghost use Rattle.pair_alignment.specs.Alignments.{alignedIn, ThresholdsWithin, Searchable, DialLimits, Mixable};
 ghost use Rattle.pair_agreement.specs.Agreement.{SumTables, reduced, plainly};
+ghost use Rattle.pair_agreement.specs.Blocks.{clearsBetween};
+
+pub mod blocks;
 
 // The merged gate's threshold.
 pub fn merged_threshold(thresholds: Thresholds, k: usize, l: usize) -> i32
@@ -65,6 +68,21 @@ pub fn lower_threshold(thresholds: Thresholds, k: usize, l: usize) -> i32
     merged_threshold(thresholds, k, l) - margin(board.off)
 }
 
+// Whether a merged sum is at least `upper` where the composed pair is 1, and at most `lower` where it is 0.
+fn clears_between(
+    thresholds: Thresholds,
+    upper: i32,
+    lower: i32,
+    su: i32,
+    sv: i32,
+    sum: i32,
+) -> bool
+    ensures { λ r. ⌜ r ≡ clearsBetween thresholds upper lower su sv sum ⌝ }
+{
+    let one = composed_bit(thresholds, su, sv);
+    (one & (upper <= sum)) | (!one & (sum <= lower))
+}
+
 // Whether the merged gate's sum has the composed pair's bit and keeps the margins, from the two sums: it reaches the threshold and the on
 // margin where that bit is 1, and stays below the threshold by the off margin where it is 0.
 fn clears(thresholds: Thresholds, k: usize, l: usize, su: i32, sv: i32) -> bool
@@ -75,8 +93,7 @@ fn clears(thresholds: Thresholds, k: usize, l: usize, su: i32, sv: i32) -> bool
     let sum = mixed(k, l, su, sv);
     let upper = upper_threshold(thresholds, k, l);
     let lower = lower_threshold(thresholds, k, l);
-    let one = composed_bit(thresholds, su, sv);
-    (one & (upper <= sum)) | (!one & (sum <= lower))
+    clears_between(thresholds, upper, lower, su, sv, sum)
 }
 
 // The same on a setting.

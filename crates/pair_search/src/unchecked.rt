@@ -1,10 +1,13 @@
 // The pair search, by tables of sums. Each call asks for at most 16 distinct feeds and for numbers on the scale.
 use crate::Found;
-use differences::beside;
-use differences::likely_difference;
+use differences::remembered;
+use differences::tightest;
 use gate_sums::unchecked::high_feeds;
 use gate_sums::unchecked::settings;
 use gate_sums::unchecked::table;
+use pair_agreement::unchecked::blocks::block_clears;
+use pair_agreement::unchecked::blocks::mixed_sums;
+use pair_agreement::unchecked::blocks::span;
 use pair_agreement::unchecked::clears_at;
 use pair_agreement::unchecked::clears_low;
 use pair_agreement::unchecked::low_thresholds;
@@ -19,8 +22,9 @@ ghost use Rattle.pair_search.specs.Search.{foundAs};
 
 pub mod differences;
 
-// The first pair that qualifies, from the tables of the two gates' sums. A candidate is tried first on two remembered settings, the last
-// ones that ruled candidates out from either side, then on a setting on which it is likely to differ, then on every setting, half by half.
+// The first pair that qualifies, from the tables of the two gates' sums. A candidate is tried first on two remembered settings, which from
+// the start are those that rule out the most, one from either side; then on every setting: a block of them at once, and where that is not
+// clear, one by one.
 fn scan(a: Alignment, sums_u: &[i32; 512], sums_v: &[i32; 512]) -> Found
     requires { ⌜ Searchable a ⌝ }
     requires { ⌜ Sums (a .us) 256 (now «sums_u») ⌝ }
@@ -32,8 +36,8 @@ fn scan(a: Alignment, sums_u: &[i32; 512], sums_v: &[i32; 512]) -> Found
     let high_count = high_feeds(count);
     let highs = settings(high_count);
     let lows = settings(count - high_count);
-    let mut last: usize = 0;
-    let mut earlier: usize = 0;
+    let span_v = span(sums_v, lows);
+    let mut known = tightest(sums_u, sums_v, thresholds, count);
     for sum in 2..=64 {
         'candidate: for k in 1..=32 {
             if sum <= k {
@@ -43,25 +47,25 @@ fn scan(a: Alignment, sums_u: &[i32; 512], sums_v: &[i32; 512]) -> Found
             if 32 < l {
                 continue 'candidate;
             }
-            if !clears_at(sums_u, sums_v, thresholds, k, l, last) {
+            if !clears_at(sums_u, sums_v, thresholds, k, l, known.last) {
                 continue 'candidate;
             }
-            if !clears_at(sums_u, sums_v, thresholds, k, l, earlier) {
+            if !clears_at(sums_u, sums_v, thresholds, k, l, known.earlier) {
                 continue 'candidate;
             }
             if !scale_fits(a, k, l) {
                 continue 'candidate;
             }
-            let likely = likely_difference(sums_u, sums_v, thresholds, k, l, count, last);
-            if !clears_at(sums_u, sums_v, thresholds, k, l, likely) {
-                earlier = beside(sums_u, sums_v, thresholds, likely, last, earlier);
-                last = likely;
-                continue 'candidate;
-            }
+            let mixes = mixed_sums(sums_u, sums_v, k, l, lows);
+            let span = span(&mixes, lows);
             for high in 0..highs {
                 let reach = low_thresholds(sums_u, sums_v, thresholds, high);
+                if block_clears(sums_u, sums_v, &mixes, span_v, span, reach, k, l, lows) {
+                    continue;
+                }
                 for low in 0..lows {
                     if !clears_low(sums_u, sums_v, reach, k, l, low) {
+                        known = remembered(sums_u, sums_v, thresholds, known, high * lows + low);
                         continue 'candidate;
                     }
                 }

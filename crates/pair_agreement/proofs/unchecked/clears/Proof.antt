@@ -1,22 +1,16 @@
--- The sum is compared with the one bound or the other. Assumes nothing.
-use mathlib.Core.Path.{_≡_, refl}
-use mathlib.Core.Bool.{Bool, true, false, not, cond, _&&_, _||_}
+-- The bounds are the threshold with the margins. Assumes nothing.
+use mathlib.Core.Path.{_≡_}
 use lib.IntN.{pos, _+ℤ_, _-ℤ_}
 use mir.Syntax.{w32}
 use mir.Val.{toZ, ofZ}
 use mir.Facts.{toZ-ofZ}
 use borrow.Author.Needs.{needs}
 use Rattle.basics.specs.SizeLaws.{read-back}
-use Rattle.fold_theory.specs.Aligned.{mix, composedBit, mixedThreshold, clears}
+use Rattle.fold_theory.specs.Aligned.{mix, mixedThreshold, clears}
 use Rattle.fold_theory.specs.declared.Thresholds.{Thresholds}
+use Rattle.pair_agreement.specs.Blocks.{clearsBetween}
 use Rattle.pair_agreement.proofs.unchecked.clears.Statement.{statement}
 use Rattle.pair_agreement.proofs.unchecked.clears.Tie as tie
-
--- a choice by two tests
-chosen : (c x y : Bool) → (c && x) || (not c && y) ≡ cond c x y
-chosen true true y = refl
-chosen true false y = refl
-chosen false x y = refl
 
 mixed-requires : tie.Need-mixed-requires
 mixed-requires c κs = simp (toZ-ofZ (c .fits .su), toZ-ofZ (c .fits .sv)) (c .pre .1)
@@ -28,7 +22,7 @@ lower-threshold-requires : tie.Need-lower-threshold-requires
 lower-threshold-requires c κs = (c .before .before .pre .0, c .before .before .pre .1 .dial)
 
 -- the numbers as the machine reads them
-module _ (c : tie.After-composed-bit) where
+module _ (c : tie.After-clears-between) where
   abbrev start : tie.Start
   start = c .before .before .before .before
 
@@ -46,12 +40,11 @@ module _ (c : tie.After-composed-bit) where
   lower-is : toZ w32 (ofZ w32 (c .before .lower-threshold .result)) ≡ mixedThreshold t (start .args .k) (start .args .l) -ℤ pos (t .board .off)
   lower-is = read-back w32 (c .before .lower-threshold .ok) (c .before .lower-threshold .ensures)
 
-  one-is : c .composed-bit .result ≡ composedBit t (start .args .su) (start .args .sv)
-  one-is = simp (toZ-ofZ (start .fits .su), toZ-ofZ (start .fits .sv)) at (c .composed-bit .ensures)
-
 returns : tie.Need-returns
-unfolding clears
-returns c = simp (upper-is c, lower-is c, sum-is c, one-is c) (chosen (composedBit (t c) (start c .args .su) (start c .args .sv)) _ _)
+unfolding clears clearsBetween
+returns c =
+    let s = start c in
+    simp (sum-is c, upper-is c, lower-is c, toZ-ofZ (s .fits .su), toZ-ofZ (s .fits .sv)) at (c .clears-between .ensures)
 
 pub clears-spec : {M : Type 1} → statement M
 clears-spec = tie.close (tie.spec mixed-requires upper-threshold-requires lower-threshold-requires (λ c κs. search needs) returns)

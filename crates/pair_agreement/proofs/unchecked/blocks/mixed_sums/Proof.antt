@@ -1,24 +1,28 @@
--- `search::unchecked::differences::mixed_sums` is safe: no mix of two sums leaves 32 bits. It promises nothing. Assumes nothing.
-use mathlib.Core.Path.{_≡_}
+-- Each turn gives one setting more its sum; no mix of two sums leaves 32 bits. Assumes nothing.
+use mathlib.Core.Path.{_≡_, _∙_}
 use Prim.Native.Nat.{ℕ, _-_, _≤_}
 use native.Mathlib.Omega.{arith}
 use lib.IntN.{pos}
-use lib.ListN.{getD}
+use lib.ListN.{getD, length-replicate}
 use mir.Syntax.{w32}
 use mir.Val.{toZ, ofZ}
-use Rattle.gate_sums.specs.SumLaws.{place-held}
 use borrow.Author.Needs.{needs}
-use Rattle.pair_search.proofs.unchecked.differences.mixed_sums.Statement.{statement}
-use Rattle.pair_search.proofs.unchecked.differences.mixed_sums.Tie as tie
+use Rattle.gate_sums.specs.SumLaws.{place-held}
+use Rattle.basics.specs.SizeLaws.{read-back}
+use Rattle.fold_theory.specs.Aligned.{mix}
+use Rattle.pair_agreement.specs.Blocks.{MixedSums}
+use Rattle.pair_agreement.specs.BlockLaws.{mixed-none, mixed-more}
+use Rattle.pair_agreement.proofs.unchecked.blocks.mixed_sums.Statement.{statement}
+use Rattle.pair_agreement.proofs.unchecked.blocks.mixed_sums.Tie as tie
 
 abbrev Inv-loop : tie.InvT-loop
-Inv-loop sums-u sums-v k l lows mixes₀ low₀ mixes low = low ≤ lows
+Inv-loop sums-u sums-v k l lows mixes₀ low₀ mixes low = (low ≤ lows) × MixedSums k l low sums-u sums-v mixes
 
 abbrev μ-loop : tie.MeasureT-loop
 μ-loop sums-u sums-v k l lows mixes₀ low₀ mixes low = lows - low
 
 loop-holds : tie.Need-loop-holds Inv-loop μ-loop
-loop-holds c = omega arith
+loop-holds c = (omega arith, mixed-none (c .args .k) (c .args .l) _ _ _ (length-replicate 256 (pos 0)))
 
 -- the two sums, as the machine reads them back
 module _ (c : tie.In-loop Inv-loop μ-loop) where
@@ -44,7 +48,14 @@ loop-less : tie.Need-loop-less Inv-loop μ-loop
 loop-less c = omega arith
 
 loop-again : tie.Need-loop-again Inv-loop μ-loop
-loop-again c = omega arith
+loop-again c =
+    let d = c .before .before .before in
+    let l = d .before .loop in
+    let sum = read-back w32 (c .mixed .ok) (rw (u-is d, v-is d) at (c .mixed .ensures)) in
+    (omega arith, mixed-more (l .inv .1) (omega arith) (toZ w32 (ofZ w32 (c .mixed .result))) sum)
+
+returns : tie.Need-returns Inv-loop μ-loop
+returns c = let e : c .before .loop .low ≡ c .before .before .args .lows = omega arith in rw e at (c .before .loop .inv .1)
 
 pub mixed-sums-spec : {M : Type 1} → statement M
 mixed-sums-spec =
@@ -63,4 +74,4 @@ mixed-sums-spec =
     (λ c. search needs)
     loop-less
     loop-again
-    (λ c. search needs))
+    returns)

@@ -2,14 +2,14 @@
 use Prim.Native.Nat.{_-_, _≤_}
 use native.Mathlib.Omega.{arith}
 use borrow.Author.Needs.{needs}
-use Rattle.pair_search.proofs.unchecked.differences.differs_within.Statement.{statement}
-use Rattle.pair_search.proofs.unchecked.differences.differs_within.Tie as tie
+use Rattle.pair_search.proofs.unchecked.differences.differs_at_ends.Statement.{statement}
+use Rattle.pair_search.proofs.unchecked.differences.differs_at_ends.Tie as tie
 
 abbrev Inv-loop : tie.InvT-loop
-Inv-loop sums-u sums-v mixes thresholds upper lower lows differs₀ low₀ differs low = low ≤ lows
+Inv-loop sums-u sums-v mixes-least mixes-most reach least most lows differs₀ low₀ differs low = low ≤ lows
 
 abbrev μ-loop : tie.MeasureT-loop
-μ-loop sums-u sums-v mixes thresholds upper lower lows differs₀ low₀ differs low = lows - low
+μ-loop sums-u sums-v mixes-least mixes-most reach least most lows differs₀ low₀ differs low = lows - low
 
 loop-holds : tie.Need-loop-holds Inv-loop μ-loop
 loop-holds c = omega arith
@@ -20,8 +20,8 @@ loop-less c = omega arith
 loop-again : tie.Need-loop-again Inv-loop μ-loop
 loop-again c = omega arith
 
-pub differs-within-spec : {M : Type 1} → statement M
-differs-within-spec =
+pub differs-at-ends-spec : {M : Type 1} → statement M
+differs-at-ends-spec =
     tie.close
     (tie.spec
     Inv-loop
@@ -31,7 +31,10 @@ differs-within-spec =
     (λ c. search needs)
     (λ c. search needs)
     (λ c. search needs)
-    (λ c κs. search needs)
+    (λ c. search needs)
+    (λ c. search needs)
+    (λ c. search needs)
+    (λ c. search needs)
     (λ c. search needs)
     (λ c. search needs)
     (λ c. search needs)
