@@ -146,7 +146,7 @@ uint8_t pmn_line(const uint8_t *first, size_t first_length,
  * Codes in order: as read, 14 where calls_length is no multiple of 5 or a kind is above 5, 18 where answers has fewer places than
  * 1 and 4 for each call, or out is shorter than the file. With 10,906 bytes or more in out, which hold any file, the list is run
  * once; with fewer it is run twice.
- * Stack: 125 KB. */
+ * Stack: 127 KB. */
 uint8_t pmn_run(const uint8_t *file, size_t file_length,
                 const uint64_t *calls, size_t calls_length,
                 uint64_t *answers, size_t answers_length,
