@@ -10,8 +10,8 @@ use yovrenik_tests as library;
 use yovrenik_tests::direct;
 use yovrenik_tests::exact;
 use yovrenik_tests::generate::{
-    fan, folding_chain, full_folding, full_standing, heavier, largest, largest_tolerant, last_setting_only, lattice, lit_from, mirrored,
-    mixed_chain, most_passes, narrow, network, pins, ratio_31_32, standing_chain, Random,
+    fan, folding_chain, full_folding, full_standing, heavier, largest, largest_tolerant, last_setting_only, late_grid, lattice, lit_from,
+    many_readers, mirrored, mixed_chain, most_passes, narrow, network, pins, ratio_31_32, shared_grid, standing_chain, Random,
 };
 use yovrenik_tests::reference::{self, Board, Net, Record};
 
@@ -247,9 +247,10 @@ fn pair_rows() {
     let against = pair_row("the same, mirrored: u votes against", &mirrored(&net, 16).unwrap(), false);
     println!("| a vote against to a vote for | {} | | | | | | |", ratio(ours, against));
     pair_row("pair, 16 distinct feeds, only 31 and 32 serve", &ratio_31_32(), false);
-    let [by_setting, by_block] = most_passes();
-    pair_row("pair, 16 distinct feeds, most passes known of a search by settings", &by_setting, false);
-    pair_row("pair, 16 distinct feeds, most passes known of a search by blocks", &by_block, false);
+    let names = ["by settings", "by blocks", "by blocks, the most found since", "in two passes", "in two passes, 1 and 10 found"];
+    for (name, net) in names.iter().zip(&most_passes()) {
+        pair_row(&format!("pair, 16 distinct feeds, most passes known of a search {name}"), net, false);
+    }
 }
 
 /// The library's sweep: how many gates it collapses, and its time with the read and the write.
@@ -261,7 +262,8 @@ fn swept(net: &Net) -> (u64, Duration) {
     (answers[2], t)
 }
 
-fn sweep_row(name: &str, net: &Net, folds: u64, all: bool) {
+/// The row of a sweep, and the library's time.
+fn sweep_row(name: &str, net: &Net, folds: u64, all: bool) -> Duration {
     let (count, ours) = swept(net);
     let collapses = |find: reference::Find| reference::sweep_by(black_box(net), 128, find).unwrap().1.len() as u64;
     assert_eq!((count, collapses(exact::pair)), (folds, folds));
@@ -271,6 +273,7 @@ fn sweep_row(name: &str, net: &Net, folds: u64, all: bool) {
         })
     };
     search_row(name, ours, swept_by(exact::pair), swept_by(exact::pair_by_halves), all.then(|| swept_by(reference::pair)));
+    ours
 }
 
 /// The row of the witness of a merge with 1 and 1 of two gates with 16 distinct feeds: the times of the merge, with the read and the write,
@@ -309,10 +312,18 @@ fn sweep_rows() {
     for gates in [16, 32, 64, 128] {
         sweep_row(&format!("sweep, {gates} gates, 16 distinct feeds, nothing folds"), &standing_chain(gates, 16), 0, false);
     }
+    let mut before = None;
     for gates in [16, 32, 64, 128] {
         let name = format!("sweep, {gates} gates, the upper half folds, the lower half does not");
-        sweep_row(&name, &mixed_chain(gates), gates as u64 / 2 - 1, false);
+        let ours = sweep_row(&name, &mixed_chain(gates), gates as u64 / 2 - 1, false);
+        if let Some(before) = before {
+            println!("| twice the gates to the row before | {} | | | | | | |", ratio(before, ours));
+        }
+        before = Some(ours);
     }
+    sweep_row("sweep, 16 outputs with 6 gates each that stand, and 8 that all share and that fold", &shared_grid(), 8, false);
+    sweep_row("sweep, 8 gates that fold into each of 48 readers but the last", &many_readers(48), 47, false);
+    sweep_row("sweep, 96 gates whose pairs differ on the last settings only", &late_grid(), 0, false);
 }
 
 /// A network with margins, and the same gates in version 1.

@@ -482,8 +482,9 @@ pub fn ratio_31_32() -> Net {
 }
 
 /// The pairs with 16 distinct feeds that take the most whole passes over the settings, of all that a search over weights has found: the
-/// first with a search that tries setting by setting, the second with one that tries 256 at a time.
-pub fn most_passes() -> [Net; 2] {
+/// first with a search that tries setting by setting, the next two with one that tries 256 at a time and remembers what differed, the last
+/// two with one that finds the tightest bounds of k / l first.
+pub fn most_passes() -> [Net; 5] {
     [
         two_gates(
             [34, -8, -40, 7, -16, -12, -31, -32, 45, 39, -11, -41, -13, -14, 16, 22],
@@ -498,6 +499,27 @@ pub fn most_passes() -> [Net; 2] {
             12,
             -4,
             5,
+        ),
+        two_gates(
+            [-227, 0, 4, 760, 151, 160, 9, 1851, -2010, 241, 1823, 715, 795, 2, -173, -3297],
+            [-132, -169, 86, -154, 1986, 0, 3000, -802, 0, 1415, 2576, 2, 260, 2081, -39571, 574],
+            44192,
+            -119060,
+            -8303,
+        ),
+        two_gates(
+            [51327, 50942, 10109, 6935, 0, -786566, 65335, 1, 36847, 8192, -9152, 1979, 0, -10159, -9465, 151],
+            [-16429, -16282, -801269, 4102, 3, -4864, 2, 8268, -30045, 0, 8508, 17378, -32162, 0, -14495, 32449],
+            -155318,
+            -162295,
+            121182,
+        ),
+        two_gates(
+            [-7159, 0, -3657, -8207, 0, 12564, -1404, -5381, -2052, 6352, -7419, -21217, -32012, -16, 7930, 28862],
+            [-24574, 3, 8197, -8196, -61372, -8196, 0, -2, 0, 16383, 0, 4, 2, 14, 8185, -4],
+            -3834,
+            -16410,
+            -13646,
         ),
     ]
 }
@@ -627,6 +649,63 @@ pub fn mixed_chain(gates: usize) -> Net {
         net.gates.push(Gate { feeds, threshold: 1 });
     }
     net.outputs.push(net.inputs + gates - 1);
+    net
+}
+
+/// A gate that is 1 if all of its feeds are, with the weights 33: a sum is 32 above its threshold where all are 1, and 1 below it where all
+/// but one are.
+fn all_of(signals: impl Iterator<Item = usize>) -> Gate {
+    let mut feeds: Vec<(usize, i64)> = signals.map(|s| (s, 33)).collect();
+    feeds.sort();
+    Gate { threshold: 33 * feeds.len() as i64 - 32, feeds }
+}
+
+/// Outputs that share what folds: 16, each 1 if 6 gates of its own are, which stand and are the lowest, and 8 copies of inputs, the same for
+/// all outputs. Every collapse of a copy changes every output, so that all 96 pairs of a gate that stands are searched again.
+pub fn shared_grid() -> Net {
+    let inputs = 40;
+    let mut net = Net { board: Board::VERSION_1, inputs, gates: vec![], outputs: vec![] };
+    let three = |g: usize| (0..3).map(move |i| 8 + (3 * g + i) % 32);
+    (0..96).for_each(|g| net.gates.push(all_of(three(g))));
+    let copies = inputs + 96;
+    (0..8).for_each(|s| net.gates.push(Gate { feeds: vec![(s, 33)], threshold: 33 }));
+    for output in 0..16 {
+        let own = inputs + 6 * output;
+        net.gates.push(all_of((own..own + 6).chain(copies..copies + 8)));
+        net.outputs.push(copies + 8 + output);
+    }
+    net
+}
+
+/// Low gates with so many readers each, all of which would fold but the last, so that nothing folds of the low gates: 8 gates of 8 inputs,
+/// and a chain of readers, each 1 if all low gates and the reader before it are. The last reader's sums are 32 above its threshold.
+pub fn many_readers(readers: usize) -> Net {
+    let inputs = 8;
+    let every = |signals: Range<usize>| Gate { threshold: signals.len() as i64, feeds: signals.map(|s| (s, 1)).collect() };
+    let mut net = Net { board: Board::VERSION_1, inputs, gates: vec![every(0..inputs); 8], outputs: vec![inputs + 8 + readers - 1] };
+    for reader in 0..readers {
+        let own = inputs + 8 + reader;
+        let signals = (inputs..inputs + 8).chain((reader > 0).then_some(own - 1));
+        let mut gate = all_of(signals);
+        if reader + 1 < readers {
+            gate.threshold += 32;
+        }
+        net.gates.push(gate);
+    }
+    net
+}
+
+/// Outputs that are never 1, 16 of them, with 6 gates each that are 1 if their 11 inputs are: every pair has 16 distinct feeds, and each k and
+/// l differs where all of the 11 are 1 only.
+pub fn late_grid() -> Net {
+    let inputs = 16;
+    let mut net = Net { board: Board::VERSION_1, inputs, gates: vec![], outputs: vec![] };
+    (0..96).for_each(|g| net.gates.push(all_of((0..11).map(move |i| (g + i) % 16))));
+    for output in 0..16 {
+        let own = inputs + 6 * output;
+        net.gates.push(Gate { feeds: (own..own + 6).map(|s| (s, 1)).collect(), threshold: 7 });
+        net.outputs.push(inputs + 96 + output);
+    }
     net
 }
 
