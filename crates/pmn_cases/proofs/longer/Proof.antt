@@ -13,4 +13,15 @@ abbrev μ-loop : tie.MeasureT-loop
 μ-loop file₀ f i₀ file i = 39 - i
 
 pub longer-spec : {M : Type 1} → statement M
-longer-spec = tie.close (tie.spec Inv-loop μ-loop (λ c. search needs) (λ c. search needs) (λ c. search needs) (λ c. search needs) (λ c. search needs) (λ c. search needs) (λ c. search needs))
+longer-spec =
+    tie.close
+    (tie.spec
+    Inv-loop
+    μ-loop
+    (λ c. search needs)
+    (λ c. search needs)
+    (λ c. search needs)
+    (λ c. search needs)
+    (λ c. search needs)
+    (λ c. search needs)
+    (λ c. search needs))

@@ -11,4 +11,14 @@ abbrev μ-loop : tie.MeasureT-loop
 μ-loop before after count n₀ n = count - n
 
 pub show-lines-spec : {M : Type 1} → statement M
-show-lines-spec = tie.close (tie.spec Inv-loop μ-loop (λ c. search needs) (λ c κs. search needs) (λ c. search needs) (λ c. search needs) (λ c. search needs) (λ c. search needs))
+show-lines-spec =
+    tie.close
+    (tie.spec
+    Inv-loop
+    μ-loop
+    (λ c. search needs)
+    (λ c κs. search needs)
+    (λ c. search needs)
+    (λ c. search needs)
+    (λ c. search needs)
+    (λ c. search needs))
