@@ -1,36 +1,16 @@
 // One call of a list in the arrays of a sound record, which are lent.
 use call_collapse::unchecked::collapse_in;
+use call_preview::unchecked::preview_in;
 use call_single::unchecked::drop_in;
 use call_single::unchecked::merge_in;
 use call_sweep::unchecked::sweep_in;
 use call_theory::Call;
-use call_theory::Figures;
 use call_undo::unchecked::undo_in;
-use fold_preview::unchecked::preview_at;
 use journal::CallLeft;
 use network_places::Head;
-use network_report::SizeReport;
 ghost use mathlib.Core.Path.{_≡_};
 ghost use Rattle.journal.specs.Answers.{applied};
 ghost use Rattle.journal.specs.Parts.{recordParts, answerParts, SoundParts};
-ghost use Rattle.call_apply.specs.Answers.{sizeLeft};
-
-// The answer of a preview as that of a call of a list, which leaves as many gates and steps as there were.
-fn shown(size: SizeReport, gates: usize, count: usize) -> CallLeft
-    ensures { λ r. ⌜ r ≡ sizeLeft size gates count ⌝ }
-{
-    let figures = Figures {
-        first: size.gates as u64,
-        second: size.cost,
-        third: size.levels as u64,
-    };
-    CallLeft {
-        code: size.code,
-        gates,
-        count,
-        figures,
-    }
-}
 
 // One call of a list: 0 or the refusal, the numbers of gates and of steps that it leaves, and its three numbers.
 pub fn apply_in(
@@ -126,10 +106,16 @@ pub fn apply_in(
             step_weights,
             b,
         ),
-        Call::Preview { s } => {
-            let size = preview_at(head, fanins, thresholds, signals, weights, drivers, s);
-            shown(size, head.gates, count)
-        }
+        Call::Preview { s } => preview_in(
+            head,
+            fanins,
+            thresholds,
+            signals,
+            weights,
+            drivers,
+            count,
+            s,
+        ),
         Call::Undo => undo_in(
             head,
             fanins,

@@ -1,7 +1,7 @@
 // The calls that leave the record as it is. Each prints the code and the numbers that the call answered.
 use case_records::show;
 use case_script::Numbers;
-use fold_merge::PairFound;
+use fold_pair::PairFound;
 use fold_witness::DistinctFeeds;
 use fold_witness::Witnessed;
 use journal::Record;

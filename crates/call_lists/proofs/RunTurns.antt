@@ -14,9 +14,12 @@ use Rattle.call_theory.specs.Calls.{answer, calls}
 use Rattle.journal.specs.Records.{stateOf, recordOf, justRead}
 use Rattle.journal.specs.declared.CallAnswer.{CallAnswer}
 use Rattle.journal.specs.declared.Record.{Record}
-use Rattle.call_lists.specs.Runs.{wellFormed, callsIn, fourOf, answersOf}
-use Rattle.call_lists.specs.Running.{callAt, FromRead, Stepped}
-use Rattle.call_lists.specs.RunLaws.{count-calls, just-came, just-state, next-came, next-calls, next-answers, store-more}
+use Rattle.call_numbers.specs.Numbers.{wellFormed, callsIn, fourOf}
+use Rattle.call_numbers.specs.CallPlaces.{callAt}
+use Rattle.call_numbers.specs.NumberLaws.{count-calls}
+use Rattle.call_lists.specs.Runs.{answersOf}
+use Rattle.call_lists.specs.Running.{FromRead, Stepped}
+use Rattle.call_lists.specs.RunLaws.{just-came, just-state, next-came, next-calls, next-answers, store-more}
 
 -- r is the record before call i of a list that began at the state q
 pub record Reached (q : State) (ns : List ℕ) (i : ℕ) (r : Record) : Type 0 where
@@ -66,18 +69,24 @@ module _ (q : State) (ns : List ℕ) (i : ℕ) {r : Record} (h : Reached q ns i 
       ∙ ap (λ (p : State). layout (p .net)) (sym (ap (λ (m : List ℕ). calls (stateOf r) (callsIn m)) e) ∙ h .rest)
 
   module _ {lent answers : List ℕ} (a : Answered q ns i r lent answers) where
+    -- after a call whose four numbers are stored
     pub answered-next : 5 * i + 5 ≤ length ns → 4 * i + 4 < length lent → {o : CallAnswer} → Stepped (stateOf r) (answer (stateOf r) (callAt ns i)) o
-        → Answered q ns (i + 1) (o .after) lent (sets answers (1 + 4 * i) (fourOf (o .code) (o .figures)))
-    answered-next l k {o} s =
+        → {put : List ℕ} → put ≡ sets answers (1 + 4 * i) (fourOf (o .code) (o .figures))
+        → (i + 1 ≤ length ns / 5) × Reached q ns (i + 1) (o .after) × Answered q ns (i + 1) (o .after) lent put
+    answered-next l k {o} s p =
         let xs = answersOf q (callsIn ns) in
         let four = fourOf (o .code) (o .figures) in
         let e = a .rest ∙ next-answers r (h .came) ns i l o s in
-        let more : 4 * i + 4 ≡ 4 * (i + 1) = omega arith in
-        record {
-          places = ap (λ (m : List ℕ). sets m (1 + 4 * i) four) (a .places) ∙ store-more lent xs 1 (4 * i) four _ e (omega arith) ∙ ap (paste lent 1 xs) more;
-          rest = ap (λ (n : ℕ). drop n xs) (sym more) ∙ sym (drop-drop 4 (4 * i) xs) ∙ ap (drop 4) e;
-          long = sets-length answers (1 + 4 * i) four ∙ a .long;
-        }
+        let more : 4 * i + 4 ≡ 4 * (i + 1) = omega arith in (
+          omega arith,
+          reached-next l s,
+          record {
+            places = p ∙ ap (λ (m : List ℕ). sets m (1 + 4 * i) four) (a .places) ∙ store-more lent xs 1 (4 * i) four _ e (omega arith)
+                ∙ ap (paste lent 1 xs) more;
+            rest = ap (λ (n : ℕ). drop n xs) (sym more) ∙ sym (drop-drop 4 (4 * i) xs) ∙ ap (drop 4) e;
+            long = ap length p ∙ sets-length answers (1 + 4 * i) four ∙ a .long;
+          },
+        )
 
     pub answered-end : i ≡ length (callsIn ns) → answers ≡ paste lent 1 (answersOf q (callsIn ns)) (4 * length (callsIn ns))
     answered-end e = a .places ∙ ap (λ (n : ℕ). paste lent 1 (answersOf q (callsIn ns)) (4 * n)) e

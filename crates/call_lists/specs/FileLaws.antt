@@ -23,8 +23,10 @@ use Rattle.pmn_opening.specs.Files.{room, lengthOf}
 use Rattle.pmn_opening.specs.Opening.{FileOpen}
 use Rattle.pmn_opening.specs.OpeningLaws.{open-record, read-on}
 use Rattle.pmn_files.specs.Files.{fileIn}
-use Rattle.call_lists.specs.Runs.{wellFormed, callsIn, answersOf, netAfter, ListRan, ran}
-use Rattle.call_lists.specs.RunLaws.{count-calls, after-sound, answers-length}
+use Rattle.call_numbers.specs.Numbers.{wellFormed, callsIn}
+use Rattle.call_numbers.specs.NumberLaws.{count-calls}
+use Rattle.call_lists.specs.Runs.{answersOf, netAfter, ListRan, ran}
+use Rattle.call_lists.specs.RunLaws.{after-sound, answers-length}
 use Rattle.call_lists.specs.Files.{runAnswer, ranFile, ranNumbers}
 
 -- what a run leaves: its answer's code, the numbers and the bytes

@@ -4,7 +4,8 @@ use Rattle.basics.specs.Library.{_&&_, List, [], _∷_, ℕ, _+_, _*_, length}
 use Rattle.basics.specs.Refusals.{Answer, accepted, refused, _else_, checks, bind}
 use Rattle.pmn_format.specs.Format.{fileBytes}
 use Rattle.pmn_opening.specs.Files.{readNet, room}
-use Rattle.call_lists.specs.Runs.{wellFormed, callsIn, netAfter, ListRan, ran}
+use Rattle.call_numbers.specs.Numbers.{wellFormed, callsIn}
+use Rattle.call_lists.specs.Runs.{netAfter, ListRan, ran}
 
 -- the file after the list and the numbers of its calls
 unfoldable pub runAnswer : List ℕ → List ℕ → List ℕ → List ℕ → Answer ListRan

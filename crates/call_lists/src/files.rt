@@ -1,7 +1,7 @@
 // A list of calls on a whole file.
 use crate::unchecked::has_room;
-use crate::unchecked::is_well_formed;
 use crate::unchecked::run_storing;
+use call_numbers::is_well_formed;
 use pmn_files::unchecked::put_file;
 use pmn_opening::unchecked::refusal;
 ghost use mathlib.Core.Path.{_≡_};

@@ -1,7 +1,7 @@
 // A list of calls, given as numbers, five to a call, run from the record of a network just read.
 use call_apply::unchecked::apply_in;
-use call_theory::Call;
-use call_theory::Figures;
+use call_numbers::unchecked::call_at;
+use call_numbers::unchecked::put_four;
 use journal::CallLeft;
 use network::Network;
 use network_places::Head;
@@ -11,7 +11,7 @@ ghost use mathlib.Core.Bool.{true};
 ghost use Prim.Native.Nat.{_+_, _*_, _≤_};
 ghost use lib.Dec.{leb};
 ghost use lib.ListN.{length};
-ghost use lib.Seq.{sets, paste};
+ghost use lib.Seq.{paste};
 ghost use Rattle.network.specs.Record.{netOf, layout};
 ghost use Rattle.network.specs.Places.{HoldsSound};
 ghost use Rattle.pmn_format.specs.Format.{fileBytes};
@@ -19,51 +19,10 @@ ghost use Rattle.call_theory.specs.Steps.{justOpened};
 ghost use Rattle.call_theory.specs.Calls.{answer};
 ghost use Rattle.journal.specs.Records.{stateOf};
 ghost use Rattle.journal.specs.Parts.{recordParts, answerParts};
-ghost use Rattle.call_lists.specs.Runs.{wellFormed, callsIn, fourOf, answersOf, netAfter};
-ghost use Rattle.call_lists.specs.Running.{FromRead, Stepped, callAt};
-
-// Whether every call has five numbers and a kind from 0 to 5.
-pub fn is_well_formed(numbers: &[u64]) -> bool
-    ensures { λ r. ⌜ r ≡ wellFormed (now (numbers .entry)) ⌝ }
-{
-    let mut at: usize = 0;
-    while at < numbers.len() {
-        if numbers.len() - at < 5 {
-            return false;
-        }
-        if numbers[at] > 5 {
-            return false;
-        }
-        at += 5;
-    }
-    true
-}
-
-// Call i of the list.
-fn call_at(numbers: &[u64], i: usize) -> Call
-    requires { ⌜ 5 * i + 5 ≤ length (now numbers) ⌝ }
-    ensures { λ r. ⌜ r ≡ callAt (now (numbers .entry)) i ⌝ }
-{
-    let at = 5 * i;
-    let kind = numbers[at];
-    let a = numbers[at + 1];
-    let b = numbers[at + 2];
-    let c = numbers[at + 3];
-    let d = numbers[at + 4];
-    match kind {
-        0 => Call::Merge {
-            u: a as usize,
-            v: b as usize,
-            k: c as usize,
-            l: d as usize,
-        },
-        1 => Call::Drop { s: a as usize },
-        2 => Call::Collapse { s: a as usize },
-        3 => Call::Sweep { b: a as usize },
-        4 => Call::Preview { s: a as usize },
-        _ => Call::Undo,
-    }
-}
+ghost use Rattle.call_numbers.specs.Numbers.{wellFormed, callsIn};
+ghost use Rattle.call_numbers.specs.CallPlaces.{callAt};
+ghost use Rattle.call_lists.specs.Runs.{answersOf, netAfter};
+ghost use Rattle.call_lists.specs.Running.{FromRead, Stepped};
 
 // Call i, in the arrays of the record of a state that a read and calls lead to.
 fn step_in(
@@ -201,17 +160,6 @@ pub fn has_room(network: Network, numbers: &[u64], room: usize) -> bool
     }
     let after = run(network, numbers);
     file_length(after) <= room
-}
-
-// A call's code and its three numbers, put into four places from one on.
-fn put_four(answers: &mut [u64], at: usize, code: u8, figures: Figures)
-    requires { ⌜ at + 4 ≤ length (now answers) ⌝ }
-    ensures { λ _. ⌜ now (answers .exit) ≡ sets (now (answers .entry)) at (fourOf code figures) ⌝ }
-{
-    answers[at] = code as u64;
-    answers[at + 1] = figures.first;
-    answers[at + 2] = figures.second;
-    answers[at + 3] = figures.third;
 }
 
 // The network after the whole list, with each call's code and three numbers in the places from 1 on.

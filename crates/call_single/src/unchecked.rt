@@ -5,7 +5,7 @@ use call_steps::unchecked::enter_gate;
 use fold_drop::unchecked::drop_code;
 use fold_merge::unchecked::merges::merged_at;
 use journal::CallLeft;
-use journal::unchecked::one_more;
+use journal_entry::unchecked::one_more;
 use network_places::Head;
 use network_places::unchecked::remove_places;
 use network_places::unchecked::store_gate;

@@ -3,8 +3,8 @@
 use call_theory::Figures;
 use fold_merge::unchecked::readers::reads_gate;
 use journal::CallLeft;
-use journal::unchecked::enter_step;
-use journal::unchecked::one_more;
+use journal_entry::unchecked::enter_step;
+use journal_entry::unchecked::one_more;
 use network_places::Head;
 use network_places::unchecked::gate_at;
 ghost use mathlib.Core.Path.{_≡_};
@@ -15,7 +15,7 @@ ghost use Rattle.network.specs.Places.{SoundGate};
 ghost use Rattle.network_places.specs.Parts.{fromParts};
 ghost use Rattle.call_theory.specs.Steps.{readerSteps, collapseSteps};
 ghost use Rattle.journal.specs.Journals.{enterAll};
-ghost use Rattle.journal.specs.Entering.{StepEntered};
+ghost use Rattle.journal_entry.specs.Entering.{StepEntered};
 ghost use Rattle.journal.specs.Parts.{journalParts, leaving};
 
 // What a call leaves: its code, the numbers of gates and of steps, and the number of collapses of a sweep.

@@ -7,7 +7,7 @@ ghost use Rattle.pmn_opening.specs.Files.{readNet, openNet, lengthOf};
 ghost use Rattle.pmn_files.specs.Files.{reportPlaces, fileOut, partOut};
 ghost use Rattle.pmn_converter.specs.Conversion.{conversionPlaces};
 ghost use Rattle.frame_batch.specs.Files.{framePlaces, fileFrames};
-ghost use Rattle.fold_merge.specs.Files.{pairPlaces};
+ghost use Rattle.fold_pair.specs.Files.{pairPlaces};
 ghost use Rattle.fold_preview.specs.Files.{previewPlaces};
 ghost use Rattle.fold_witness.specs.Files.{WitnessLeft, distinctPlaces};
 ghost use Rattle.cut_output.specs.Answers.{cutPlaces};
@@ -59,7 +59,7 @@ pub extern "C" fn pmn_pair(file: &[u8], u: u64, v: u64, answer: &mut [u64]) -> u
     ensures { λ r. ⌜ r ≡ codeOf (pairPlaces (now (file .entry)) u v (now (answer .entry))) ⌝ }
     ensures { λ _. ⌜ now (answer .exit) ≡ stored (pairPlaces (now (file .entry)) u v (now (answer .entry))) (now (answer .entry)) ⌝ }
 {
-    fold_merge::files::pair_of_file(file, u, v, answer)
+    fold_pair::files::pair_of_file(file, u, v, answer)
 }
 
 // A witness of a merge: the merge's own number; only where it is 15, the setting with the fewest ones that shows it goes into place 0 of

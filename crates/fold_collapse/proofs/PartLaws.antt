@@ -29,7 +29,7 @@ use Rattle.network.specs.declared.GateRecord.{GateRecord}
 use Rattle.fold_theory.specs.Merge.{Edge, edgeOf, reads, merged, narrow}
 use Rattle.fold_theory.specs.Pair.{qualifies}
 use Rattle.fold_theory.specs.SoundLaws.{resized-sound}
-use Rattle.pair_alignment.specs.Alignments.{alignmentOf, mergedOf, Mergeable}
+use Rattle.pair_theory.specs.Alignments.{alignmentOf, mergedOf, Mergeable}
 use Rattle.fold_collapse.specs.declared.Pairs.{Pairs}
 use Rattle.fold_merge.specs.Arrays.{edgeIn, SoundArrays, GateReads}
 use Rattle.fold_merge.specs.ArrayLaws.{lent-of, lent-gate}

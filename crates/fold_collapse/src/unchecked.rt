@@ -1,16 +1,16 @@
 // Collapse in the arrays of a sound record, which are lent: the pairs of all readers first, then the merges and the drop.
 use crate::Pairs;
-use fold_merge::PairFound;
 use fold_merge::unchecked::edges::aligned_at;
-use fold_merge::unchecked::pairs::pair_of;
 use fold_merge::unchecked::readers::is_output;
 use fold_merge::unchecked::readers::reads_gate;
+use fold_pair::PairFound;
+use fold_pair::unchecked::pair_of;
 use network::Board;
-use network::soundness::is_gate;
 use network_places::Head;
 use network_places::unchecked::remove_places;
 use network_places::unchecked::store_gate;
-use pair_alignment::unchecked::merged_gate;
+use network_soundness::is_gate;
+use pair_mixing::unchecked::merged_gate;
 ghost use mathlib.Core.Path.{_≡_};
 ghost use mathlib.Core.Bool.{true};
 ghost use Prim.Native.Nat.{_+_, _-_, _<_};
@@ -21,8 +21,8 @@ ghost use Rattle.network.specs.Sound.{HasSignal};
 ghost use Rattle.network.specs.Record.{gateFrom, gateRecord, layout, soundRecord};
 ghost use Rattle.network.specs.Places.{GateStored};
 ghost use Rattle.network_places.specs.Parts.{fromParts, counting, Lengths};
-ghost use Rattle.fold_merge.specs.Answers.{asPair};
-ghost use Rattle.pair_alignment.specs.Alignments.{alignmentOf, mergedOf};
+ghost use Rattle.fold_pair.specs.Answers.{asPair};
+ghost use Rattle.pair_theory.specs.Alignments.{alignmentOf, mergedOf};
 ghost use Rattle.fold_merge.specs.Arrays.{edgeIn, SoundArrays};
 ghost use Rattle.fold_collapse.specs.Collapsing.{edgeTo, readerPair, ReaderPairs, collapsedBy, MergesIn, CollapsesBy, PairsTried};
 

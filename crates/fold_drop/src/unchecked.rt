@@ -1,8 +1,8 @@
 // The tests of a drop. The function asks for arrays of a sound record.
 use fold_merge::unchecked::readers::count_readers;
 use fold_merge::unchecked::readers::is_output;
-use network::soundness::is_gate;
 use network_places::Head;
+use network_soundness::is_gate;
 ghost use mathlib.Core.Path.{_≡_};
 ghost use mathlib.Core.Bool.{true};
 ghost use Rattle.network.specs.Record.{soundRecord};

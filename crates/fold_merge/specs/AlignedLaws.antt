@@ -1,12 +1,12 @@
--- The tests of two gates by their distinct feeds are those of the merge and of the pair. Assumes nothing.
-use mathlib.Core.Path.{_≡_, refl, sym, ap, ap₂, _∙_}
+-- The tests of two gates by their distinct feeds are those of the merge. Assumes nothing.
+use mathlib.Core.Path.{_≡_, refl, ap, ap₂, _∙_}
 use mathlib.Core.Bool.{Bool, true, false, cond, _&&_}
 use mathlib.Core.List.{List, [], _∷_, map}
 use Prim.Native.Nat.{ℕ, _≤_}
 use native.Mathlib.Omega.{arith}
 use lib.Dec.{T, leb, leb→le}
 use lib.ListN.{length, length-map}
-use Rattle.basics.specs.Refusals.{Answer, Test, _else_, checks, Passed}
+use Rattle.basics.specs.Refusals.{Test, _else_, Passed}
 use Rattle.basics.specs.TestLaws.{T-and, and-T}
 use Rattle.basics.specs.Lists.{all, keep, range}
 use Rattle.basics.specs.ListLaws.{below-at, of-each, each-both, each-keep, kept, length-keep, length-range, each-range}
@@ -14,16 +14,16 @@ use Rattle.network.specs.Threshold.{Gate}
 use Rattle.network.specs.Limits.{inScale, weighs, weightOk, scaleOk, keeps}
 use Rattle.network.specs.Record.{gateRecord}
 use Rattle.fold_theory.specs.Merge.{Edge, distinct, merged, agrees, mergeKeeps, onDial, narrow}
-use Rattle.fold_theory.specs.Pair.{pairs, qualifies, first, pairTests, pairOf}
-use Rattle.fold_theory.specs.Aligned.{Aligned, aligned, edgeThresholds, mixedThreshold, mixedWeight, scaleFits, qualifiesOn}
+use Rattle.fold_theory.specs.Pair.{qualifies}
+use Rattle.fold_theory.specs.Aligned.{Aligned, aligned, edgeThresholds, mixedThreshold, mixedWeight, scaleFits}
 use Rattle.pair_agreement.specs.GateLaws.{feed-count}
-use Rattle.fold_theory.specs.AlignedLaws.{EdgeOk, scaleOk-fits, agrees-all, first-on}
+use Rattle.fold_theory.specs.AlignedLaws.{EdgeOk, scaleOk-fits, agrees-all}
 use Rattle.fold_theory.specs.PairLaws.{qualified-of, dial-of}
 use Rattle.fold_theory.specs.LimitLaws.{narrow-few}
-use Rattle.pair_alignment.specs.Alignments.{alignmentOf, alignedIn, mixedFeed, mergedOf, AlignmentOnScale, Searchable, Mergeable}
-use Rattle.pair_alignment.specs.declared.Alignment.{Alignment}
-use Rattle.pair_alignment.specs.AlignmentLaws.{aligned-in, merged-is, mergeable}
-use Rattle.fold_merge.specs.Codes.{firstFailing, mergeTests, settingTests, limitTestsOn, mergeTestsOn, pairOfAlignment}
+use Rattle.pair_theory.specs.Alignments.{alignmentOf, alignedIn, mixedFeed, mergedOf, AlignmentOnScale, Searchable, Mergeable}
+use Rattle.pair_theory.specs.declared.Alignment.{Alignment}
+use Rattle.pair_theory.specs.AlignmentLaws.{aligned-in, merged-is, mergeable}
+use Rattle.fold_merge.specs.Codes.{firstFailing, mergeTests, settingTests, limitTestsOn, mergeTestsOn}
 use Rattle.fold_merge.specs.CodeLaws.{code-passed}
 
 module _ (e : Edge) (ok : EdgeOk e) where
@@ -37,29 +37,16 @@ module _ (e : Edge) (ok : EdgeOk e) where
       ap₂ (λ (a : Aligned) (g : Gate). (scaleFits a k l else 6) ∷ (keeps (e .board) g else 24) ∷ settingTests a k l) (aligned-in e few) (merged-is e k l few)
       ∙ rw (scaleOk-fits e k l, agrees-all e ok k l)
 
-  -- the first pair, where 7 does not apply
-  first-is : length (distinct e) ≤ 16 → first (qualifiesOn (alignedIn (alignmentOf e))) pairs 16 ≡ first (qualifies e) pairs 16
-  first-is few = ap (λ (a : Aligned). first (qualifiesOn a) pairs 16) (aligned-in e few) ∙ sym (first-on e ok)
-
   -- what follows a test counts only where the test holds
   after-test : (b : Bool) (c : ℕ) {ts us : List Test} → (T b → ts ≡ us) → firstFailing ((b else c) ∷ ts) ≡ firstFailing ((b else c) ∷ us)
   unfolding firstFailing
   after-test true c h = ap firstFailing (h tt)
   after-test false c h = refl
 
-  after-checks : {A : Type 0} (b : Bool) (c : ℕ) {r q : Answer A} → (T b → r ≡ q) → checks ((b else c) ∷ []) r ≡ checks ((b else c) ∷ []) q
-  unfolding checks
-  after-checks true c h = h tt
-  after-checks false c h = refl
-
   pub tests-on : (k l : ℕ) → firstFailing (mergeTestsOn (alignmentOf e) k l) ≡ firstFailing (mergeTests e k l)
   unfolding firstFailing mergeTestsOn limitTestsOn mergeTests narrow alignmentOf aligned edgeThresholds
   tests-on k l = ap (λ (n : ℕ). cond (onDial k && onDial l) n 14)
       (after-test (leb (length (distinct e)) 16) 7 (λ t. fit-is (leb→le (length (distinct e)) 16 t) k l))
-
-  pub pair-on : pairOfAlignment (alignmentOf e) ≡ pairOf e
-  unfolding pairOfAlignment pairOf pairTests narrow alignmentOf
-  pair-on = after-checks (leb (length (distinct e)) 16) 7 (λ t. first-is (leb→le (length (distinct e)) 16 t))
 
 -- ---- where the tests before the settings hold
 pub limits-hold : (a : Alignment) (k l : ℕ) → Passed (limitTestsOn a k l) → AlignmentOnScale a → Mergeable a k l

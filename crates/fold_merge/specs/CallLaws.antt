@@ -1,4 +1,4 @@
--- Laws of a pair and a merge on a record: the answer by the number of the first test that fails. Assumes nothing.
+-- Laws of a merge, and of any call on two gates, on a record: the answer by the number of the first test that fails. Assumes nothing.
 use mathlib.Core.Path.{_≡_, refl, sym, ap, _∙_}
 use mathlib.Core.Bool.{true, false}
 use Prim.Native.Nat.{ℕ}
@@ -16,14 +16,13 @@ use Rattle.network.specs.PlaceLaws.{gateIn-gateRecord}
 use Rattle.network.specs.declared.Network.{Network}
 use Rattle.network.specs.declared.GateRecord.{GateRecord}
 use Rattle.fold_theory.specs.Merge.{Edge, edge, merged, agrees, mergeKeeps, onDial, feedTests, limits, merge}
-use Rattle.fold_theory.specs.Pair.{pairOf, pair}
 use Rattle.fold_theory.specs.LimitLaws.{PairSearched, narrow-few}
 use Rattle.fold_theory.specs.PairLaws.{dial-of}
 use Rattle.fold_theory.specs.SoundLaws.{merged-ok}
 use Rattle.fold_theory.specs.AlignedLaws.{EdgeOk}
-use Rattle.pair_alignment.specs.Alignments.{alignmentOf, mergedOf, Mergeable}
-use Rattle.pair_alignment.specs.AlignmentLaws.{merged-is, mergeable}
-use Rattle.fold_merge.specs.Answers.{onRecord, asPair, mergeCode, pairFound}
+use Rattle.pair_theory.specs.Alignments.{alignmentOf, mergedOf, Mergeable}
+use Rattle.pair_theory.specs.AlignmentLaws.{merged-is, mergeable}
+use Rattle.fold_merge.specs.Answers.{onRecord, mergeCode}
 use Rattle.fold_merge.specs.Codes.{TriedMerge, firstFailing, edgeTests, edgeTestsIn, mergeTests}
 use Rattle.fold_merge.specs.declared.MergedGate.{MergedGate}
 use Rattle.fold_merge.specs.Arrays.{edgeIn, GateReads}
@@ -34,19 +33,11 @@ use Rattle.fold_merge.specs.EdgeLaws.{joined-of, edge-is, tests-are}
 abbrev pub onGates : {A : Type 0} → (Edge → Answer A) → Network → ℕ → ℕ → Answer A
 onGates call r u v = onRecord r (λ N. checks (feedTests N u v) (call (edge N u v)))
 
--- the pair is one
-pair-call : (r : Network) (u v : ℕ) → pairFound r u v ≡ asPair (onGates pairOf r u v)
-unfolding pairFound pair
-pair-call r u v = refl
-
 -- ---- a record that is not sound
 module _ (r : Network) (s : soundRecord r ≡ false) where
   pub call-broken : {A : Type 0} (call : Edge → Answer A) (u v : ℕ) → onGates call r u v ≡ refused 20
   unfolding onRecord checks
   call-broken call u v = rw s
-
-  pub pair-broken : (u v : ℕ) → pairFound r u v ≡ asPair (refused 20)
-  pair-broken u v = pair-call r u v ∙ ap asPair (call-broken pairOf u v)
 
   pub merge-broken : (u v k l : ℕ) → mergeCode r u v k l ≡ 20
   unfolding mergeCode onRecord checks codeOf
@@ -83,9 +74,6 @@ module _ (r : Network) (s : soundRecord r ≡ true) (u v : ℕ) where
       call-apart call =
           call-sound call ∙ code-refused (edgeTests (netOf r) u v) (call (edge (netOf r) u v)) (λ e. other (number-is ∙ e)) ∙ ap refused (sym number-is)
 
-      pub pair-apart : pairFound r u v ≡ asPair (refused n)
-      pair-apart = pair-call r u v ∙ ap asPair (call-apart pairOf)
-
       pub merge-apart : (k l : ℕ) → merge (netOf r) u v k l ≡ refused n
       merge-apart k l = merge-sound k l ∙ code-refused (edgeTests (netOf r) u v) _ (λ e. other (number-is ∙ e)) ∙ ap refused (sym number-is)
 
@@ -117,9 +105,6 @@ module _ (r : Network) (s : soundRecord r ≡ true) (u v : ℕ) where
 
       pub call-joined : {A : Type 0} (call : Edge → Answer A) → onGates call r u v ≡ call here
       call-joined call = call-sound call ∙ passed-checks (edgeTests (netOf r) u v) (call (edge (netOf r) u v)) feeds ∙ ap call (sym here-is)
-
-      pub pair-joined : pairFound r u v ≡ asPair (pairOf here)
-      pair-joined = pair-call r u v ∙ ap asPair (call-joined pairOf)
 
       merge-joined : (k l : ℕ) → merge (netOf r) u v k l ≡ checks (mergeTests here k l) (accepted (withGate (netOf r) v (merged here k l)))
       merge-joined k l = merge-sound k l ∙ passed-checks (edgeTests (netOf r) u v) _ feeds

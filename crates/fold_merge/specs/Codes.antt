@@ -1,19 +1,18 @@
--- Internal: the tests of a merge and of a pair after that of the record, and the number of the first that fails. Nothing is proved here.
+-- Internal: the tests of a merge after that of the record, and the number of the first that fails. Nothing is proved here.
 use mathlib.Core.Bool.{cond, _&&_}
 use mathlib.Core.List.{List, [], _∷_, _++_}
 use Prim.Native.Nat.{ℕ, _-_}
 use lib.Dec.{leb}
 use lib.IntN.{ℤ}
-use Rattle.basics.specs.Refusals.{Answer, Test, _else_, checks, accepted, refused}
+use Rattle.basics.specs.Refusals.{Test, _else_, accepted, refused}
 use Rattle.network.specs.Threshold.{Net}
 use Rattle.network.specs.Limits.{scaleOk, keeps, gateSignal, isGate}
 use Rattle.network.specs.Changes.{gateAt, withGate}
 use Rattle.network.specs.Record.{gateFrom, netOf, noGate, gateIn, gateRecord}
 use Rattle.fold_theory.specs.Merge.{Edge, reads, merge, merged, agrees, mergeKeeps, onDial, narrow}
-use Rattle.fold_theory.specs.Pair.{Pair, pairs, first}
-use Rattle.fold_theory.specs.Aligned.{Aligned, agreesAll, scaleFits, qualifiesOn}
-use Rattle.pair_alignment.specs.Alignments.{alignedIn, mergedOf}
-use Rattle.pair_alignment.specs.declared.Alignment.{Alignment}
+use Rattle.fold_theory.specs.Aligned.{Aligned, agreesAll, scaleFits}
+use Rattle.pair_theory.specs.Alignments.{alignedIn, mergedOf}
+use Rattle.pair_theory.specs.declared.Alignment.{Alignment}
 use mathlib.Core.Path.{_≡_}
 use mathlib.Core.Logic.{_≢_}
 use Rattle.network.specs.Places.{SoundGate}
@@ -63,7 +62,3 @@ settingTests a k l = (agreesAll a k l else 15) ∷ []
 -- 14, 7, 6, 24 and 15
 unfoldable pub mergeTestsOn : Alignment → ℕ → ℕ → List Test
 mergeTestsOn a k l = limitTestsOn a k l ++ settingTests (alignedIn a) k l
-
--- 7 and 16
-unfoldable pub pairOfAlignment : Alignment → Answer Pair
-pairOfAlignment a = checks ((leb (a .count) 16 else 7) ∷ []) (first (qualifiesOn (alignedIn a)) pairs 16)

@@ -22,8 +22,8 @@ use Rattle.network.specs.declared.Network.{Network}
 use Rattle.network.specs.declared.GateRecord.{GateRecord}
 use Rattle.fold_theory.specs.Merge.{edge, reads, edgeOf}
 use Rattle.fold_theory.specs.AlignedLaws.{EdgeOk}
-use Rattle.pair_alignment.specs.Alignments as alignments
-use Rattle.pair_alignment.specs.Alignments.{Alignable}
+use Rattle.pair_theory.specs.Alignments as alignments
+use Rattle.pair_theory.specs.Alignments.{Alignable}
 use Rattle.fold_merge.specs.Arrays.{edgeIn, SoundArrays, GateReads}
 use Rattle.fold_merge.specs.ArrayLaws.{lent-gate}
 use Rattle.fold_merge.specs.Codes.{firstFailing, edgeTests, edgeTestsIn}

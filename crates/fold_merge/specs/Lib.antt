@@ -1,5 +1,4 @@
 pub mod Answers
-pub mod Files
 pub mod AnswerLaws
 pub mod Arrays
 pub mod Readers
@@ -9,4 +8,3 @@ pub mod CodeLaws
 pub mod EdgeLaws
 pub mod AlignedLaws
 pub mod CallLaws
-pub mod FileLaws

@@ -1,5 +1,4 @@
 // Calls on records that the caller has tested. Each public one asks for the lent arrays of a sound record.
 pub mod edges;
 pub mod merges;
-pub mod pairs;
 pub mod readers;

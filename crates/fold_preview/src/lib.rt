@@ -3,9 +3,9 @@ pub mod files;
 pub mod unchecked;
 
 use network::Network;
-use network::soundness::is_sound;
 use network_places::Head;
 use network_report::SizeReport;
+use network_soundness::is_sound;
 use unchecked::preview_at;
 ghost use mathlib.Core.Path.{_≡_};
 ghost use Rattle.fold_preview.specs.Preview.{previewed};

@@ -2,11 +2,9 @@
 use mathlib.Core.Path.{_≡_}
 use mathlib.Core.Bool.{true}
 use mathlib.Core.List.{List}
-use mathlib.Core.Logic.{_≢_}
-use Prim.Native.Nat.{ℕ, _+_, _≤_, _<_}
+use Prim.Native.Nat.{ℕ, _+_, _<_}
 use lib.ListN.{length, getD}
 use Rattle.network.specs.Threshold.{Net}
-use Rattle.network.specs.Changes.{lowered, raised}
 use Rattle.network.specs.declared.Network.{Network}
 use Rattle.fold_unchanged.specs.Unchanged.{RefusedBy}
 use Rattle.fold_collapse.specs.Collapsing.{collapsedBy}
@@ -20,19 +18,3 @@ pub record Remembered (N : Net) (refusers : List ℕ) : Type 0 where
 -- where a gate is chosen, the same of the network after its collapse
 pub record RememberedAfter (r : Network) (x : Choice) (refusers : List ℕ) : Type 0 where
   pub next : x .found ≡ true → Remembered (collapsedBy r (x .u) (x .pairs)) refusers
-
--- ---- after gate g was collapsed into its readers, the gates whose k is not 0
-
--- the refuser of gate w stays, as left: it is not gate g, and neither it nor gate w read gate g
-pub record RefuserKept (ks : List ℕ) (g w refuser left : ℕ) : Type 0 where
-  pub known : refuser < 128
-  pub other-gate : refuser ≢ g
-  pub gate-silent : getD ks w 0 ≡ 0
-  pub reader-silent : getD ks refuser 0 ≡ 0
-  pub moved : left ≡ lowered g refuser
-
--- of the first n gates, by the numbers that they had, a refuser stays or none is known; the others' places are as they were
-pub record RefusersKept (refusers ks : List ℕ) (g n : ℕ) (left : List ℕ) : Type 0 where
-  pub long : length left ≡ 128
-  pub each : (i : ℕ) → i < n → getD left i 0 < 128 → RefuserKept ks g (raised g i) (getD refusers (raised g i) 0) (getD left i 0)
-  pub rest : (i : ℕ) → n ≤ i → getD left i 0 ≡ getD refusers i 0

@@ -1,15 +1,11 @@
 -- What a sweep remembers is true of its network: at first nothing, then one gate more with its refuser, and what is left after a collapse.
 -- Assumes nothing.
-use mathlib.Core.Path.{_≡_, refl, sym, _∙_, subst}
-use mathlib.Core.Bool.{true, false}
+use mathlib.Core.Path.{_≡_, sym, _∙_, subst}
 use mathlib.Core.List.{List}
-use mathlib.Core.Logic.{_≢_}
 use Prim.Native.Nat.{ℕ, _+_, _≤_, _<_}
 use native.Mathlib.Omega.{arith}
-use borrow.Author.Tests.{eqb-true, eqb-false}
-use lib.Dec.{T, eqb}
+use lib.Dec.{T}
 use lib.ListN.{length, getD, set, replicate, length-set, length-replicate, getD-replicate}
-use lib.Seq.{getD-set-same, getD-set-other}
 use Rattle.basics.specs.TestLaws.{T-is}
 use Rattle.basics.specs.RefusalLaws.{Refused}
 use Rattle.network.specs.Threshold.{Net}
@@ -30,14 +26,9 @@ use Rattle.fold_collapse.specs.Collapsing.{edgeTo, pairAt, AllPairs, ReaderRefu
 use Rattle.fold_collapse.specs.CollapsingLaws.{pair-zero, pair-refused, edgeTo-net}
 use Rattle.fold_collapse.specs.declared.Pairs.{Pairs}
 use Rattle.fold_sweep.specs.Sweeping.{NextCollapse}
-use Rattle.fold_sweep.specs.Memory.{Remembered, RefuserKept, RefusersKept}
-
--- an array with another number at place i, by its places
-at-set : (P : ℕ → Type 0) (xs : List ℕ) (i j x : ℕ) → i < length xs → (j ≡ i → P x) → (j ≢ i → P (getD xs j 0)) → P (getD (set xs i x) j 0)
-at-set P xs i j x h f g = elim (eqb j i) as (λ b. eqb j i ≡ b → P (getD (set xs i x) j 0)) [
-  | true ↦ λ t. let e = eqb-true j i t in rw (e, getD-set-same xs i x 0) (f e)
-  | false ↦ λ t. let n = eqb-false j i t in rw (getD-set-other xs i j x 0 n) (g n)
-] refl
+use Rattle.fold_memory.specs.Keeping.{RefusersKept}
+use Rattle.fold_memory.specs.KeepingLaws.{at-set}
+use Rattle.fold_sweep.specs.Memory.{Remembered}
 
 -- ---- at first nothing is known
 pub remembered-none : (N : Net) → length (N .gates) ≤ 128 → Remembered N (replicate 128 128)
@@ -61,20 +52,6 @@ module _ (r : Network) {refusers : List ℕ} (m : Remembered (netOf r) refusers)
     each = λ i k. at-set (λ y. y < 128 → RefusedBy (netOf r) (r .inputs + i) (r .inputs + y)) refusers g i v (omega (arith, m .long))
         (λ e l. rw e x) (λ n. m .each i k);
   }
-
--- ---- the refusers that are left, gate by gate
-pub kept-none : (refusers ks : List ℕ) (g : ℕ) → length refusers ≡ 128 → RefusersKept refusers ks g 0 refusers
-kept-none refusers ks g l = record { long = l; each = λ i h. absurd (omega arith); rest = λ i h. refl }
-
-pub kept-more : {refusers ks : List ℕ} {g i : ℕ} {left : List ℕ} → RefusersKept refusers ks g i left → (v : ℕ) → i < 128
-    → (v < 128 → RefuserKept ks g (raised g i) (getD left (raised g i) 0) v) → RefusersKept refusers ks g (i + 1) (set left i v)
-kept-more {refusers} {ks} {g} {i} {left} m v h k = record {
-  long = length-set left i v ∙ m .long;
-  each = λ j l. at-set (λ x. x < 128 → RefuserKept ks g (raised g j) (getD refusers (raised g j) 0) x) left i j v (omega (arith, m .long))
-      (λ e. rw e (subst (λ (y : ℕ). v < 128 → RefuserKept ks g (raised g i) y v) (m .rest (raised g i) (raised-near g i .0)) k))
-      (λ n. m .each j (omega arith));
-  rest = λ j l. getD-set-other left i j v 0 (λ e. omega arith) ∙ m .rest j (omega arith);
-}
 
 -- ---- gate u of a sound record
 module _ (r : Network) (u : ℕ) (own : SoundGate r u) where

@@ -1,16 +1,14 @@
 // The choice of the gate that a sweep of a sound record, whose arrays are lent, folds next.
-mod memory;
-
 use crate::Choice;
 use basics::wide;
 use fold_collapse::Pairs;
 use fold_collapse::unchecked::no_pairs;
 use fold_collapse::unchecked::reader_pair;
 use fold_collapse::unchecked::reader_pairs;
+use fold_memory::unchecked::kept_refusers;
+use fold_memory::unchecked::lower_hints;
 use fold_merge::unchecked::readers::count_readers;
 use fold_merge::unchecked::readers::is_output;
-use memory::kept_refusers;
-use memory::lower_hints;
 use network::Board;
 use network_places::Head;
 ghost use mathlib.Core.Path.{_≡_};

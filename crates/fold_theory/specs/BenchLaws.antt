@@ -3,7 +3,8 @@ use mathlib.Core.Path.{_≡_, refl}
 use mathlib.Core.List.{map}
 use Rattle.basics.specs.Lists.{all, allFrom, below, every, keep, range, between, other}
 use Rattle.basics.specs.Refusals.{checks}
-use Rattle.gate_margins.specs.Sums.{everySum, apart, outside}
+use Rattle.gate_rising.specs.Sums.{everySum}
+use Rattle.gate_margins.specs.Sums.{apart, outside}
 use Rattle.network.specs.Threshold.{negated, sum, bit, assign, frame}
 use Rattle.network.specs.Limits.{signalsOf, rising, inScale, isZero, weighs, weightOk, scaleOk, gateOk, boardOk, weightsOf, keeps, gateSignal, isGate}
 use Rattle.network.specs.Limits.{soundTests, sound}

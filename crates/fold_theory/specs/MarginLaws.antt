@@ -15,7 +15,8 @@ use Rattle.basics.specs.Lists.{below}
 use Rattle.basics.specs.ListLaws.{below-at, at-below}
 use Rattle.basics.specs.IntegerLaws.{#, nat, _⊕_, _⊖_, le-of, of-le, of-gt}
 use Rattle.basics.specs.TestLaws.{is-true, is-false, T-and, and-T, and-true, T-or, or-T, or-case, test-same, beq-eq, eq-beq}
-use Rattle.gate_margins.specs.Sums.{everySum, apart, outside}
+use Rattle.gate_rising.specs.Sums.{everySum}
+use Rattle.gate_margins.specs.Sums.{apart, outside}
 use Rattle.gate_margins.specs.SumLaws.{outside-always}
 use Rattle.gate_sums.specs.Tables.{sumAt}
 use Rattle.network.specs.Threshold.{Feed, Gate, Assignment, sum, assign}

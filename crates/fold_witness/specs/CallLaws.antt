@@ -14,7 +14,7 @@ use Rattle.network.specs.SoundLaws.{sound-board}
 use Rattle.network.specs.declared.Network.{Network}
 use Rattle.fold_theory.specs.Merge.{Edge, edge, distinct, narrow, agreesAt}
 use Rattle.fold_theory.specs.AlignedLaws.{EdgeOk}
-use Rattle.pair_alignment.specs.Alignments.{alignmentOf}
+use Rattle.pair_theory.specs.Alignments.{alignmentOf}
 use Rattle.fold_merge.specs.Answers.{mergeCode}
 use Rattle.fold_merge.specs.Arrays.{edgeIn}
 use Rattle.fold_merge.specs.ArrayLaws.{lent-of}

@@ -26,7 +26,8 @@ use Rattle.fold_merge.specs.Answers.{mergeCode}
 use Rattle.fold_merge.specs.AnswerLaws.{on-layout}
 use Rattle.fold_witness.specs.declared.Witnessed.{Witnessed}
 use Rattle.fold_witness.specs.declared.DistinctFeeds.{DistinctFeeds}
-use Rattle.fold_witness.specs.Witness.{Fewest, WitnessOf}
+use Rattle.pair_witness.specs.Fewest.{Fewest}
+use Rattle.fold_witness.specs.Witness.{WitnessOf}
 use Rattle.fold_witness.specs.Feeds.{feedsOf, feeds, asFeeds, distinctFeeds}
 use Rattle.fold_witness.specs.Parts.{feedPlaces}
 use Rattle.fold_witness.specs.Files.{WitnessLeft, distinctPlaces}

@@ -4,7 +4,7 @@ use Rattle.basics.specs.Refusals.{Answer, accepted, refused, bind, codeOf}
 use Rattle.network.specs.Threshold.{Net}
 use Rattle.fold_theory.specs.Merge.{edge, distinct, agreesAt, merge}
 use Rattle.pmn_opening.specs.Files.{openNet}
-use Rattle.fold_witness.specs.Witness.{Fewest}
+use Rattle.pair_witness.specs.Fewest.{Fewest}
 use Rattle.fold_witness.specs.Feeds.{feeds}
 
 -- on the network that was read, "with the merge's own number"; only with 15 a setting is put into place 0, with the fewest ones of those

@@ -15,7 +15,8 @@ use Rattle.network.specs.Threshold.{Assignment}
 use Rattle.network.specs.Sound.{Rise}
 use Rattle.fold_theory.specs.Merge.{Edge, distinct, setting, agreesAt}
 use Rattle.fold_theory.specs.AlignedLaws.{EdgeOk, distinct-rise}
-use Rattle.fold_witness.specs.Witness.{Fewest, lit}
+use Rattle.pair_witness.specs.Fewest.{Fewest}
+use Rattle.fold_witness.specs.Witness.{lit}
 
 -- on a setting of a rising list of signals
 lit-setting : (ρ : Assignment) (low own : ℕ) (ds : List ℕ) (s : ℕ) → Rise low own ds → ((x : ℕ) → low ≤ x → ρ x ≡ setting ds s x)

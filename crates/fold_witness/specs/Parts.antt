@@ -7,8 +7,10 @@ use lib.Dec.{leb}
 use lib.ListN.{take}
 use Rattle.basics.specs.Refusals.{refused, _else_}
 use Rattle.fold_theory.specs.Aligned.{agreesOn, clearsOn, clearsAll}
-use Rattle.pair_alignment.specs.Alignments.{alignedIn}
-use Rattle.pair_alignment.specs.declared.Alignment.{Alignment}
+use Rattle.pair_theory.specs.Alignments.{alignedIn}
+use Rattle.pair_theory.specs.declared.Alignment.{Alignment}
+use Rattle.pair_witness.specs.declared.Unclear.{Unclear}
+use Rattle.pair_witness.specs.declared.Unclear.the-variants.{At, Nowhere}
 use Rattle.fold_merge.specs.Codes.{firstFailing, settingTests, mergeTestsOn}
 use Rattle.fold_witness.specs.declared.Witnessed.{Witnessed}
 use Rattle.fold_witness.specs.declared.DistinctFeeds.{DistinctFeeds}
@@ -18,6 +20,11 @@ use Rattle.fold_witness.specs.Feeds.{asFeeds}
 -- none, with a number
 unfoldable pub noWitness : ℕ → Witnessed
 noWitness code = record { code = code; setting = 0 }
+
+-- what a pass over the settings found, with 15 or 0
+unfoldable pub asWitness : Unclear → Witnessed
+asWitness (At s) = record { code = 15; setting = s }
+asWitness Nowhere = noWitness 0
 
 -- a setting of two gates on which the merged gate is not clear, with 15, or 0
 abbrev pub FewestOn : Alignment → ℕ → ℕ → Witnessed → Type 0

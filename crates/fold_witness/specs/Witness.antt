@@ -1,19 +1,13 @@
 -- The fewest lit patches that show it: what a witness of a merge is, and what the call promises. Document 02, No. 9. Nothing is proved
 -- here.
-use Rattle.basics.specs.Library.{_≡_, Bool, false, ℕ, _^_, _≤_, _<_, ones, length}
+use Rattle.basics.specs.Library.{_≡_, Bool, ℕ, _^_, length}
 use Rattle.basics.specs.Lists.{keep}
 use Rattle.network.specs.Record.{netOf}
 use Rattle.network.specs.declared.Network.{Network}
 use Rattle.fold_theory.specs.Merge.{Edge, edge, distinct, setting, agreesAt}
+use Rattle.pair_witness.specs.Fewest.{Fewest}
 use Rattle.fold_merge.specs.Answers.{mergeCode}
 use Rattle.fold_witness.specs.declared.Witnessed.{Witnessed}
-
--- "a setting of the distinct signals on which the two differ, with as few of them lit as any such setting has": of n settings, where
--- `agree` says on which the two agree
-pub record Fewest (n : ℕ) (agree : ℕ → Bool) (setting : ℕ) : Type 0 where
-  pub inside : setting < n
-  pub differs : agree setting ≡ false
-  pub fewest : (other : ℕ) → other < n → agree other ≡ false → ones setting ≤ ones other
 
 -- an answer with this number, and a setting where it is 15; "for other merges the answer is none": 0 in its place
 pub record Shows (number n : ℕ) (agree : ℕ → Bool) (w : Witnessed) : Type 0 where

@@ -1,49 +1,48 @@
 -- Laws of what an answer shows: none with a number other than 15, a setting with 15, and the same said of the two gates. Assumes nothing.
 use mathlib.Core.Path.{_≡_, refl, sym, ap, _∙_, subst, fun-ext}
-use mathlib.Core.Bool.{Bool, true}
+use mathlib.Core.Bool.{Bool}
 use mathlib.Core.List.{[], _∷_}
 use Prim.Native.Nat.{ℕ, _^_}
 use native.Mathlib.Omega.{arith}
 use lib.Dec.{leb→le}
 use lib.ListN.{length}
 use Rattle.basics.specs.Refusals.{_else_}
-use Rattle.basics.specs.Lists.{below}
 use Rattle.basics.specs.ListLaws.{below-no}
 use Rattle.fold_theory.specs.Merge.{Edge, distinct, agreesAt}
 use Rattle.fold_theory.specs.Aligned.{Aligned, agreesOn, clearsOn}
 use Rattle.fold_theory.specs.AlignedLaws.{EdgeOk, agreesAt-on}
-use Rattle.pair_alignment.specs.Alignments.{alignmentOf, alignedIn, Searchable}
-use Rattle.pair_alignment.specs.AlignmentLaws.{aligned-in}
-use Rattle.pair_alignment.specs.declared.Alignment.{Alignment}
+use Rattle.pair_theory.specs.Alignments.{alignmentOf, alignedIn, Searchable}
+use Rattle.pair_theory.specs.AlignmentLaws.{aligned-in}
+use Rattle.pair_theory.specs.declared.Alignment.{Alignment}
 use Rattle.pair_agreement.specs.Agreement.{plainly}
 use Rattle.pair_agreement.specs.GateLaws.{every-setting, plain-on, plain-all}
+use Rattle.pair_witness.specs.declared.Unclear.{Unclear}
+use Rattle.pair_witness.specs.declared.Unclear.the-variants.{At, Nowhere}
+use Rattle.pair_witness.specs.Fewest.{Fewest}
+use Rattle.pair_witness.specs.Pass.{FewestUnclear}
 use Rattle.fold_merge.specs.Codes.{firstFailing, settingTests, limitTestsOn, mergeTestsOn, mergeTests}
 use Rattle.fold_merge.specs.CodeLaws.{code-after, code-before, code-never, passed-before}
 use Rattle.fold_merge.specs.AlignedLaws.{tests-on, limits-passed}
 use Rattle.fold_witness.specs.declared.Witnessed.{Witnessed}
-use Rattle.fold_witness.specs.Witness.{Fewest, Shows}
-use Rattle.fold_witness.specs.Parts.{noWitness, FewestOn, DiffersOn, WitnessOfAlignment}
+use Rattle.fold_witness.specs.Witness.{Shows}
+use Rattle.fold_witness.specs.Parts.{noWitness, asWitness, FewestOn, DiffersOn, WitnessOfAlignment}
 
 -- none, with a number other than 15
 pub none-shows : (number n : ℕ) (agree : ℕ → Bool) → (number ≡ 15 → ⊥) → {w : Witnessed} → w ≡ noWitness number → Shows number n agree w
 none-shows number n agree h {w} e =
     subst (Shows number n agree) (sym e) (unfold noWitness in record { number-is = refl; shown = λ q. absurd (h q); none = λ q. refl })
 
--- ---- on every setting
-module _ (a : Alignment) (f : Searchable a) (k l : ℕ) where
-  -- a setting that differs, with the fewest ones: some setting differs, so the number is 15
-  pub some-differs : (s : ℕ) → Fewest (2 ^ a .count) (clearsOn (alignedIn a) k l) s → FewestOn a k l (record { code = 15; setting = s })
-  unfolding firstFailing
-  some-differs s w = record {
-    number-is = rw (every-setting a f k l ∙ below-no (2 ^ a .count) (clearsOn (alignedIn a) k l) s (w .inside) (w .differs));
-    shown = λ q. w;
-    none = λ q. absurd (q refl);
-  }
-
-  -- every setting is clear: none, with 0
-  pub none-differs : below (2 ^ a .count) (clearsOn (alignedIn a) k l) ≡ true → {w : Witnessed} → w ≡ noWitness 0 → FewestOn a k l w
-  unfolding firstFailing
-  none-differs e {w} h = rw (every-setting a f k l ∙ e) (none-shows 0 (2 ^ a .count) (clearsOn (alignedIn a) k l) (λ (q : 0 ≡ 15). absurd (omega arith)) h)
+-- what a pass over the settings found
+pub found-shows : (a : Alignment) → Searchable a → (k l : ℕ) (x : Unclear) → FewestUnclear (2 ^ a .count) (clearsOn (alignedIn a) k l) x
+    → {w : Witnessed} → w ≡ asWitness x → FewestOn a k l w
+unfolding firstFailing FewestUnclear asWitness
+found-shows a f k l (At s) h e = subst (FewestOn a k l) (sym e) (record {
+  number-is = rw (every-setting a f k l ∙ below-no (2 ^ a .count) (clearsOn (alignedIn a) k l) s (h .inside) (h .differs));
+  shown = λ q. h;
+  none = λ q. absurd (q refl);
+})
+found-shows a f k l Nowhere h e =
+    rw (every-setting a f k l ∙ h) (none-shows 0 (2 ^ a .count) (clearsOn (alignedIn a) k l) (λ (q : 0 ≡ 15). absurd (omega arith)) e)
 
 -- without margins, what is not clear differs
 pub plain-differs : (a : Alignment) (k l : ℕ) {w : Witnessed} → FewestOn (plainly a) k l w → DiffersOn a k l w

@@ -5,7 +5,7 @@ pub mod unchecked;
 use fold_merge::unchecked::edges::aligned_at;
 use fold_merge::unchecked::edges::edge_code;
 use network::Network;
-use network::soundness::is_sound;
+use network_soundness::is_sound;
 use unchecked::listed;
 use unchecked::no_feeds;
 use unchecked::none;

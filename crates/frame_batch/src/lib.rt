@@ -3,7 +3,7 @@ pub mod files;
 pub mod unchecked;
 
 use network::Network;
-use network::soundness::is_sound;
+use network_soundness::is_sound;
 use unchecked::read_sound;
 ghost use mathlib.Core.Path.{_≡_};
 ghost use Rattle.basics.specs.Refusals.{codeOf, stored};

@@ -2,7 +2,7 @@
 pub mod unchecked;
 
 use network::Network;
-use network::soundness::is_sound;
+use network_soundness::is_sound;
 use unchecked::read_sound;
 use unchecked::refused;
 ghost use mathlib.Core.Path.{_≡_};

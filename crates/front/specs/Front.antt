@@ -12,8 +12,9 @@ use Rattle.fold_theory.specs.Pair.{pair}
 use Rattle.fold_theory.specs.Collapse.{collapse}
 use Rattle.journal.specs.Records.{tested, justRead}
 use Rattle.journal.specs.declared.Record.{Record}
-use Rattle.fold_merge.specs.Answers.{onRecord, asPair}
-use Rattle.fold_merge.specs.declared.PairFound.{PairFound}
+use Rattle.fold_merge.specs.Answers.{onRecord}
+use Rattle.fold_pair.specs.Answers.{asPair}
+use Rattle.fold_pair.specs.declared.PairFound.{PairFound}
 use Rattle.pmn_reader.specs.Answers.{loaded}
 use Rattle.pmn_writer.specs.Answers as writing
 use Rattle.pmn_writer.specs.declared.Written.{Written}

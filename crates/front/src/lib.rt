@@ -5,7 +5,7 @@ use alley_theory::Listed;
 use alley_theory::Totals;
 use call_theory::Call;
 use cut_output::CutAnswer;
-use fold_merge::PairFound;
+use fold_pair::PairFound;
 use fold_witness::DistinctFeeds;
 use fold_witness::Witnessed;
 use frame_reading::Reading;
@@ -179,7 +179,7 @@ pub fn pair(held: Record, u: usize, v: usize) -> PairFound
             l: 0,
         };
     }
-    fold_merge::pair(held.network, u, v)
+    fold_pair::pair(held.network, u, v)
 }
 
 // Gates, cost and levels that a collapse of the gate with signal s would leave; the record is not changed. Refusals: those of the collapse.

@@ -12,8 +12,8 @@ use Rattle.basics.specs.Lists.{below}
 use Rattle.basics.specs.ListLaws.{below-at, at-below}
 use Rattle.basics.specs.IntegerLaws.{#, _⊕_, of-le, le-of}
 use Rattle.basics.specs.TestLaws.{is-true, T-is, T-isnt, T-or, or-T, or-second}
+use Rattle.gate_rising.specs.Tables.{AtMost}
 use Rattle.gate_margins.specs.Sums.{apart}
-use Rattle.gate_margins.specs.Tables.{AtMost}
 
 module _ (f h : ℕ → ℤ) (n m : ℕ) (floor ceiling : ℤ) where
   -- the sum of two members is not between

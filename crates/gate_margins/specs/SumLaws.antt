@@ -1,18 +1,15 @@
--- Laws of the sums of some of a list of weights: joined lists, weights of 0, their size; and of the margins of version 1. Assumes
--- nothing.
+-- Laws of the sums of some of a list of weights: joined lists, weights of 0; and of the margins of version 1. Assumes nothing.
 use mathlib.Core.Path.{_≡_, refl, sym, ap, ap₂, _∙_, fun-ext}
 use mathlib.Core.Bool.{Bool, true, false, _&&_}
 use mathlib.Core.List.{List, [], _∷_, _++_}
-use Prim.Native.Nat.{suc, _*_, _≤_}
 use native.Mathlib.Omega.{arith}
 use lib.Dec.{T}
-use lib.IntN.{ℤ, pos, natAbs, _+ℤ_, _-ℤ_, +ℤ-assoc, +ℤ-idl}
+use lib.IntN.{ℤ, pos, _+ℤ_, _-ℤ_, +ℤ-assoc, +ℤ-idl}
 use lib.Signed.{leZ}
-use lib.ListN.{length}
-use Rattle.basics.specs.SizeLaws.{SizesWithin, size-add}
 use Rattle.basics.specs.IntegerLaws.{#, nat, _⊕_, _⊖_, of-le, gt-of}
 use Rattle.basics.specs.TestLaws.{is-true, and-T, or-T, T-or, test-case}
-use Rattle.gate_margins.specs.Sums.{everySum, apart, outside}
+use Rattle.gate_rising.specs.Sums.{everySum}
+use Rattle.gate_margins.specs.Sums.{apart, outside}
 
 -- ---- every sum
 
@@ -42,14 +39,6 @@ and-same false = refl
 pub every-zero : (p : ℤ → Bool) (ws : List ℤ) → everySum p (pos 0 ∷ ws) ≡ everySum p ws
 unfolding everySum
 every-zero p ws = ap (λ (b : Bool). everySum p ws && b) (every-same (λ z. p (pos 0 +ℤ z)) p ws (λ z. ap p (+ℤ-idl z))) ∙ and-same (everySum p ws)
-
--- no sum is above the weights' sizes together
-pub every-small : (p : ℤ → Bool) (ws : List ℤ) → SizesWithin 1000000 ws → ((z : ℤ) → natAbs z ≤ 1000000 * length ws → T (p z)) → T (everySum p ws)
-unfolding everySum
-every-small p [] s h = h (pos 0) (omega arith)
-every-small p (w ∷ ws) s h = and-T (everySum p ws) (everySum (λ z. p (w +ℤ z)) ws)
-    (every-small p ws (λ i. s (suc i)) (λ z k. h z (omega arith)))
-    (every-small (λ z. p (w +ℤ z)) ws (λ i. s (suc i)) (λ z k. h (w +ℤ z) (omega (arith, size-add w z, s 0))))
 
 -- ---- the margins of version 1
 

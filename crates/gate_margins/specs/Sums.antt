@@ -1,10 +1,5 @@
--- The sums of some of a list of weights, and the open interval in which none may lie. Document 02, No. 8. Nothing is proved here.
-use Rattle.basics.specs.Library.{Bool, _&&_, _||_, List, [], _∷_, ℕ, ℤ, pos, _+ℤ_, _-ℤ_, leZ}
-
--- p holds of the sum of the weights that are 1, whichever they are
-unfoldable pub everySum : (ℤ → Bool) → List ℤ → Bool
-everySum p [] = p (pos 0)
-everySum p (w ∷ ws) = everySum p ws && everySum (λ z. p (w +ℤ z)) ws
+-- The open interval in which no sum of some of a list of weights may lie. Document 02, No. 8. Nothing is proved here.
+use Rattle.basics.specs.Library.{Bool, _||_, ℕ, ℤ, pos, _+ℤ_, _-ℤ_, leZ}
 
 -- z does not lie above floor and below ceiling
 unfoldable pub apart : ℤ → ℤ → ℤ → Bool

@@ -21,7 +21,7 @@ use Rattle.journal.specs.declared.CallAnswer.{CallAnswer}
 use Rattle.journal.specs.declared.Record.{Record}
 use Rattle.fold_preview.specs.Preview.{previewed}
 use Rattle.fold_preview.specs.PreviewLaws.{preview-broken, preview-refused, preview-shown}
-use Rattle.call_apply.specs.ApplyLaws.{call-shown}
+use Rattle.call_preview.specs.PreviewLaws.{call-shown}
 use Rattle.guarantees.specs.Previews.{PreviewClaim}
 
 module _ (r : Record) (shape : ArrayLengths (r .network)) (few : r .journal .count ≤ 64) (s : ℕ) where

@@ -3,7 +3,8 @@ use Rattle.basics.specs.Library.{_≢_, ℕ}
 use Rattle.call_theory.specs.declared.Call.{Call}
 use Rattle.journal.specs.Answers.{applied}
 use Rattle.journal.specs.declared.Record.{Record}
-use Rattle.fold_merge.specs.Answers.{mergeCode, pairFound}
+use Rattle.fold_merge.specs.Answers.{mergeCode}
+use Rattle.fold_pair.specs.Answers.{pairFound}
 use Rattle.fold_preview.specs.Preview.{previewed}
 
 -- no call of a list (merge, drop, collapse, sweep, preview, undo), no witness, pair or preview, with any numbers, answers 13; the record may be broken

@@ -15,7 +15,8 @@ use Rattle.call_theory.specs.declared.Call.{Call}
 use Rattle.journal.specs.Records.{stateOf, soundWhole}
 use Rattle.journal.specs.Answers.{asCallAnswer, applied}
 use Rattle.journal.specs.declared.Record.{Record}
-use Rattle.fold_merge.specs.Answers.{onRecord, asPair, mergeCode, pairFound}
+use Rattle.fold_merge.specs.Answers.{onRecord, mergeCode}
+use Rattle.fold_pair.specs.Answers.{asPair, pairFound}
 use Rattle.network_report.specs.Size.{reportOf}
 use Rattle.fold_preview.specs.Preview.{previewed}
 use Rattle.guarantees.specs.Thirteen.{NeverThirteen}

@@ -2,11 +2,8 @@ pub mod Journals
 pub mod Records
 pub mod Answers
 pub mod Parts
-pub mod Entering
 pub mod StepPlaces
 pub mod ShiftLaws
-pub mod EnteringLaws
 pub mod PartsLaws
-pub mod NewestLaws
 pub mod JournalLaws
 pub mod AnswerLaws

@@ -1,9 +1,6 @@
 // The record: a network with the journal of its last 64 accepted steps, by value; and what a call of a list on it answers.
-pub mod unchecked;
-
 use call_theory::Figures;
 use network::Network;
-use network::soundness;
 ghost use mathlib.Core.Path.{_≡_};
 ghost use Rattle.journal.specs.Journals.{emptyJournal};
 ghost use Rattle.journal.specs.Records.{justRead, soundWhole};
@@ -78,7 +75,7 @@ pub fn is_sound(held: Record) -> bool
     let network = held.network;
     let journal = held.journal;
     let count = journal.count;
-    soundness::is_sound(network) & (count <= 64)
+    network_soundness::is_sound(network) & (count <= 64)
 }
 
 // A refusal, with the record that came in.

@@ -13,7 +13,8 @@ use Rattle.basics.specs.Lists.{all, below, keep, range, tab, Each}
 use Rattle.basics.specs.SizeLaws.{SizesWithin}
 use Rattle.basics.specs.ListLaws.{at-below, length-range, length-tab, getD-tab, all-tab}
 use Rattle.basics.specs.TestLaws.{is-true, T-is, T-and, and-T}
-use Rattle.gate_margins.specs.Sums.{everySum, outside}
+use Rattle.gate_rising.specs.Sums.{everySum}
+use Rattle.gate_margins.specs.Sums.{outside}
 use Rattle.gate_margins.specs.Tables.{OnScale}
 use Rattle.gate_margins.specs.SumLaws.{every-zero, margins-always}
 use Rattle.network.specs.Threshold.{Feed, Gate, Net}

@@ -5,7 +5,8 @@ use Prim.Native.Nat.{ℕ, _*_, _≤_, _<_}
 use lib.IntN.{ℤ, pos}
 use lib.ListN.{getD}
 use Rattle.basics.specs.Lists.{range}
-use Rattle.gate_margins.specs.Sums.{everySum, outside}
+use Rattle.gate_rising.specs.Sums.{everySum}
+use Rattle.gate_margins.specs.Sums.{outside}
 use Rattle.gate_margins.specs.Tables.{OnScale}
 use Rattle.network.specs.declared.Board.{Board}
 

@@ -15,7 +15,7 @@ pub struct SizeReport {
 pub fn report(network: Network) -> SizeReport
     ensures { λ r. ⌜ r ≡ reported network ⌝ }
 {
-    if !network::soundness::is_sound(network) {
+    if !network_soundness::is_sound(network) {
         return SizeReport {
             code: 20,
             gates: 0,

@@ -1,38 +1,26 @@
 -- Laws of two gates by their distinct feeds: what the tests of the scale and of the settings find, feed by feed and setting by setting, is
 -- the definitions' answer. Assumes nothing.
-use mathlib.Core.Path.{_≡_, refl, sym, ap, ap₂, _∙_, subst, fun-ext}
-use mathlib.Core.Bool.{Bool, true, false}
-use mathlib.Core.List.{List}
-use Prim.Native.Nat.{ℕ, _+_, _*_, _^_, _≤_, _<_}
-use native.Mathlib.Nat.{mul-le-mul}
+use mathlib.Core.Path.{_≡_, refl, sym, ap, _∙_, fun-ext}
+use mathlib.Core.Bool.{true, false}
+use Prim.Native.Nat.{ℕ, _^_, _<_}
+use native.Mathlib.Decide.{decLt}
 use native.Mathlib.Omega.{arith}
-use lib.Dec.{T}
-use lib.IntN.{ℤ, pos, natAbs, _*ℤ_}
+use borrow.Author.Tests.{eq-eqb}
+use lib.Dec.{eqb}
+use lib.IntN.{pos}
 use lib.ListN.{length, getD, take}
 use lib.Seq.{getD-take, length-take-le}
 use Rattle.basics.specs.Lists.{below}
-use Rattle.basics.specs.TestLaws.{is-true, T-is, and-true, and-false-right}
-use Rattle.basics.specs.ListLaws.{below-at, at-below, below-no}
-use Rattle.basics.specs.SizeLaws.{size-add, size-mul}
+use Rattle.basics.specs.TestLaws.{is-true, and-true, and-false-right, eqb-no}
+use Rattle.basics.specs.ListLaws.{at-below, below-no}
 use Rattle.network.specs.Limits.{inScale}
-use Rattle.fold_theory.specs.Aligned.{Aligned, mix, mixedThreshold, clears, withoutMargins, agreesOn, agreesAll, clearsOn, clearsAll, mixedWeight, scaleFits}
+use Rattle.fold_theory.specs.Aligned.{Aligned, mix, mixedThreshold, withoutMargins, agreesOn, agreesAll, clearsOn, clearsAll, mixedWeight, scaleFits}
 use Rattle.fold_theory.specs.MarginLaws.{plain-same}
-use Rattle.fold_theory.specs.declared.Thresholds.{Thresholds}
-use Rattle.pair_alignment.specs.declared.Alignment.{Alignment}
-use Rattle.pair_alignment.specs.Alignments.{alignedIn, ThresholdsWithin, Searchable, DialLimits}
-use Rattle.gate_sums.specs.Tables.{Sums, sumFrom, sumAt}
-use Rattle.gate_sums.specs.SumLaws.{sums-small, sum-from}
-use Rattle.pair_agreement.specs.Agreement.{SumTables, reduced, plainly}
-use Rattle.pair_agreement.specs.Blocks.{BlockClear}
-use Rattle.pair_agreement.specs.HalfLaws.{SettingHalves, sum-halves, clears-reduced}
-
--- the merged threshold's size
-pub mixedThreshold-small : (t : Thresholds) (k l : ℕ) → ThresholdsWithin 10000000 t → DialLimits k l → natAbs (mixedThreshold t k l) ≤ 640000000
-unfolding mixedThreshold
-mixedThreshold-small t k l n d =
-    let x : natAbs (pos k *ℤ t .own) ≤ 320000000 = rw size-mul (mul-le-mul (d .k-high) (n .own-small)) in
-    let y : natAbs (pos l *ℤ t .on) ≤ 320000000 = rw size-mul (mul-le-mul (d .l-high) (n .on-small)) in
-    omega (arith, size-add (pos k *ℤ t .own) (pos l *ℤ t .on))
+use Rattle.pair_theory.specs.declared.Alignment.{Alignment}
+use Rattle.pair_theory.specs.Alignments.{alignedIn, Searchable}
+use Rattle.gate_sums.specs.Tables.{sumAt}
+use Rattle.pair_blocks.specs.Blocks.{ClearSettings}
+use Rattle.pair_agreement.specs.Agreement.{plainly}
 
 module _ (a : Alignment) where
   abbrev pub gates : Aligned
@@ -49,16 +37,6 @@ module _ (a : Alignment) where
   pub threshold-is : (k l : ℕ) → mixedThreshold (gates .thresholds) k l ≡ mixedThreshold (a .thresholds) k l
   unfolding alignedIn
   threshold-is k l = refl
-
-  -- the tables
-  pub tables-small : {tu tv : List ℤ} → Searchable a → Sums (a .us) 256 tu → Sums (a .vs) 256 tv → SumTables tu tv
-  tables-small f u v = record { u-small = sums-small u (f .fair .us-small); v-small = sums-small v (f .fair .vs-small) }
-
-  -- a setting, from the tables
-  pub clears-is : {tu tv : List ℤ} → Searchable a → Sums (a .us) 256 tu → Sums (a .vs) 256 tv → (k l s : ℕ) → s < 2 ^ a .count
-      → clearsOn gates k l s ≡ clears (a .thresholds) k l (sumFrom tu s) (sumFrom tv s)
-  unfolding clearsOn alignedIn
-  clears-is f u v k l s h = rw (sum-from u (f .fair .us-small) (a .count) s (f .few) h, sum-from v (f .fair .vs-small) (a .count) s (f .few) h)
 
   module _ (f : Searchable a) (k l : ℕ) where
     -- ---- the scale
@@ -80,32 +58,16 @@ module _ (a : Alignment) where
     pub one-short : (s : ℕ) → s < 2 ^ a .count → clearsOn gates k l s ≡ false → clearsAll gates k l ≡ false
     one-short s h e = every-setting ∙ below-no (2 ^ a .count) (clearsOn gates k l) s h e
 
-    pub all-clear : {tu tv : List ℤ} → Sums (a .us) 256 tu → Sums (a .vs) 256 tv
-        → below (2 ^ a .count) (λ s. clears (a .thresholds) k l (sumFrom tu s) (sumFrom tv s)) ≡ true → clearsAll gates k l ≡ true
-    all-clear {tu} {tv} u v e =
-        let p : ℕ → Bool = λ s. clears (a .thresholds) k l (sumFrom tu s) (sumFrom tv s) in
-        every-setting
-        ∙ is-true _ (at-below (2 ^ a .count) (clearsOn gates k l) λ s h. subst T (sym (clears-is f u v k l s h)) (below-at (2 ^ a .count) p (T-is _ e) s h))
-
--- ---- what a test says, of a whole setting and of its two halves
-module _ {a : Alignment} {tu tv : List ℤ} (f : Searchable a) (u : Sums (a .us) 256 tu) (v : Sums (a .vs) 256 tv) where
-  pub tested : (k l s : ℕ) {b : Bool} → s < 2 ^ a .count → b ≡ clears (a .thresholds) k l (sumFrom tu s) (sumFrom tv s) → b ≡ clearsOn (alignedIn a) k l s
-  tested k l s h t = t ∙ sym (clears-is a f u v k l s h)
-
-  pub tested-low : (k l lows high low : ℕ) {b : Bool} → SettingHalves (a .count) lows high low
-      → b ≡ clears (reduced (a .thresholds) (getD tu (256 + high) (pos 0)) (getD tv (256 + high) (pos 0))) k l (getD tu low (pos 0)) (getD tv low (pos 0))
-      → b ≡ clearsOn (alignedIn a) k l (high * lows + low)
-  tested-low k l lows high low h t =
-      tested k l (high * lows + low) (h .inside)
-      (t
-      ∙ clears-reduced (a .thresholds) k l (getD tu (256 + high) (pos 0)) (getD tv (256 + high) (pos 0)) (getD tu low (pos 0)) (getD tv low (pos 0))
-      ∙ sym (ap₂ (clears (a .thresholds) k l) (sum-halves tu (a .count) lows high low h) (sum-halves tv (a .count) lows high low h)))
-
-  -- a block, from what is left for the low half
-  pub tested-block : (k l lows high : ℕ) → ((j : ℕ) → j < lows → SettingHalves (a .count) lows high j)
-      → BlockClear (reduced (a .thresholds) (getD tu (256 + high) (pos 0)) (getD tv (256 + high) (pos 0))) k l lows tu tv
-      → (j : ℕ) → j < lows → T (clearsOn (alignedIn a) k l (high * lows + j))
-  tested-block k l lows high halves clear j h = subst T (tested-low k l lows high j (halves j h) refl) (clear j h)
+-- every setting is clear where so many are as there are
+pub clear-all : {a : Alignment} → Searchable a → (k l : ℕ) {r : ℕ} → ClearSettings (2 ^ a .count) (clearsOn (alignedIn a) k l) r
+    → eqb r (2 ^ a .count) ≡ clearsAll (alignedIn a) k l
+clear-all {a} f k l {r} s = elim (decLt r (2 ^ a .count)) as (λ d. eqb r (2 ^ a .count) ≡ clearsAll (alignedIn a) k l) [
+  | yes h ↦ eqb-no r (2 ^ a .count) (λ (q : r ≡ 2 ^ a .count). absurd (omega (arith, h, q))) ∙ sym (every-setting a f k l ∙ s .short h)
+  | no h ↦
+      let last : r ≡ 2 ^ a .count = omega (arith, h, s .within) in
+      let all = is-true _ (at-below (2 ^ a .count) (clearsOn (alignedIn a) k l) λ j i. s .clear j (omega (arith, i, last))) in
+      eq-eqb r (2 ^ a .count) last ∙ sym (every-setting a f k l ∙ all)
+]
 
 -- ---- agreement is clearing without margins
 pub plain-searchable : (a : Alignment) → Searchable a → Searchable (plainly a)

@@ -15,9 +15,9 @@ use Rattle.network.specs.Threshold.{Feed}
 use Rattle.network.specs.Limits.{isZero}
 use Rattle.fold_theory.specs.Merge.{Edge, weightOf, among, distinct}
 use Rattle.fold_theory.specs.AlignedLaws.{EdgeOk, reads-weight, u-apart}
-use Rattle.pair_alignment.specs.Alignments.{weightTable, withU}
+use Rattle.pair_theory.specs.Alignments.{weightTable, withU}
 use Rattle.basics.specs.PlaceLaws.{set-tab, keep-last, places-none, places-last, places-full, placed-last, placed-full}
-use Rattle.pair_alignment.specs.declared.Alignment.{Alignment}
+use Rattle.pair_theory.specs.declared.Alignment.{Alignment}
 
 -- the distinct feeds below s
 abbrev pub found : Edge → ℕ → List ℕ

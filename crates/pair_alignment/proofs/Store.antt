@@ -10,7 +10,7 @@ use Rattle.basics.specs.ListLaws.{tab-replicate}
 use Rattle.network.specs.Threshold.{Feed}
 use Rattle.network.specs.Record.{feedsFrom, feedAt}
 use Rattle.fold_theory.specs.Merge.{weightOf}
-use Rattle.pair_alignment.specs.Alignments.{weightTable}
+use Rattle.pair_theory.specs.Alignments.{weightTable}
 use Rattle.basics.specs.PlaceLaws.{set-tab}
 
 -- no feed, and one feed more in front

@@ -1,22 +1,17 @@
-// Two gates aligned by their distinct feeds, and merged. The caller has tested the gates, the edge and the limits.
-use crate::Alignment;
+// Two gates aligned by their distinct feeds. The caller has tested the gates and the edge.
 use basics::magnitude;
 use basics::wide;
 use fold_theory::Thresholds;
 use network::Board;
 use network::GateRecord;
+use pair_complement::unchecked::complemented;
+use pair_theory::Alignment;
 ghost use mathlib.Core.Path.{_≡_};
 ghost use mathlib.Core.Bool.{not, _||_};
-ghost use mathlib.Core.List.{map};
 ghost use Prim.Native.Nat.{_≤_};
-ghost use lib.IntN.{negℤ};
-ghost use lib.ListN.{length};
-ghost use Rattle.basics.specs.SizeLaws.{SizesWithin};
 ghost use Rattle.network.specs.Limits.{isZero};
-ghost use Rattle.network.specs.Record.{gateIn, gateRecord};
-ghost use Rattle.fold_theory.specs.Aligned.{mix};
-ghost use Rattle.pair_alignment.specs.Alignments.{weightTable, edgeBetween, withU, complementIn, alignmentOf, mergedOf};
-ghost use Rattle.pair_alignment.specs.Alignments.{Alignable, AlignmentOnScale, Mixable, Mergeable};
+ghost use Rattle.network.specs.Record.{gateIn};
+ghost use Rattle.pair_theory.specs.Alignments.{weightTable, edgeBetween, Alignable, withU, alignmentOf};
 
 // The weight of each signal, 0 where it is no feed. The last feed is stored first.
 fn spread(gate: GateRecord) -> [i32; 256]
@@ -90,50 +85,6 @@ fn align_with_u(
     }
 }
 
-// Minus each number.
-fn negated(numbers: &[i32; 16]) -> [i32; 16]
-    requires { ⌜ SizesWithin 1000000 (now numbers) × (length (now numbers) ≡ 16) ⌝ }
-    ensures { λ r. ⌜ r ≡ map negℤ (now (numbers .entry)) ⌝ }
-{
-    let mut result = *numbers;
-    let mut i: usize = 0;
-    while i < 16 {
-        let number = 0 - numbers[i];
-        result[i] = number;
-        i = i + 1;
-    }
-    result
-}
-
-// The same two gates with the complement as the gate that votes.
-fn complemented(a: Alignment) -> Alignment
-    requires { ⌜ AlignmentOnScale a ⌝ }
-    ensures { λ r. ⌜ r ≡ complementIn a ⌝ }
-{
-    let count = a.count;
-    let signals = a.signals;
-    let us = negated(&a.us);
-    let vs = a.vs;
-    let t = a.thresholds;
-    let own = 1 - t.own;
-    let on = t.off;
-    let off = t.on;
-    let board = t.board;
-    let thresholds = Thresholds {
-        own,
-        on,
-        off,
-        board,
-    };
-    Alignment {
-        count,
-        signals,
-        us,
-        vs,
-        thresholds,
-    }
-}
-
 // Two gates by their distinct feeds. Where u's vote would raise what v's other feeds must reach, its complement votes.
 pub fn align(board: Board, gate_u: GateRecord, gate_v: GateRecord, u: usize, v: usize) -> Alignment
     requires { ⌜ Alignable (edgeBetween board «gate_u» «gate_v» u v) ⌝ }
@@ -145,39 +96,4 @@ pub fn align(board: Board, gate_u: GateRecord, gate_v: GateRecord, u: usize, v: 
         return a;
     }
     complemented(a)
-}
-
-// k times x plus l times y.
-pub fn mixed(k: usize, l: usize, x: i32, y: i32) -> i32
-    requires { ⌜ Mixable k l x y ⌝ }
-    ensures { λ r. ⌜ r ≡ mix k l x y ⌝ }
-{
-    (k as i32) * x + (l as i32) * y
-}
-
-// The gate of two aligned gates merged with k and l.
-pub fn merged_gate(a: Alignment, k: usize, l: usize) -> GateRecord
-    requires { ⌜ Mergeable a k l ⌝ }
-    ensures { λ r. ⌜ r ≡ gateRecord (mergedOf a k l) ⌝ }
-{
-    let mut signals = [0u8; 16];
-    let mut weights = [0i32; 16];
-    let mut fanin: usize = 0;
-    let count = a.count;
-    for i in 0..count {
-        let w = mixed(k, l, a.us[i], a.vs[i]);
-        if magnitude(w) != 0 {
-            signals[fanin] = a.signals[i];
-            weights[fanin] = w;
-            fanin += 1;
-        }
-    }
-    let thresholds = a.thresholds;
-    let threshold = mixed(k, l, thresholds.own, thresholds.on);
-    GateRecord {
-        fanin: fanin as u8,
-        threshold,
-        signals,
-        weights,
-    }
 }

@@ -8,8 +8,8 @@ use Rattle.basics.specs.Lists.{below, every}
 use Rattle.basics.specs.TestLaws.{is-true, T-is, refuted, fails, between-of, of-between, every-of, of-every}
 use Rattle.fold_theory.specs.Merge.{onDial}
 use Rattle.fold_theory.specs.Aligned.{Aligned, clearsOn, clearsAll, scaleFits, qualifiesOn}
-use Rattle.pair_alignment.specs.declared.Alignment.{Alignment}
-use Rattle.pair_alignment.specs.Alignments.{alignedIn, Searchable}
+use Rattle.pair_theory.specs.declared.Alignment.{Alignment}
+use Rattle.pair_theory.specs.Alignments.{alignedIn, Searchable}
 use Rattle.pair_agreement.specs.GateLaws.{every-setting, one-short}
 
 module _ (g : Alignment) where

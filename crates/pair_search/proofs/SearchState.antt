@@ -1,23 +1,23 @@
--- What the pair search knows at a sum, at a candidate and at a setting of either half, and how a turn of each loop keeps it. Assumes
--- nothing.
+-- What the pair search knows at a sum, at a candidate and at a setting, and how a turn of each loop keeps it. Assumes nothing.
 use mathlib.Core.Path.{_≡_, refl, sym, ap, _∙_}
 use mathlib.Core.Bool.{Bool, true, false, not}
 use mathlib.Core.List.{List}
-use Prim.Native.Nat.{ℕ, _+_, _-_, _*_, _^_, _≤_, _<_}
+use Prim.Native.Nat.{ℕ, _+_, _-_, _^_, _≤_, _<_}
 use native.Mathlib.Omega.{arith}
 use lib.Dec.{T}
+use borrow.Author.Count.{below-more}
 use borrow.Author.Tests.{not-true, not-false}
-use Rattle.basics.specs.Lists.{below}
-use Rattle.basics.specs.TestLaws.{both-true}
-use Rattle.basics.specs.ListLaws.{below-none, below-more}
+use Rattle.basics.specs.TestLaws.{is-true, T-is}
+use Rattle.basics.specs.ListLaws.{at-below}
 use Rattle.fold_theory.specs.Pair.{Pair, pairs, first}
 use Rattle.fold_theory.specs.Aligned.{clearsOn, scaleFits, qualifiesOn}
-use Rattle.pair_alignment.specs.declared.Alignment.{Alignment}
-use Rattle.pair_alignment.specs.Alignments.{alignedIn, Searchable}
-use Rattle.pair_agreement.specs.BlockLaws.{below-block}
+use Rattle.pair_theory.specs.declared.Alignment.{Alignment}
+use Rattle.pair_theory.specs.Alignments.{alignedIn, Searchable}
+use Rattle.pair_blocks.specs.Blocks.{ClearSettings}
+use Rattle.pair_bounds.specs.declared.Remembered.{Remembered}
+use Rattle.pair_bounds.specs.Ranges.{RememberedWithin}
 use Rattle.pair_search.specs.declared.Found.the-variants.{At, Nothing}
-use Rattle.pair_search.specs.declared.Remembered.{Remembered}
-use Rattle.pair_search.specs.Search.{foundAs, RememberedWithin}
+use Rattle.pair_search.specs.Search.{foundAs}
 use Rattle.pair_search.proofs.OrderLaws.{pairAt, later, left, later-start, left-start, first-none, first-hit, first-miss, first-past, first-next}
 use Rattle.pair_search.proofs.CandidateLaws.{off-scale, differing, qualified, k-off-dial, l-off-dial}
 
@@ -35,19 +35,12 @@ pub record AtCandidate (q : Pair → Bool) (n : ℕ) (known : Remembered) (sum k
   pub within : RememberedWithin n known
   pub same : first q (left sum k) 16 ≡ first q pairs 16
 
--- at a setting of the high half, of the candidate with k₀: the settings with those before it agree
-pub record AtHigh (agrees : ℕ → Bool) (highs lows : ℕ) (known₀ : Remembered) (k₀ : ℕ) (known : Remembered) (k high : ℕ) : Type 0 where
+-- at a setting of the candidate with k₀: those before it agree
+pub record AtSetting (agrees : ℕ → Bool) (n : ℕ) (known₀ : Remembered) (k₀ : ℕ) (known : Remembered) (k setting : ℕ) : Type 0 where
   pub kept : k ≡ k₀
   pub kept-known : known ≡ known₀
-  pub within : high ≤ highs
-  pub clear : below (high * lows) agrees ≡ true
-
--- at a setting of the low half: so do those with the ones before this
-pub record AtLow (agrees : ℕ → Bool) (lows high : ℕ) (known₀ : Remembered) (k₀ : ℕ) (known : Remembered) (k low : ℕ) : Type 0 where
-  pub kept : k ≡ k₀
-  pub kept-known : known ≡ known₀
-  pub within : low ≤ lows
-  pub clear : below (high * lows + low) agrees ≡ true
+  pub within : setting ≤ n
+  pub clear : (j : ℕ) → j < setting → T (agrees j)
 
 module _ {g : Alignment} (f : Searchable g) where
   abbrev pub q : Pair → Bool
@@ -108,65 +101,28 @@ module _ {g : Alignment} (f : Searchable g) where
   differs {known} {known'} {sum} {k} {b} s a h j i w t d = missed a h j w (differing g f k (sum - k) s i (sym t ∙ not-true b d))
 
   -- ---- the settings of a candidate
-  pub high-begin : (k l highs lows : ℕ) (known : Remembered) → AtHigh (agrees k l) highs lows known k known k 0
-  high-begin k l highs lows known =
-      let e : 0 * lows ≡ 0 = omega arith in
-      record { kept = refl; kept-known = refl; within = omega arith; clear = rw e (below-none (agrees k l)) }
+  pub setting-begin : {first : ℕ} (k l : ℕ) (known : Remembered) → ClearSettings n (agrees k l) first → AtSetting (agrees k l) n known k known k first
+  setting-begin k l known c = record { kept = refl; kept-known = refl; within = c .within; clear = c .clear }
 
-  pub low-begin : {highs lows k₀ k high : ℕ} {known₀ known : Remembered} (l : ℕ) → AtHigh (agrees k₀ l) highs lows known₀ k₀ known k high
-      → AtLow (agrees k l) lows high known k known k 0
-  low-begin {highs} {lows} {k₀} {k} {high} l a =
-      let e : high * lows + 0 ≡ high * lows = omega arith in
-      record { kept = refl; kept-known = refl; within = omega arith; clear = rw (e, a .kept) (a .clear) }
+  pub setting-more : {known₀ known : Remembered} {k₀ k s : ℕ} {b : Bool} (l : ℕ) → AtSetting (agrees k₀ l) n known₀ k₀ known k s
+      → s < n → b ≡ agrees k l s → not b ≡ false → AtSetting (agrees k₀ l) n known₀ k₀ known k (s + 1)
+  setting-more {known₀} {known} {k₀} {k} {s} {b} l a h t y = record {
+    kept = a .kept;
+    kept-known = a .kept-known;
+    within = omega arith;
+    clear = below-more (λ (j : ℕ). T (agrees k₀ l j)) s (a .clear) (T-is _ (sym (rw (a .kept) at t) ∙ not-false b y));
+  }
 
-  pub low-more : {lows high k₀ k low : ℕ} {known₀ known : Remembered} {b : Bool} (l : ℕ) → AtLow (agrees k₀ l) lows high known₀ k₀ known k low
-      → low < lows → b ≡ agrees k l (high * lows + low) → not b ≡ false → AtLow (agrees k₀ l) lows high known₀ k₀ known k (low + 1)
-  low-more {lows} {high} {k₀} {k} {low} {known₀} {known} {b} l a h t y =
-      let s = high * lows + low in
-      let e : high * lows + (low + 1) ≡ s + 1 = omega arith in
-      let p = agrees k₀ l in
-      record {
-        kept = a .kept;
-        kept-known = a .kept-known;
-        within = omega arith;
-        clear = rw e (below-more p s ∙ both-true (below s p) (p s) (a .clear) (sym (rw (a .kept) at t) ∙ not-false b y));
-      }
-
-  -- the settings of a block agree: all at once, or one by one
-  pub block-more : {highs lows k₀ k high : ℕ} {known₀ known : Remembered} (l : ℕ) → AtHigh (agrees k₀ l) highs lows known₀ k₀ known k high
-      → high < highs → ((j : ℕ) → j < lows → T (agrees k l (high * lows + j))) → AtHigh (agrees k₀ l) highs lows known₀ k₀ known k (high + 1)
-  block-more {highs} {lows} {k₀} {k} {high} l a h all =
-      let e : (high + 1) * lows ≡ high * lows + lows = omega arith in
-      record {
-        kept = a .kept;
-        kept-known = a .kept-known;
-        within = omega arith;
-        clear = rw e (below-block (agrees k₀ l) (high * lows) lows (a .clear) (rw (a .kept) at all));
-      }
-
-  pub high-more : {highs lows k₀ k₁ k high low : ℕ} {known₀ known₁ known : Remembered} (l : ℕ)
-      → AtHigh (agrees k₀ l) highs lows known₀ k₀ known₁ k₁ high → AtLow (agrees k₁ l) lows high known₁ k₁ known k low
-      → high < highs → lows ≤ low → AtHigh (agrees k₀ l) highs lows known₀ k₀ known k (high + 1)
-  high-more {highs} {lows} {k₀} {k₁} {k} {high} {low} l a b h j =
-      let e : (high + 1) * lows ≡ high * lows + low = omega (arith, b .within) in
-      record {
-        kept = b .kept ∙ a .kept;
-        kept-known = b .kept-known ∙ a .kept-known;
-        within = omega arith;
-        clear = rw e (rw (a .kept) at (b .clear));
-      }
-
-  -- a setting differs, and the candidate is left
-  pub differs-low : {known known' : Remembered} {sum k k₁ : ℕ} {b : Bool} (s : ℕ) → AtCandidate q n known sum k → k ≤ 32 → k < sum → s < n
+  -- one differs, and the candidate is left
+  pub setting-differs : {known known' : Remembered} {sum k k₁ : ℕ} {b : Bool} (s : ℕ) → AtCandidate q n known sum k → k ≤ 32 → k < sum → s < n
       → RememberedWithin n known' → k₁ ≡ k → b ≡ agrees k₁ (sum - k) s → not b ≡ true → AtCandidate q n known' sum (k₁ + 1)
-  differs-low {known} {known'} {sum} {k} {k₁} {b} s a h j i w e t d = rw e (differs s a h j i w (rw e at t) d)
+  setting-differs {known} {known'} {sum} {k} {k₁} {b} s a h j i w e t d = rw e (differs s a h j i w (rw e at t) d)
 
-  -- every setting agrees, and the candidate is the answer
-  pub found : {known₀ known : Remembered} {sum k highs lows k₁ high : ℕ} {b : Bool} → AtCandidate q n known₀ sum k → k ≤ 32 → k < sum → sum - k ≤ 32
-      → b ≡ scaleFits (alignedIn g) k (sum - k) → not b ≡ false → highs * lows ≡ n → AtHigh (agrees k (sum - k)) highs lows known₀ k known k₁ high
-      → highs ≤ high → foundAs (At k₁ (sum - k)) ≡ first q pairs 16
+  -- all agree, and the candidate is the answer
+  pub found : {known₀ known : Remembered} {sum k k₁ s : ℕ} {b : Bool} → AtCandidate q n known₀ sum k → k ≤ 32 → k < sum → sum - k ≤ 32
+      → b ≡ scaleFits (alignedIn g) k (sum - k) → not b ≡ false → AtSetting (agrees k (sum - k)) n known₀ k known k₁ s → n ≤ s
+      → foundAs (At k₁ (sum - k)) ≡ first q pairs 16
   unfolding foundAs
-  found {known₀} {known} {sum} {k} {highs} {lows} {k₁} {high} {b} a h j o t y e c z =
-      let all : high * lows ≡ n = ap (λ (m : ℕ). m * lows) (let m : high ≡ highs = omega (arith, c .within) in m) ∙ e in
-      rw (c .kept)
-      (sym (first-hit q 16 sum k j (qualified g f k (sum - k) (a .low) h (omega arith) o (sym t ∙ not-false b y) (rw all at (c .clear)))) ∙ a .same)
+  found {known₀} {known} {sum} {k} {k₁} {s} {b} a h j o t y c z =
+      let all = is-true _ (at-below n (agrees k (sum - k)) λ i l. c .clear i (omega (arith, l, z))) in
+      rw (c .kept) (sym (first-hit q 16 sum k j (qualified g f k (sum - k) (a .low) h (omega arith) o (sym t ∙ not-false b y) all)) ∙ a .same)

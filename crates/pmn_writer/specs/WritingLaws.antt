@@ -1,52 +1,25 @@
--- Laws of what the writer puts: one feed, gate or output more, the lengths, and the parts of a record's file. Assumes nothing.
+-- Laws of what the writer puts: one gate more, the lengths, and the parts of a record's file. Assumes nothing.
 use mathlib.Core.Path.{_≡_, refl, sym, ap, _∙_}
-use mathlib.Core.List.{List, [], _∷_, _++_, map, map-append, append-nil}
+use mathlib.Core.List.{List, [], _∷_, _++_, append-nil}
 use Prim.Native.Nat.{ℕ, zero, suc, _+_, _*_, _-_, _≤_, _<_}
-use native.Mathlib.Nat.{zero-add}
 use native.Mathlib.Numerals.{add-one}
 use native.Mathlib.Omega.{arith}
-use borrow.Author.Tests.{eq-eqb, ne-eqb}
 use lib.IntN.{ℤ, pos}
 use lib.ListN.{length, getD, length-append}
 use Rattle.basics.specs.Lists.{range, tab}
-use Rattle.basics.specs.ListLaws.{length-tab, getD-tab, tab-same, range-more}
-use Rattle.basics.specs.Word.{intBytes}
-use Rattle.network.specs.declared.Board.{Board}
-use Rattle.network.specs.declared.GateRecord.{GateRecord}
+use Rattle.basics.specs.ListLaws.{length-tab, getD-tab, tab-same}
 use Rattle.network.specs.declared.Network.{Network}
 use Rattle.network.specs.Threshold.{Feed}
 use Rattle.network.specs.Record.{feedAt, feedsFrom, gateFrom, gateOf, netOf, gateIn, rowAt}
 use Rattle.basics.specs.TableLaws.{range-tab}
-use Rattle.network.specs.PlaceLaws.{length-feeds, length-gateFrom}
+use Rattle.network.specs.PlaceLaws.{length-gateFrom}
 use Rattle.network.specs.RecordLaws.{count-outputs}
-use Rattle.pmn_format.specs.Format.{feedBytes, feedsBytes, gateBytes, gatesBytes, markBytes, countedHeader, fileBytes}
+use Rattle.pmn_format.specs.Format.{gateBytes, gatesBytes, countedHeader, fileBytes}
 use Rattle.pmn_format.specs.Lengths.{headerLength}
-use Rattle.pmn_format.specs.LengthLaws.{feedsBytes-length, feedsBytes-append, gateBytes-length, gatesBytes-append, fileBytes-length}
-use Rattle.pmn_writer.specs.Writing.{firstFeeds, firstGates, gatesLength, firstOutputs}
-
--- a table with one member more
-tab-more : {A : Type 0} (f : ℕ → A) (n : ℕ) → tab (n + 1) f ≡ tab n f ++ (f n ∷ [])
-tab-more f n = ap (map f) (range-more 0 n ∙ ap (λ (k : ℕ). range 0 n ++ (k ∷ [])) (zero-add n)) ∙ map-append f (range 0 n) (n ∷ [])
-
--- ---- feeds
-module _ (ss : List ℕ) (ws : List ℤ) where
-  pub firstFeeds-none : firstFeeds ss ws 0 ≡ []
-  unfolding firstFeeds feedsFrom range
-  firstFeeds-none = refl
-
-  pub firstFeeds-more : (n : ℕ) → firstFeeds ss ws (n + 1) ≡ firstFeeds ss ws n ++ feedBytes (feedAt ss ws n)
-  unfolding firstFeeds feedsFrom
-  firstFeeds-more n = ap feedsBytes (tab-more (feedAt ss ws) n) ∙ feedsBytes-append (tab n (feedAt ss ws)) (feedAt ss ws n ∷ [])
-
-  pub firstFeeds-length : (n : ℕ) → length (firstFeeds ss ws n) ≡ 5 * n
-  unfolding firstFeeds
-  firstFeeds-length n = feedsBytes-length (feedsFrom ss ws 0 n) ∙ ap (λ (k : ℕ). 5 * k) (length-feeds ss ws 0 n)
-
--- a gate's bytes: its feed count, its threshold and its feeds
-pub gateIn-bytes : (g : GateRecord) → gateBytes (gateIn g) ≡ (g .fanin ∷ intBytes (g .threshold)) ++ firstFeeds (g .signals) (g .weights) (g .fanin)
-unfolding gateIn firstFeeds
-gateIn-bytes g = ap (λ (k : ℕ). (k ∷ intBytes (g .threshold)) ++ feedsBytes (feedsFrom (g .signals) (g .weights) 0 (g .fanin)))
-    (length-feeds (g .signals) (g .weights) 0 (g .fanin))
+use Rattle.pmn_format.specs.LengthLaws.{gateBytes-length, gatesBytes-append, fileBytes-length}
+use Rattle.pmn_writing.specs.Parts.{firstOutputs}
+use Rattle.pmn_writing.specs.PartLaws.{tab-more}
+use Rattle.pmn_writer.specs.Writing.{firstGates, gatesLength}
 
 -- ---- lengths of gates
 pub gatesLength-none : (fs : List ℕ) → gatesLength fs 0 ≡ 0
@@ -108,27 +81,6 @@ module _ (fs : List ℕ) (ts : List ℤ) (ss : List ℕ) (ws : List ℤ) where
         weight = getD-tab (pos 0) 16 (λ i. getD ws (16 * g + i) (pos 0)) i (omega arith) x;
       })
       ∙ sym (range-tab (feedAt ss ws) (16 * g) (getD fs g 0)))
-
--- ---- outputs
-module _ (ds : List ℕ) where
-  pub firstOutputs-none : firstOutputs ds 0 ≡ []
-  unfolding firstOutputs range
-  firstOutputs-none = refl
-
-  pub firstOutputs-more : (j : ℕ) → firstOutputs ds (j + 1) ≡ firstOutputs ds j ++ (getD ds j 0 ∷ [])
-  unfolding firstOutputs
-  firstOutputs-more j = tab-more (λ k. getD ds k 0) j
-
-  pub firstOutputs-length : (n : ℕ) → length (firstOutputs ds n) ≡ n
-  unfolding firstOutputs
-  firstOutputs-length n = length-tab n (λ k. getD ds k 0)
-
--- ---- the header
-pub marked-second : (b : Board) → b .version ≡ 2 → markBytes b ≡ 80 ∷ 77 ∷ 78 ∷ 2 ∷ 0 ∷ b .on ∷ b .off ∷ []
-marked-second b e = rw (eq-eqb (b .version) 2 e)
-
-pub marked-first : (b : Board) → (b .version ≡ 2 → ⊥) → markBytes b ≡ 80 ∷ 77 ∷ 78 ∷ 1 ∷ 0 ∷ []
-marked-first b e = rw (ne-eqb (b .version) 2 e)
 
 -- ---- the file of a record
 module _ (r : Network) where

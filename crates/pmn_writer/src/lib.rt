@@ -16,7 +16,7 @@ pub fn write(network: Network, out: &mut [u8]) -> Written
     ensures { λ r. ⌜ r ≡ written network (length (now (out .entry))) ⌝ }
     ensures { λ _. ⌜ now (out .exit) ≡ bytesAfter network (now (out .entry)) ⌝ }
 {
-    if network::soundness::is_sound(network) {
+    if network_soundness::is_sound(network) {
         unchecked::write_sound(network, out)
     } else {
         Written {

@@ -11,9 +11,9 @@ use Rattle.network.specs.Record.{gateIn}
 use Rattle.network.specs.declared.GateRecord.{GateRecord}
 use Rattle.question_theory.specs.Question.{most, least}
 use Rattle.question_theory.specs.SizeLaws.{most-size, least-size}
-use Rattle.question_lines.specs.Lines.{InLimits}
+use Rattle.question_terms.specs.Terms.{InLimits}
 use Rattle.network.specs.PlaceLaws.{length-gateIn}
-use Rattle.question_lines.proofs.SumLaws.{small-back}
+use Rattle.question_terms.specs.SumLaws.{small-back}
 
 module _ (gate : GateRecord) (s : InLimits gate) where
   -- T, M and m

@@ -25,7 +25,8 @@ use Rattle.question_theory.specs.AlikeLaws.{alike-inputs, alike-outputs}
 use Rattle.question_theory.specs.Text.{lineText, noLine, headerText, questionText}
 use Rattle.question_theory.specs.LineLaws.{question-length}
 use Rattle.question_theory.specs.SizeLaws.{ShortLine, question-narrow, line-short}
-use Rattle.question_lines.specs.Lines.{InLimits, Comparable, linesOf}
+use Rattle.question_terms.specs.Terms.{InLimits}
+use Rattle.question_lines.specs.Lines.{Comparable, linesOf}
 
 -- ---- a gate of a sound record, by itself
 module _ (r : Network) (g : ℕ) (sound : soundRecord r ≡ true) (h : g < r .gates) where

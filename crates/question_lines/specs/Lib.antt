@@ -1,6 +1,5 @@
 pub mod Lines
-pub mod FeedLaws
-pub mod TermLaws
+pub mod LineLaws
 pub mod StretchLaws
 pub mod ComparableLaws
 pub mod NumberLaws

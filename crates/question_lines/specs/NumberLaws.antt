@@ -15,8 +15,9 @@ use Rattle.question_theory.specs.Question.{Line, upper, lower, secondVariable, 
 use Rattle.question_theory.specs.Text.{noLine}
 use Rattle.question_theory.specs.Question.{secondOf}
 use Rattle.question_theory.specs.LineLaws.{last-line}
-use Rattle.question_lines.specs.Lines.{gateLine, threeTerms, outputLine, Comparable, linesOf}
-use Rattle.question_lines.specs.TermLaws.{some-is, notBoth-is}
+use Rattle.question_terms.specs.Terms.{threeTerms}
+use Rattle.question_lines.specs.Lines.{gateLine, outputLine, Comparable, linesOf}
+use Rattle.question_lines.specs.LineLaws.{some-is, notBoth-is}
 use Rattle.question_lines.specs.StretchLaws.{first-stretch, second-stretch, output-stretch}
 use Rattle.question_lines.specs.ComparableLaws.{row-gate-is, same-inputs, same-outputs, same-drivers, lines-are, difference-is}
 

@@ -50,10 +50,10 @@ fn put_question(first: Network, second: Network, n: usize, out: &mut [u8]) -> us
     if n == 0 {
         let lines = line_count(first, second);
         let variables = first.inputs + first.gates + second.gates + first.outputs;
-        return unchecked::put_header(out, variables, lines);
+        return question_writing::unchecked::put_header(out, variables, lines);
     }
     let line = question_lines::unchecked::question_line(first, second, n - 1);
-    unchecked::put_line(out, line)
+    question_writing::unchecked::put_line(out, line)
 }
 
 // Line n of two networks that can be asked about, or 18 where it is longer than the lent bytes.
@@ -77,7 +77,7 @@ pub fn line(first: Network, second: Network, n: usize, out: &mut [u8]) -> LineWr
     ensures { λ r. ⌜ r ≡ asLineWritten (lineAnswer first second n (length (now (out .entry)))) ⌝ }
     ensures { λ _. ⌜ now (out .exit) ≡ stored (lineAnswer first second n (length (now (out .entry)))) (now (out .entry)) ⌝ }
 {
-    if !(network::soundness::is_sound(first) & network::soundness::is_sound(second)) {
+    if !(network_soundness::is_sound(first) & network_soundness::is_sound(second)) {
         return refusal(20);
     }
     if !are_alike(first, second) {
@@ -88,5 +88,3 @@ pub fn line(first: Network, second: Network, n: usize, out: &mut [u8]) -> LineWr
     }
     write_line(first, second, n, out)
 }
-
-mod unchecked;

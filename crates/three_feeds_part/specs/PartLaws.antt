@@ -15,7 +15,7 @@ use Rattle.network.specs.Limits.{isZero, weighs}
 use Rattle.network.specs.Record.{feedAt, feedsFrom, gateIn}
 use Rattle.network.specs.declared.GateRecord.{GateRecord}
 use Rattle.pmn_format.specs.Format.{gateBytes}
-use Rattle.pmn_writer.specs.WritingLaws.{firstFeeds-length, gateIn-bytes}
+use Rattle.pmn_writing.specs.PartLaws.{firstFeeds-length, gateIn-bytes}
 use Rattle.three_feeds.specs.Rule.{feed, gateOnSignals}
 use Rattle.three_feeds.specs.Table.{tableEntry}
 use Rattle.three_feeds.specs.declared.TableEntry.{TableEntry}

@@ -1,7 +1,7 @@
 // The bytes of a gate of the three-feed table on three signals, for a mask maker who writes a PMN file.
 use basics::wide;
 use network::GateRecord;
-use network::soundness::is_zero;
+use network_soundness::is_zero;
 use three_feeds::TableEntry;
 ghost use mathlib.Core.Path.{_≡_};
 ghost use mathlib.Core.Bool.{not};
@@ -69,7 +69,7 @@ fn put_in(out: &mut [u8], i: u8, j: u8, k: u8, a: i32, b: i32, c: i32, threshold
     if out.len() < 5 + 5 * wide(gate.fanin) {
         return MaskPart::Refused(18);
     }
-    MaskPart::Put(pmn_writer::unchecked::put_gate(out, gate))
+    MaskPart::Put(pmn_writing::unchecked::put_gate(out, gate))
 }
 
 // The bytes of the table's gate for a truth table, on three signals that rise, at the front of the lent bytes; or the settings that rule

@@ -2,15 +2,15 @@
 // their distinct feeds.
 use crate::unchecked::readers::reads_gate;
 use network::Board;
-use network::soundness::is_gate;
 use network_places::unchecked::gate_at;
-use pair_alignment::Alignment;
+use network_soundness::is_gate;
 use pair_alignment::unchecked::align;
+use pair_theory::Alignment;
 ghost use mathlib.Core.Path.{_≡_};
 ghost use lib.Dec.{T};
 ghost use Rattle.network.specs.Limits.{boardOk};
 ghost use Rattle.fold_theory.specs.Merge.{onDial};
-ghost use Rattle.pair_alignment.specs.Alignments.{alignmentOf};
+ghost use Rattle.pair_theory.specs.Alignments.{alignmentOf};
 ghost use Rattle.fold_merge.specs.Arrays.{edgeIn, SoundArrays, GateReads};
 ghost use Rattle.fold_merge.specs.Codes.{firstFailing, edgeTestsIn};
 

@@ -8,8 +8,8 @@ use network::unchecked::gate_keeps;
 use network_places::Head;
 use pair_agreement::unchecked::agrees_everywhere;
 use pair_agreement::unchecked::scale_fits;
-use pair_alignment::Alignment;
-use pair_alignment::unchecked::merged_gate;
+use pair_mixing::unchecked::merged_gate;
+use pair_theory::Alignment;
 ghost use mathlib.Core.Path.{_≡_};
 ghost use mathlib.Core.Bool.{true};
 ghost use lib.Dec.{T};
@@ -17,7 +17,7 @@ ghost use Rattle.network.specs.Limits.{keeps};
 ghost use Rattle.network.specs.Record.{noGate, gateRecord, soundRecord};
 ghost use Rattle.network_places.specs.Parts.{fromParts};
 ghost use Rattle.fold_theory.specs.Aligned.{scaleFits};
-ghost use Rattle.pair_alignment.specs.Alignments.{alignedIn, mergedOf, AlignmentOnScale, Mergeable};
+ghost use Rattle.pair_theory.specs.Alignments.{alignedIn, mergedOf, AlignmentOnScale, Mergeable};
 ghost use Rattle.fold_merge.specs.Codes.{TriedMerge, firstFailing, limitTestsOn, mergeTestsOn};
 
 // Whether the merged gate keeps the margins.

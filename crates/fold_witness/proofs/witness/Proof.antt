@@ -6,9 +6,9 @@ use Rattle.basics.specs.TestLaws.{T-is}
 use Rattle.network.specs.Record.{soundRecord}
 use Rattle.fold_theory.specs.Merge.{Edge}
 use Rattle.fold_theory.specs.AlignedLaws.{EdgeOk}
-use Rattle.pair_alignment.specs.Alignments.{AlignmentOnScale}
-use Rattle.pair_alignment.specs.AlignmentLaws.{aligned-fair}
-use Rattle.pair_alignment.specs.declared.Alignment.{Alignment}
+use Rattle.pair_theory.specs.Alignments.{AlignmentOnScale}
+use Rattle.pair_theory.specs.AlignmentLaws.{aligned-fair}
+use Rattle.pair_theory.specs.declared.Alignment.{Alignment}
 use Rattle.network.specs.SoundLaws.{sound-board}
 use Rattle.fold_merge.specs.Arrays.{edgeIn, SoundArrays, GateReads}
 use Rattle.fold_merge.specs.ArrayLaws.{lent-of}

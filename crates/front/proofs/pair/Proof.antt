@@ -2,7 +2,8 @@
 use borrow.Author.Needs.{needs}
 use mathlib.Core.Path.{sym, ap, _∙_}
 use Rattle.fold_theory.specs.Pair.{pair}
-use Rattle.fold_merge.specs.Answers.{onRecord, asPair, pairFound}
+use Rattle.fold_merge.specs.Answers.{onRecord}
+use Rattle.fold_pair.specs.Answers.{asPair, pairFound}
 use Rattle.front.specs.Front.{pairOn}
 use Rattle.front.specs.FrontLaws.{tested-many, tested-few}
 use Rattle.front.proofs.pair.Statement.{statement}

@@ -10,7 +10,7 @@ use Rattle.question_theory.specs.Question.{Line}
 use Rattle.question_theory.specs.Text.{lineText}
 use Rattle.question_theory.specs.SizeLaws.{ShortLine}
 use Rattle.question_lines.specs.Lines.{linesOf}
-use Rattle.question_lines.specs.TermLaws.{stands-line, stands-count}
+use Rattle.question_terms.specs.TermLaws.{stands-line, stands-count}
 use Rattle.question_lines.specs.ComparableLaws.{small-counts, line-narrow, text-short, header-is, line-is}
 use Rattle.texts.specs.PutLaws.{put-text}
 use Rattle.question_text.proofs.put_question.Statement.{statement}

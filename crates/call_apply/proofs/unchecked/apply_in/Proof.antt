@@ -2,7 +2,6 @@
 use borrow.Author.Needs.{needs}
 use mathlib.Core.Path.{sym, ap, _∙_}
 use denote.Ref.{now}
-use Rattle.network_report.specs.declared.SizeReport.{SizeReport}
 use Rattle.network_places.specs.PartsLaws.{shaped-parts}
 use Rattle.journal.specs.Answers.{applied}
 use Rattle.journal.specs.AnswerLaws.{whole-network}
@@ -10,8 +9,7 @@ use Rattle.journal.specs.Parts.{recordParts, answerParts}
 use Rattle.journal.specs.declared.CallAnswer.{CallAnswer}
 use Rattle.journal.specs.declared.CallLeft.{CallLeft}
 use Rattle.journal.specs.declared.Record.{Record}
-use Rattle.call_apply.specs.Answers.{withSize}
-use Rattle.call_apply.specs.ApplyLaws.{call-shown}
+use Rattle.call_preview.specs.PreviewLaws.{call-shown}
 use Rattle.call_apply.proofs.unchecked.apply_in.Statement.{statement}
 use Rattle.call_apply.proofs.unchecked.apply_in.Tie as tie
 
@@ -46,7 +44,7 @@ at-sweep c =
     let at-drivers = c .before .before .before .before .before .before in
     at-drivers .before .before .before .before .before .before
 
-abbrev at-preview : tie.After-preview-at-arg5 → tie.After-call5
+abbrev at-preview : tie.After-preview-in-arg5 → tie.After-call5
 at-preview c = c .before .before .before .before .before .before
 
 abbrev at-undo : tie.After-undo-in-arg11 → tie.After-enum-told
@@ -66,8 +64,8 @@ collapse-in-requires c κs = at-collapse c .before .before .pre
 sweep-in-requires : tie.Need-sweep-in-requires
 sweep-in-requires c κs = at-sweep c .before .before .pre
 
-preview-at-requires : tie.Need-preview-at-requires
-preview-at-requires c κs =
+preview-in-requires : tie.Need-preview-in-requires
+preview-in-requires c κs =
     let s = at-preview c .before .before in
     (s .pre .lengths, whole-network (held s) (s .pre .whole))
 
@@ -88,10 +86,9 @@ returns-4 c = let b = at-sweep (c .before) in c .sweep-in .ensures ∙ sym (ap (
 
 returns-5 : tie.Need-returns-5
 returns-5 c =
-    let b = at-preview (c .before .before) in
+    let b = at-preview (c .before) in
     let s = b .before .before in
-    (λ x. answerIn s (c .shown .ensures x))
-    ∙ ap (λ (z : SizeReport). withSize (held s) z) (c .before .preview-at .ensures)
+    (λ x. answerIn s (c .preview-in .ensures x))
     ∙ call-shown (held s) (shaped-parts (s .args .head) (s .pre .lengths)) (s .pre .whole) _
     ∙ sym (ap (applied (held s)) (b .call5 .given .1))
 
@@ -111,8 +108,7 @@ apply-in-spec =
     (λ c. search needs)
     sweep-in-requires
     (λ c. search needs)
-    preview-at-requires
-    (λ c κs. search needs)
+    preview-in-requires
     (λ c. search needs)
     undo-in-requires
     returns

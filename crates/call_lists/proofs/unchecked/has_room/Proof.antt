@@ -9,11 +9,12 @@ use lib.ListN.{length}
 use Rattle.network.specs.Threshold.{Net}
 use Rattle.network.specs.Record.{netOf}
 use Rattle.network.specs.RecordLaws.{netOf-layout, holds-layout}
+use Rattle.network.specs.Places.{HoldsSound}
 use Rattle.network.specs.declared.Network.{Network}
 use Rattle.pmn_format.specs.Format.{fileBytes}
 use Rattle.pmn_format.specs.LengthLaws.{longest}
-use Rattle.call_lists.specs.Runs.{callsIn, netAfter}
-use Rattle.network.specs.Places.{HoldsSound}
+use Rattle.call_numbers.specs.Numbers.{callsIn}
+use Rattle.call_lists.specs.Runs.{netAfter}
 use Rattle.call_lists.specs.RunLaws.{after-sound}
 use Rattle.call_lists.proofs.unchecked.has_room.Statement.{statement}
 use Rattle.call_lists.proofs.unchecked.has_room.Tie as tie

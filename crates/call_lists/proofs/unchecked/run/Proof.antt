@@ -11,7 +11,7 @@ use Rattle.call_theory.specs.Calls.{calls}
 use Rattle.journal.specs.Journals.{emptyJournal}
 use Rattle.journal.specs.Records.{stateOf, justRead}
 use Rattle.journal.specs.Parts.{recordParts}
-use Rattle.call_lists.specs.Runs.{callsIn}
+use Rattle.call_numbers.specs.Numbers.{callsIn}
 use Rattle.call_lists.proofs.RunTurns.{Reached, began-came, began-state, reached-none, reached-next, reached-end}
 use Rattle.call_lists.proofs.unchecked.run.Statement.{statement}
 use Rattle.call_lists.proofs.unchecked.run.Tie as tie

@@ -1,7 +1,7 @@
 -- The loop's invariant: the rest of the list leads from here to the state after the whole list, and the answers of the calls before are
 -- stored. Assumes nothing.
 use borrow.Author.Needs.{needs}
-use mathlib.Core.Path.{refl, sym, ap, _∙_, subst}
+use mathlib.Core.Path.{refl, ap, _∙_}
 use Prim.Native.Nat.{_+_, _*_, _-_, _/_, _<_, _≤_, zero-le}
 use native.Mathlib.Omega.{arith}
 use lib.ListN.{length}
@@ -13,9 +13,10 @@ use Rattle.call_theory.specs.Calls.{calls}
 use Rattle.journal.specs.Journals.{emptyJournal}
 use Rattle.journal.specs.Records.{stateOf, justRead}
 use Rattle.journal.specs.Parts.{recordParts}
-use Rattle.call_lists.specs.Runs.{callsIn, answersOf}
-use Rattle.call_lists.specs.RunLaws.{count-calls}
-use Rattle.call_lists.proofs.RunTurns.{Reached, Answered, began-came, began-state, reached-none, reached-next, reached-end}
+use Rattle.call_numbers.specs.Numbers.{callsIn}
+use Rattle.call_numbers.specs.NumberLaws.{count-calls}
+use Rattle.call_lists.specs.Runs.{answersOf}
+use Rattle.call_lists.proofs.RunTurns.{Reached, Answered, began-came, began-state, reached-none, reached-end}
 use Rattle.call_lists.proofs.RunTurns.{answered-none, answered-next, answered-end}
 use Rattle.call_lists.proofs.unchecked.run_storing.Statement.{statement}
 use Rattle.call_lists.proofs.unchecked.run_storing.Tie as tie
@@ -87,16 +88,11 @@ loop-again : tie.Need-loop-again Inv-loop μ-loop
 loop-again c =
     let turn = turn-of (c .before .before .before .before .before .before) in
     let at = turn .before in
-    let s = start-of (at .before) in
-    let ns = now (s .args .numbers) in
+    let ns = now (start-of (at .before) .args .numbers) in
     let l = at .loop in
     let stepped = c .before .before .before .before .before .step-in .ensures in
-    let b = bounds turn in (
-      omega (arith, turn .loop-test .taken),
-      reached-next _ ns (l .i) (l .inv .1) (b .0) stepped,
-      subst (Answered _ ns (l .i + 1) _ (now (s .args .answers))) (sym (c .before .before .put-four .ensures))
-          (answered-next _ ns (l .i) (l .inv .1) (l .inv .2) (b .0) (b .1) stepped),
-    )
+    let b = bounds turn in
+    answered-next _ ns (l .i) (l .inv .1) (l .inv .2) (b .0) (b .1) stepped (c .before .before .put-four .ensures)
 
 same-length : tie.Need-same-length Inv-loop μ-loop
 same-length c = c .before .loop .inv .2 .long

@@ -16,7 +16,7 @@ use Rattle.network_places.specs.PartsLaws.{shaped-parts, removed-parts}
 use Rattle.journal.specs.Journals.{withStep}
 use Rattle.journal.specs.Parts.{recordParts}
 use Rattle.journal.specs.AnswerLaws.{whole-network}
-use Rattle.journal.specs.EnteringLaws.{entered-parts}
+use Rattle.journal_entry.specs.EnteringLaws.{entered-parts}
 use Rattle.journal.specs.declared.Record.{Record}
 use Rattle.journal.specs.PartsLaws.{refused-parts, answered-parts}
 use Rattle.call_single.proofs.CallLaws.{drop-refused, drop-entered}

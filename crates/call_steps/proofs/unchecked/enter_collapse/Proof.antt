@@ -12,7 +12,7 @@ use Rattle.network.specs.SoundLaws.{sized-of}
 use Rattle.network.specs.declared.Network.{Network}
 use Rattle.network_places.specs.Parts.{fromParts}
 use Rattle.journal.specs.Parts.{journalParts}
-use Rattle.journal.specs.EnteringLaws.{entered-parts}
+use Rattle.journal_entry.specs.EnteringLaws.{entered-parts}
 use Rattle.journal.specs.declared.Journal.{Journal}
 use Rattle.call_steps.proofs.ReaderLaws.{drop-last}
 use Rattle.call_steps.proofs.unchecked.enter_collapse.Statement.{statement}

@@ -9,7 +9,7 @@ use denote.Ref.{now}
 use Rattle.network.specs.declared.Network.{Network}
 use Rattle.network_places.specs.Parts.{fromParts}
 use Rattle.journal.specs.Parts.{journalParts}
-use Rattle.journal.specs.EnteringLaws.{entered-parts}
+use Rattle.journal_entry.specs.EnteringLaws.{entered-parts}
 use Rattle.journal.specs.declared.Journal.{Journal}
 use Rattle.call_steps.proofs.ReaderLaws.{Left, left-all, left-silent, left-reader, left-end}
 use Rattle.call_steps.proofs.unchecked.enter_readers.Statement.{statement}

@@ -2,8 +2,8 @@
 use mathlib.Core.Path.{sym, ap, _∙_, subst}
 use native.Mathlib.Omega.{arith}
 use Rattle.network.specs.Record.{gateRecord}
-use Rattle.pair_alignment.specs.Alignments.{mergedOf, Mergeable}
-use Rattle.pair_alignment.specs.declared.Alignment.{Alignment}
+use Rattle.pair_theory.specs.Alignments.{mergedOf, Mergeable}
+use Rattle.pair_theory.specs.declared.Alignment.{Alignment}
 use Rattle.fold_collapse.proofs.unchecked.merge_reader.Statement.{statement}
 use Rattle.fold_collapse.proofs.unchecked.merge_reader.Tie as tie
 

@@ -8,13 +8,13 @@ use denote.Ref.{now}
 use Rattle.network.specs.Record.{gateFrom}
 use Rattle.fold_theory.specs.Merge.{reads}
 use Rattle.fold_theory.specs.Pair.{pairOf}
-use Rattle.pair_alignment.specs.Alignments.{AlignmentOnScale}
-use Rattle.pair_alignment.specs.AlignmentLaws.{aligned-fair}
-use Rattle.fold_merge.specs.Answers.{asPair}
-use Rattle.fold_merge.specs.Codes.{pairOfAlignment}
+use Rattle.pair_theory.specs.Alignments.{AlignmentOnScale}
+use Rattle.pair_theory.specs.AlignmentLaws.{aligned-fair}
+use Rattle.fold_pair.specs.Answers.{asPair}
+use Rattle.fold_pair.specs.Parts.{pairOfAlignment}
 use Rattle.fold_merge.specs.Arrays.{GateReads}
 use Rattle.fold_merge.specs.EdgeLaws.{joined-ok}
-use Rattle.fold_merge.specs.AlignedLaws.{pair-on}
+use Rattle.fold_pair.specs.PairLaws.{pair-on}
 use Rattle.fold_collapse.specs.Collapsing.{edgeTo}
 use Rattle.fold_merge.specs.ArrayLaws.{lent-counted}
 use Rattle.fold_collapse.specs.CollapsingLaws.{pair-silent, pair-reader}

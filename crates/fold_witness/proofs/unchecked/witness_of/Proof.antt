@@ -1,12 +1,14 @@
 -- The tests before the settings, then the pass without margins. Assumes nothing.
 use mathlib.Core.Path.{sym, _∙_, subst}
 use borrow.Author.Needs.{needs}
-use Rattle.pair_alignment.specs.Alignments.{Mergeable}
-use Rattle.pair_alignment.specs.declared.Alignment.{Alignment}
+use Prim.Native.Nat.{_^_}
+use Rattle.fold_theory.specs.Aligned.{clearsOn}
+use Rattle.pair_theory.specs.Alignments.{alignedIn, Mergeable}
+use Rattle.pair_theory.specs.declared.Alignment.{Alignment}
 use Rattle.pair_agreement.specs.GateLaws.{plain-searchable}
+use Rattle.pair_witness.specs.Pass.{FewestUnclear}
 use Rattle.fold_merge.specs.AlignedLaws.{limits-passed, limits-hold}
-use Rattle.fold_witness.specs.Parts.{FewestOn}
-use Rattle.fold_witness.specs.WitnessLaws.{plain-differs, limited, unlimited}
+use Rattle.fold_witness.specs.WitnessLaws.{found-shows, plain-differs, limited, unlimited}
 use Rattle.fold_witness.proofs.unchecked.witness_of.Statement.{statement}
 use Rattle.fold_witness.proofs.unchecked.witness_of.Tie as tie
 
@@ -30,12 +32,16 @@ fewest-of-requires c κs =
 
 returns-2 : tie.Need-returns-2
 returns-2 c =
-    let e = c .before .before in
+    let pass = c .before in
+    let e = pass .before .before in
     let s = e .before .before in
-    let plain =
-    subst (λ (a : Alignment). FewestOn a (s .args .k) (s .args .l) (c .fewest-of .result)) (c .before .without-margins .ensures) (c .fewest-of .ensures) in
-    unlimited _ _ _ (sym (e .before .limit-code .ensures) ∙ e .if1 .left) (plain-differs (s .args .a) (s .args .k) (s .args .l) plain)
+    let plain = plain-searchable (s .args .a) (mergeable e .searchable) in
+    let found = subst (λ (a : Alignment). FewestUnclear (2 ^ a .count) (clearsOn (alignedIn a) (s .args .k) (s .args .l)) (pass .fewest-of .result))
+    (pass .before .without-margins .ensures) (pass .fewest-of .ensures) in
+    unlimited _ _ _ (sym (e .before .limit-code .ensures) ∙ e .if1 .left)
+    (plain-differs (s .args .a) (s .args .k) (s .args .l) (found-shows _ plain (s .args .k) (s .args .l) (pass .fewest-of .result) found (c .shown .ensures)))
 
 pub witness-of-spec : {M : Type 1} → statement M
 witness-of-spec =
-    tie.close (tie.spec limit-code-requires (λ c κs. search needs) returns (λ c κs. search needs) fewest-of-requires returns-2)
+    tie.close
+    (tie.spec limit-code-requires (λ c κs. search needs) returns (λ c κs. search needs) fewest-of-requires (λ c κs. search needs) returns-2)

@@ -7,7 +7,7 @@ use lib.ListN.{getD}
 use mir.Syntax.{w32}
 use mir.Val.{toZ, ofZ}
 use Rattle.basics.specs.SizeLaws.{size-add, size-fits}
-use Rattle.gate_margins.proofs.Held.{held}
+use Rattle.gate_rising.specs.HeldLaws.{held}
 use borrow.Author.Needs.{needs}
 use Rattle.gate_margins.proofs.unchecked.added.Statement.{statement}
 use Rattle.gate_margins.proofs.unchecked.added.Tie as tie

@@ -12,10 +12,11 @@ use mir.Val.{toZ, ofZ}
 use mir.Facts.{toZ-ofZ, toZ-pos}
 use Rattle.basics.specs.SizeLaws.{size-add, size-sub, size-fits}
 use Rattle.basics.specs.TestLaws.{T-is, and-left, and-right}
-use Rattle.gate_margins.specs.Sums.{everySum, apart, outside}
+use Rattle.gate_rising.specs.Sums.{everySum}
+use Rattle.gate_rising.specs.HeldLaws.{held}
+use Rattle.gate_rising.specs.Tables.{Listed}
+use Rattle.gate_margins.specs.Sums.{apart, outside}
 use Rattle.gate_margins.specs.SumLaws.{margins-always}
-use Rattle.gate_margins.specs.Tables.{Listed}
-use Rattle.gate_margins.proofs.Held.{held}
 use Rattle.gate_margins.proofs.TableLaws.{Halves, halves, addable, listed-count, apart-listed}
 use borrow.Author.Needs.{needs}
 use Rattle.gate_margins.proofs.unchecked.keeps_margins.Statement.{statement}

@@ -14,8 +14,9 @@ use mir.Val.{toZ, ofZ}
 use mir.Facts.{toZ-ofZ}
 use Rattle.basics.specs.SizeLaws.{read-back}
 use Rattle.basics.specs.TestLaws.{T-is, and-left, and-right}
+use Rattle.gate_rising.specs.Tables.{member}
 use Rattle.gate_margins.specs.Sums.{apart}
-use Rattle.gate_margins.specs.Tables.{member, apartAll}
+use Rattle.gate_margins.specs.Tables.{apartAll}
 use Rattle.gate_margins.proofs.Walk.{Walk, walk-none, upper-turn, lower-turn, walk-end, walk-broken, one-broken, digit-few, falls}
 use Rattle.gate_margins.proofs.unchecked.lists_apart.Statement.{statement}
 use Rattle.gate_margins.proofs.unchecked.lists_apart.Tie as tie

@@ -14,7 +14,8 @@ use Rattle.basics.specs.Lists.{below}
 use Rattle.basics.specs.ListLaws.{below-none, below-more, below-no}
 use Rattle.basics.specs.SizeLaws.{size-fits}
 use Rattle.basics.specs.TestLaws.{both-true}
-use Rattle.gate_margins.specs.Sums.{everySum, outside}
+use Rattle.gate_rising.specs.Sums.{everySum}
+use Rattle.gate_margins.specs.Sums.{outside}
 use Rattle.gate_margins.specs.Tables.{OnScale}
 use Rattle.network.specs.Margins.{weightsFrom, placesKeep, GatesOnScale}
 use Rattle.network.specs.MarginLaws.{length-weights}

@@ -10,7 +10,8 @@ use mir.Facts.{toZ-ofZ}
 use Rattle.basics.specs.SizeLaws.{size-fits}
 use Rattle.network.specs.Record.{gateIn}
 use Rattle.network.specs.declared.GateRecord.{GateRecord}
-use Rattle.gate_margins.specs.Sums.{everySum, outside}
+use Rattle.gate_rising.specs.Sums.{everySum}
+use Rattle.gate_margins.specs.Sums.{outside}
 use Rattle.gate_margins.specs.Tables.{OnScale}
 use Rattle.network.specs.Limits.{weightsOf, keeps}
 use Rattle.network.specs.Margins.{weightsFrom}

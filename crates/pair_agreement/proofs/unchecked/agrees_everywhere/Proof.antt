@@ -2,8 +2,8 @@
 use mathlib.Core.Path.{sym, ap, _∙_, subst}
 use borrow.Author.Needs.{needs}
 use Rattle.fold_theory.specs.Aligned.{clearsAll}
-use Rattle.pair_alignment.specs.Alignments.{alignedIn, Searchable}
-use Rattle.pair_alignment.specs.declared.Alignment.{Alignment}
+use Rattle.pair_theory.specs.Alignments.{alignedIn, Searchable}
+use Rattle.pair_theory.specs.declared.Alignment.{Alignment}
 use Rattle.pair_agreement.specs.GateLaws.{plain-searchable, plain-all}
 use Rattle.pair_agreement.proofs.unchecked.agrees_everywhere.Statement.{statement}
 use Rattle.pair_agreement.proofs.unchecked.agrees_everywhere.Tie as tie

@@ -11,8 +11,8 @@ use Rattle.basics.specs.ListLaws.{below-none, below-more}
 use Rattle.basics.specs.SizeLaws.{read-back}
 use Rattle.network.specs.Limits.{inScale}
 use Rattle.fold_theory.specs.Aligned.{Aligned, mixedWeight}
-use Rattle.pair_alignment.specs.Alignments.{alignedIn}
-use Rattle.pair_agreement.specs.HalfLaws.{near-wider}
+use Rattle.pair_theory.specs.Alignments.{alignedIn}
+use Rattle.pair_clearing.specs.HalfLaws.{near-wider}
 use Rattle.pair_agreement.specs.GateLaws.{mix-is, threshold-is, weight-off, weights-on}
 use borrow.Author.Needs.{needs}
 use Rattle.pair_agreement.proofs.unchecked.scale_fits.Statement.{statement}

@@ -4,9 +4,9 @@ use lib.Signed.{leZ}
 use mir.Syntax.{w32}
 use mir.Val.{toZ, ofZ}
 use Rattle.fold_theory.specs.Merge.{Edge, votesFor}
-use Rattle.pair_alignment.specs.Alignments.{edgeBetween, complementIn, AlignmentOnScale}
-use Rattle.pair_alignment.specs.AlignmentLaws.{for-u, against-u, sign-is, withU-fair}
-use Rattle.pair_alignment.specs.declared.Alignment.{Alignment}
+use Rattle.pair_theory.specs.Alignments.{edgeBetween, complementIn, AlignmentOnScale}
+use Rattle.pair_theory.specs.AlignmentLaws.{for-u, against-u, sign-is, withU-fair}
+use Rattle.pair_theory.specs.declared.Alignment.{Alignment}
 use borrow.Author.Needs.{needs}
 use Rattle.pair_alignment.proofs.unchecked.align.Statement.{statement}
 use Rattle.pair_alignment.proofs.unchecked.align.Tie as tie

@@ -12,7 +12,7 @@ use Rattle.basics.specs.SizeLaws.{size-fits, read-back}
 use Rattle.network.specs.Record.{gateIn}
 use Rattle.fold_theory.specs.Merge.{Edge, feedWeight, among}
 use Rattle.fold_theory.specs.AlignedLaws.{fed-small, edge-rises}
-use Rattle.pair_alignment.specs.Alignments.{edgeBetween, withU}
+use Rattle.pair_theory.specs.Alignments.{edgeBetween, withU}
 use Rattle.network.specs.PlaceLaws.{length-gateIn}
 use Rattle.pair_alignment.proofs.Gather.{inU, inOther, table-at, other-at, among-is, other-is, Listed, listed-none, listed-few, listed-skip}
 use Rattle.pair_alignment.proofs.Gather.{listed-store, listed-full, listed-all}

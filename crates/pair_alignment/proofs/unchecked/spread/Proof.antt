@@ -7,7 +7,7 @@ use lib.ListN.{getD}
 use mir.Syntax.{w32}
 use Rattle.basics.specs.SizeLaws.{read-back}
 use Rattle.network.specs.Record.{feedsFrom, gateIn}
-use Rattle.pair_alignment.specs.Alignments.{weightTable}
+use Rattle.pair_theory.specs.Alignments.{weightTable}
 use Rattle.pair_alignment.proofs.Store.{store-none, store-more}
 use borrow.Author.Needs.{needs}
 use Rattle.pair_alignment.proofs.unchecked.spread.Statement.{statement}

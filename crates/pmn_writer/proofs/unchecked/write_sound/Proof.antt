@@ -13,8 +13,10 @@ use Rattle.network.specs.SoundLaws.{CountsInArrays, sized-of, counted-of}
 use Rattle.pmn_format.specs.Format.{countedHeader, fileBytes}
 use Rattle.pmn_format.specs.Lengths.{headerLength}
 use Rattle.pmn_format.specs.LengthLaws.{countedHeader-length}
-use Rattle.pmn_writer.specs.Writing.{firstGates, gatesLength, firstOutputs}
-use Rattle.pmn_writer.specs.WritingLaws.{firstGates-length, firstOutputs-length, file-parts, file-length}
+use Rattle.pmn_writing.specs.Parts.{firstOutputs}
+use Rattle.pmn_writing.specs.PartLaws.{firstOutputs-length}
+use Rattle.pmn_writer.specs.Writing.{firstGates, gatesLength}
+use Rattle.pmn_writer.specs.WritingLaws.{firstGates-length, file-parts, file-length}
 use Rattle.pmn_writer.specs.WriteAnswerLaws.{write-short, write-whole, written-refused, written-whole}
 use Rattle.pmn_writer.proofs.unchecked.write_sound.Statement.{statement}
 use Rattle.pmn_writer.proofs.unchecked.write_sound.Tie as tie

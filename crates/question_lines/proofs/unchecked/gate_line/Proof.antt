@@ -4,8 +4,8 @@ use Prim.Native.Nat.{_/_, _≤_, _<_}
 use native.Mathlib.Omega.{arith}
 use Rattle.network.specs.SoundLaws.{sized-of}
 use Rattle.network.specs.declared.GateRecord.{GateRecord}
-use Rattle.question_lines.specs.Lines.{InLimits}
-use Rattle.question_lines.specs.TermLaws.{stands-is}
+use Rattle.question_terms.specs.Terms.{InLimits}
+use Rattle.question_terms.specs.TermLaws.{stands-is}
 use Rattle.question_lines.specs.ComparableLaws.{row-scaled}
 use Rattle.question_lines.specs.NumberLaws.{even-line, odd-line}
 use Rattle.question_lines.proofs.unchecked.gate_line.Statement.{statement}

@@ -4,8 +4,9 @@ use Prim.Native.Nat.{_+_, _-_, _≤_}
 use native.Mathlib.Omega.{arith}
 use borrow.Author.Needs.{needs}
 use Rattle.question_theory.specs.Question.{lastLine}
-use Rattle.question_lines.specs.Lines.{RecordOfLine}
-use Rattle.question_lines.specs.TermLaws.{last-none, last-more, last-count, stands-is, stands-extendable, stands-next}
+use Rattle.question_terms.specs.Terms.{RecordOfLine}
+use Rattle.question_terms.specs.TermLaws.{stands-is, stands-extendable, stands-next}
+use Rattle.question_lines.specs.LineLaws.{last-none, last-more, last-count}
 use Rattle.question_lines.proofs.unchecked.last_line.Statement.{statement}
 use Rattle.question_lines.proofs.unchecked.last_line.Tie as tie
 

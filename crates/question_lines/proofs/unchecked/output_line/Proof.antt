@@ -4,7 +4,7 @@ use Prim.Native.Nat.{_/_, _<_}
 use native.Mathlib.Omega.{arith}
 use borrow.Author.Needs.{needs}
 use Rattle.question_theory.specs.Question.{secondVariable}
-use Rattle.question_lines.specs.TermLaws.{stands-is}
+use Rattle.question_terms.specs.TermLaws.{stands-is}
 use Rattle.question_lines.specs.ComparableLaws.{small-counts}
 use Rattle.question_lines.specs.NumberLaws.{even-output, odd-output}
 use Rattle.question_lines.proofs.unchecked.output_line.Statement.{statement}

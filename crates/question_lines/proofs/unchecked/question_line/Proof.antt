@@ -1,6 +1,6 @@
 -- Each stretch of the question by its numbers.
 use native.Mathlib.Omega.{arith}
-use Rattle.question_lines.specs.TermLaws.{stands-is}
+use Rattle.question_terms.specs.TermLaws.{stands-is}
 use Rattle.question_lines.specs.ComparableLaws.{small-counts}
 use Rattle.question_lines.specs.NumberLaws.{in-first, in-second, in-outputs, at-last}
 use Rattle.question_lines.proofs.unchecked.question_line.Statement.{statement}

@@ -6,8 +6,9 @@ use mir.Val.{toZ, ofZ}
 use Rattle.basics.specs.SizeLaws.{read-back}
 use Rattle.network.specs.Record.{gateIn}
 use Rattle.question_theory.specs.Question.{most, secondVariable}
-use Rattle.question_lines.specs.Lines.{feedTerms}
-use Rattle.question_lines.specs.TermLaws.{stands-is, stands-next, feeds-extendable, sided-most, upper-is}
+use Rattle.question_terms.specs.Terms.{feedTerms}
+use Rattle.question_terms.specs.TermLaws.{stands-is, stands-next}
+use Rattle.question_lines.specs.LineLaws.{feeds-extendable, sided-most, upper-is}
 use Rattle.question_lines.proofs.GateNumbers.{upper-side-fits, upper-side, upper-less-fits, upper-more-fits, upper-own}
 use Rattle.question_lines.proofs.unchecked.upper_line.Statement.{statement}
 use Rattle.question_lines.proofs.unchecked.upper_line.Tie as tie

@@ -1,7 +1,7 @@
 -- The places of the two gates stand for them, and they are within the limits. Assumes nothing.
 use mathlib.Core.Path.{_≡_, sym, ap, _∙_, subst}
-use Rattle.pair_alignment.specs.Alignments as alignments
-use Rattle.pair_alignment.specs.Alignments.{Alignable, alignmentOf}
+use Rattle.pair_theory.specs.Alignments as alignments
+use Rattle.pair_theory.specs.Alignments.{Alignable, alignmentOf}
 use Rattle.fold_merge.specs.Arrays.{edgeIn}
 use Rattle.fold_merge.specs.EdgeLaws.{signal-place, joined-alignable, joined-rows}
 use borrow.Author.Needs.{needs}

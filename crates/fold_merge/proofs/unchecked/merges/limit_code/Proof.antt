@@ -4,7 +4,7 @@ use mathlib.Core.Bool.{true, _&&_}
 use borrow.Author.Tests.{not-true, not-false, le-leb, lt-leb}
 use Rattle.basics.specs.TestLaws.{T-is, T-and}
 use Rattle.fold_theory.specs.Aligned.{scaleFits}
-use Rattle.pair_alignment.specs.Alignments.{alignedIn, DialLimits}
+use Rattle.pair_theory.specs.Alignments.{alignedIn, DialLimits}
 use Rattle.fold_theory.specs.Merge.{onDial}
 use Rattle.fold_theory.specs.PairLaws.{dial-of}
 use Rattle.fold_merge.specs.Codes.{firstFailing, limitTestsOn}

@@ -5,7 +5,7 @@ use Rattle.network.specs.Limits.{keeps}
 use Rattle.network.specs.Record.{gateIn}
 use Rattle.network.specs.PlaceLaws.{gateIn-gateRecord}
 use Rattle.network.specs.MarginLaws.{record-on-scale}
-use Rattle.pair_alignment.specs.Alignments.{mergedOf}
+use Rattle.pair_theory.specs.Alignments.{mergedOf}
 use Rattle.fold_merge.specs.AlignedLaws.{merged-scaled}
 use Rattle.fold_merge.proofs.unchecked.merges.merge_keeps.Statement.{statement}
 use Rattle.fold_merge.proofs.unchecked.merges.merge_keeps.Tie as tie

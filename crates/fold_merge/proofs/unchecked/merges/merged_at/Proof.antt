@@ -10,9 +10,9 @@ use Rattle.network.specs.declared.Network.{Network}
 use Rattle.network_places.specs.Parts.{fromParts}
 use Rattle.fold_theory.specs.Merge.{Edge}
 use Rattle.fold_theory.specs.AlignedLaws.{EdgeOk}
-use Rattle.pair_alignment.specs.Alignments.{mergedOf, AlignmentOnScale, Mergeable}
-use Rattle.pair_alignment.specs.AlignmentLaws.{aligned-fair}
-use Rattle.pair_alignment.specs.declared.Alignment.{Alignment}
+use Rattle.pair_theory.specs.Alignments.{mergedOf, AlignmentOnScale, Mergeable}
+use Rattle.pair_theory.specs.AlignmentLaws.{aligned-fair}
+use Rattle.pair_theory.specs.declared.Alignment.{Alignment}
 use Rattle.fold_merge.specs.Codes.{firstFailing, mergeTests, mergeTestsOn}
 use Rattle.fold_merge.specs.Arrays.{edgeIn, SoundArrays, GateReads}
 use Rattle.fold_merge.specs.ArrayLaws.{lent-of}

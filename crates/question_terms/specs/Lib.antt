@@ -1,0 +1,4 @@
+pub mod Terms
+pub mod FeedLaws
+pub mod TermLaws
+pub mod SumLaws
