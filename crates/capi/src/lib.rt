@@ -14,7 +14,7 @@ ghost use Rattle.cut_output.specs.Answers.{cutPlaces};
 ghost use Rattle.question_text.specs.Files.{lineOut};
 ghost use Rattle.call_lists.specs.Files.{runAnswer, ranFile, ranNumbers};
 ghost use Rattle.scorer.specs.Answers.{scorePlaces};
-ghost use Rattle.three_feeds.specs.Places.{entryPlaces};
+ghost use Rattle.three_feeds_places.specs.Places.{entryPlaces};
 
 // The network of a file is read, and nothing more.
 #[no_mangle]
@@ -181,5 +181,5 @@ pub extern "C" fn pmn_three_feeds(table: u64, answer: &mut [i64]) -> u8
     ensures { λ r. ⌜ r ≡ codeOf (entryPlaces table (now (answer .entry))) ⌝ }
     ensures { λ _. ⌜ now (answer .exit) ≡ stored (entryPlaces table (now (answer .entry))) (now (answer .entry)) ⌝ }
 {
-    three_feeds::places::put_entry(table, answer)
+    three_feeds_places::put_entry(table, answer)
 }

@@ -87,5 +87,4 @@ pub fn gates_serve_any_signals()
     ensures { λ _. ⌜ EveryGate ⌝ }
 {}
 
-pub mod places;
 mod table;
