@@ -74,7 +74,8 @@ pub fn collapse_entered(
     steps
 }
 
-// or 16.
+// Gate s collapsed into all of its readers, with its steps entered. Refusals: 11 no such gate, 17 still read (an output), then the first reader's
+// 7 or 16.
 pub fn collapse_in(
     head: Head,
     fanins: &mut [u8; 128],

@@ -14,7 +14,8 @@ ghost use Rattle.call_theory.specs.declared.Call.the-variants.{Merge, Drop};
 ghost use Rattle.journal.specs.Answers.{applied};
 ghost use Rattle.journal.specs.Parts.{recordParts, answerParts, SoundParts};
 
-// wide, 6 off the scale, 24 broken margin, 15 disagrees.
+// u merged into v with k and l, with its step entered. Refusals: 11 no such gate, 12 not a feed, 14 off the dial, 7 too wide, 6 off the scale,
+// 24 broken margin, 15 disagrees.
 pub fn merge_in(
     head: Head,
     fanins: &mut [u8; 128],
