@@ -11,7 +11,7 @@ use network::Network;
 use network_insertion::unchecked::insert_gate;
 use network_places::Head;
 use network_places::unchecked::replace_gate;
-use network_soundness::is_gate;
+use network_limits::is_gate;
 use network_soundness::is_sound;
 ghost use mathlib.Core.Path.{_≡_};
 ghost use mathlib.Core.Bool.{true, false, cond};

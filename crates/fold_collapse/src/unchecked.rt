@@ -9,7 +9,7 @@ use network::Board;
 use network_places::Head;
 use network_places::unchecked::store_gate;
 use network_removal::unchecked::remove_places;
-use network_soundness::is_gate;
+use network_limits::is_gate;
 use pair_mixing::unchecked::merged_gate;
 ghost use mathlib.Core.Path.{_≡_};
 ghost use mathlib.Core.Bool.{true};

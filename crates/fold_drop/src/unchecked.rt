@@ -2,7 +2,7 @@
 use fold_merge::unchecked::readers::count_readers;
 use fold_merge::unchecked::readers::is_output;
 use network_places::Head;
-use network_soundness::is_gate;
+use network_limits::is_gate;
 ghost use mathlib.Core.Path.{_≡_};
 ghost use mathlib.Core.Bool.{true};
 ghost use Rattle.network.specs.Record.{soundRecord};

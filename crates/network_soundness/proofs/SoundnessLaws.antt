@@ -1,13 +1,12 @@
 -- Laws of the test of soundness: a turn of the loop over a gate's feeds, the parts of a gate's test, and the parts of the whole.
 -- Assumes nothing.
 use mathlib.Core.Path.{_≡_, refl, sym}
-use mathlib.Core.Bool.{Bool, true, false, not, _&&_, _||_}
+use mathlib.Core.Bool.{Bool, true, false, not, _&&_}
 use mathlib.Core.List.{List, [], _∷_}
 use Prim.Native.Nat.{ℕ, suc, _+_, _-_, _*_, _≤_, _<_}
 use native.Mathlib.Numerals.{add-one}
-use native.Mathlib.Omega.{arith}
 use borrow.Author.Tests.{lt-leb, le-leb}
-use lib.Dec.{leb, ltb, eqb}
+use lib.Dec.{leb, ltb}
 use lib.IntN.{ℤ, pos}
 use lib.ListN.{length, getD}
 use Rattle.basics.specs.Lists.{all, allFrom, below, every, between, tab}
@@ -21,28 +20,8 @@ use Rattle.network.specs.SoundLaws.{feedsOk}
 use Rattle.network.specs.PlaceLaws.{length-feeds, length-gateFrom}
 use Rattle.network.specs.Margins.{placesKeep}
 use Rattle.network.specs.MarginLaws.{gates-keep}
-use Rattle.network.specs.declared.Board.{Board}
 use Rattle.network.specs.declared.Network.{Network}
 use Rattle.basics.specs.RangeLaws.{range-step}
-
--- ---- the board
-pub board-tests : (b : Board) → b .on < 256 → b .off < 256
-    → (((eqb (b .version) 1 && eqb (b .on) 0) && eqb (b .off) 1) || (eqb (b .version) 2 && leb 1 (b .off))) ≡ boardOk b
-unfolding boardOk between
-board-tests b h k = rw (le-leb (b .on) 255 (omega arith), le-leb (b .off) 255 (omega arith))
-    (regroup (eqb (b .version) 1) (eqb (b .on) 0) (eqb (b .off) 1) (eqb (b .version) 2) (leb 1 (b .off)))
-  where
-    regroup : (v n f w m : Bool) → (((v && n) && f) || (w && m)) ≡ ((v && (n && f)) || (w && (true && (m && true))))
-    regroup false n f false m = refl
-    regroup false n f true false = refl
-    regroup false n f true true = refl
-    regroup true false f false m = refl
-    regroup true false f true false = refl
-    regroup true false f true true = refl
-    regroup true true false false m = refl
-    regroup true true false true false = refl
-    regroup true true false true true = refl
-    regroup true true true w m = refl
 
 -- ---- the counts
 pub counts-fit : (i g o : ℕ) → countsOk i g o ≡ true → (i ≤ 40) × (g ≤ 128) × (o ≤ 16)

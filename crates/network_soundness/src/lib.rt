@@ -1,64 +1,19 @@
 // The test of a record's soundness: a PMN file describes its network, and its spare places hold 0.
-ghost use mathlib.Core.Path.{_≡_};
-ghost use mathlib.Core.Bool.{_&&_, not};
-ghost use Prim.Native.Nat.{_+_, _≤_, _<_};
-ghost use lib.ListN.{getD};
-ghost use Rattle.basics.specs.Lists.{all, allFrom, below, between, tab};
-ghost use Rattle.network.specs.Limits.{inScale, isZero, gateOk, boardOk, gateSignal};
-ghost use Rattle.network.specs.Record.{feedsFrom, gateFrom, placeClear, gateClear, driverClear, soundRecord};
-ghost use Rattle.network.specs.RecordTests.{countsOk};
-ghost use Rattle.network.specs.SoundLaws.{feedsOk};
-use network::Board;
 use network::Network;
 use network::unchecked::gates_keep;
-
-// Whether n lies from low to high.
-fn within(low: usize, high: usize, n: usize) -> bool
-    ensures { λ r. ⌜ r ≡ between low high n ⌝ }
-{
-    (low <= n) & (n <= high)
-}
-
-// Whether the three counts are within the limits.
-pub fn counts_sound(inputs: usize, gates: usize, outputs: usize) -> bool
-    ensures { λ r. ⌜ r ≡ countsOk inputs gates outputs ⌝ }
-{
-    within(1, 40, inputs) & within(1, 128, gates) & within(1, 16, outputs)
-}
-
-// Whether the margins are such as the version can say.
-pub fn board_sound(board: Board) -> bool
-    ensures { λ r. ⌜ r ≡ boardOk board ⌝ }
-{
-    let first = (board.version == 1) & (board.on == 0) & (board.off == 1);
-    let second = (board.version == 2) & (1 <= board.off);
-    first | second
-}
-
-// The scale: the size of the greatest weight or threshold.
-const SCALE: u32 = 1000000;
-
-// Whether a weight or a threshold is within the scale.
-pub fn in_scale(z: i32) -> bool
-    ensures { λ r. ⌜ r ≡ inScale z ⌝ }
-{
-    basics::magnitude(z) <= SCALE
-}
-
-// Whether a weight or a threshold is 0.
-pub fn is_zero(z: i32) -> bool
-    ensures { λ r. ⌜ r ≡ isZero z ⌝ }
-{
-    basics::magnitude(z) == 0
-}
-
-// Whether a weight is within the scale and not 0.
-pub fn weight_sound(z: i32) -> bool
-    ensures { λ r. ⌜ r ≡ inScale z && not (isZero z) ⌝ }
-{
-    let size = basics::magnitude(z);
-    (size <= SCALE) & (size != 0)
-}
+use network_limits::board_sound;
+use network_limits::counts_sound;
+use network_limits::in_scale;
+use network_limits::is_gate;
+use network_limits::is_zero;
+use network_limits::weight_sound;
+ghost use mathlib.Core.Path.{_≡_};
+ghost use Prim.Native.Nat.{_+_, _≤_, _<_};
+ghost use lib.ListN.{getD};
+ghost use Rattle.basics.specs.Lists.{all, allFrom, below, tab};
+ghost use Rattle.network.specs.Limits.{gateOk, gateSignal};
+ghost use Rattle.network.specs.Record.{feedsFrom, gateFrom, placeClear, gateClear, driverClear, soundRecord};
+ghost use Rattle.network.specs.SoundLaws.{feedsOk};
 
 // Whether count feeds, from the place base on, are those of a gate with signal own: the signals rise and are below it, and each
 // weight is within the limits.
@@ -119,16 +74,6 @@ fn gates_sound<'a>(
         ok = ok & gate_sound(fanins, thresholds, signals, weights, g, inputs + g);
     }
     ok
-}
-
-// Whether a signal is that of one of so many gates.
-pub fn is_gate(inputs: usize, gates: usize, signal: usize) -> bool
-    ensures { λ r. ⌜ r ≡ gateSignal inputs gates signal ⌝ }
-{
-    if signal < inputs {
-        return false;
-    }
-    signal - inputs < gates
 }
 
 // Whether each output is the signal of a gate.

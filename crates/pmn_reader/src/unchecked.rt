@@ -6,7 +6,7 @@ use network::Board;
 use network::Network;
 use network::blank;
 use network_places::unchecked::store_gate;
-use network_soundness::is_gate;
+use network_limits::is_gate;
 use pmn_gate::read_gate;
 use pmn_header::HeadRead;
 ghost use mathlib.Core.Path.{_≡_};

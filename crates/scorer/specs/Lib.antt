@@ -1,4 +1,2 @@
 pub mod Answers
-pub mod Folding
 pub mod FileLaws
-pub mod FoldingLaws

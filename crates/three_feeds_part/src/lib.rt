@@ -1,7 +1,7 @@
 // The bytes of a gate of the three-feed table on three signals, for a mask maker who writes a PMN file.
 use basics::wide;
 use network::GateRecord;
-use network_soundness::is_zero;
+use network_limits::is_zero;
 use three_feeds::TableEntry;
 ghost use mathlib.Core.Path.{_≡_};
 ghost use mathlib.Core.Bool.{not};

@@ -3,7 +3,7 @@
 use crate::unchecked::readers::reads_gate;
 use network::Board;
 use network_places::unchecked::gate_at;
-use network_soundness::is_gate;
+use network_limits::is_gate;
 use pair_alignment::unchecked::align;
 use pair_theory::Alignment;
 ghost use mathlib.Core.Path.{_≡_};

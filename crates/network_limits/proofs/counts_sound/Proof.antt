@@ -1,8 +1,8 @@
 -- The proof of `counts_sound`: it rests on what `within` says of each count. Assumes nothing.
 use borrow.Author.Needs.{needs}
 use Rattle.network.specs.RecordTests.{countsOk}
-use Rattle.network_soundness.proofs.counts_sound.Statement.{statement}
-use Rattle.network_soundness.proofs.counts_sound.Tie as tie
+use Rattle.network_limits.proofs.counts_sound.Statement.{statement}
+use Rattle.network_limits.proofs.counts_sound.Tie as tie
 
 returns : tie.Need-returns
 unfolding countsOk

@@ -2,8 +2,8 @@
 use borrow.Author.Needs.{needs}
 use mir.Facts.{toZ-ofZ}
 use Rattle.network.specs.Limits.{isZero}
-use Rattle.network_soundness.proofs.is_zero.Statement.{statement}
-use Rattle.network_soundness.proofs.is_zero.Tie as tie
+use Rattle.network_limits.proofs.is_zero.Statement.{statement}
+use Rattle.network_limits.proofs.is_zero.Tie as tie
 
 returns : tie.Need-returns
 unfolding isZero

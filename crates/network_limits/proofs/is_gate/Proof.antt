@@ -6,8 +6,8 @@ use borrow.Author.Tests.{lt-leb, le-leb}
 use lib.Dec.{ltb, ltb→lt, lt→ltb}
 use Rattle.basics.specs.TestLaws.{test-same}
 use Rattle.network.specs.Limits.{gateSignal}
-use Rattle.network_soundness.proofs.is_gate.Statement.{statement}
-use Rattle.network_soundness.proofs.is_gate.Tie as tie
+use Rattle.network_limits.proofs.is_gate.Statement.{statement}
+use Rattle.network_limits.proofs.is_gate.Tie as tie
 
 above : (inputs gates s : ℕ) → inputs ≤ s → ltb (s - inputs) gates ≡ ltb s (inputs + gates)
 above inputs gates s h =

@@ -2,8 +2,8 @@
 use borrow.Author.Needs.{needs}
 use mir.Facts.{toZ-ofZ}
 use Rattle.network.specs.Limits.{inScale, isZero}
-use Rattle.network_soundness.proofs.weight_sound.Statement.{statement}
-use Rattle.network_soundness.proofs.weight_sound.Tie as tie
+use Rattle.network_limits.proofs.weight_sound.Statement.{statement}
+use Rattle.network_limits.proofs.weight_sound.Tie as tie
 
 returns : tie.Need-returns
 unfolding inScale isZero

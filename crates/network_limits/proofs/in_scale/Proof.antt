@@ -2,8 +2,8 @@
 use borrow.Author.Needs.{needs}
 use mir.Facts.{toZ-ofZ}
 use Rattle.network.specs.Limits.{inScale}
-use Rattle.network_soundness.proofs.in_scale.Statement.{statement}
-use Rattle.network_soundness.proofs.in_scale.Tie as tie
+use Rattle.network_limits.proofs.in_scale.Statement.{statement}
+use Rattle.network_limits.proofs.in_scale.Tie as tie
 
 returns : tie.Need-returns
 unfolding inScale

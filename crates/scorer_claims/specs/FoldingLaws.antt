@@ -21,8 +21,8 @@ use Rattle.guarantees.specs.ListLaws.{inputs-of, accepted-claim}
 use Rattle.scorer_theory.specs.Rules.{Pins, pinsOf, firstFrame, felledFrom}
 use Rattle.scorer_theory.specs.NetworkGames.{pinsOn, game}
 use Rattle.scorer_tally.specs.Sheets.{asSheet}
 use Rattle.scorer.specs.Answers.{scoring}
-use Rattle.scorer.specs.Folding.{SameScores}
+use Rattle.scorer_claims.specs.Folding.{SameScores}
 
 -- two networks with as many inputs and outputs that have the same output bits on every frame that is not too long
 record ReadAlike (N M : Net) : Type 0 where

@@ -1,7 +1,7 @@
 -- By the law of games made of frames. Assumes nothing.
 use Rattle.scorer_theory.specs.GrammarLaws.{made-of-frames}
-use Rattle.scorer.proofs.games_are_frames.Statement.{statement}
-use Rattle.scorer.proofs.games_are_frames.Tie as tie
+use Rattle.scorer_claims.proofs.games_are_frames.Statement.{statement}
+use Rattle.scorer_claims.proofs.games_are_frames.Tie as tie
 
 returns : tie.Need-returns
 returns c = made-of-frames

@@ -1,8 +1,8 @@
 -- The proof of `within`: the code is the definition, test for test. Assumes nothing.
 use mathlib.Core.Path.{refl}
 use Rattle.basics.specs.Lists.{between}
-use Rattle.network_soundness.proofs.within.Statement.{statement}
-use Rattle.network_soundness.proofs.within.Tie as tie
+use Rattle.network_limits.proofs.within.Statement.{statement}
+use Rattle.network_limits.proofs.within.Tie as tie
 
 returns : tie.Need-returns
 unfolding between

@@ -1,8 +1,8 @@
 -- A byte is at most 255, so the code need not ask for it. Assumes nothing.
 use borrow.Author.Needs.{needs}
-use Rattle.network_soundness.proofs.SoundnessLaws.{board-tests}
-use Rattle.network_soundness.proofs.board_sound.Statement.{statement}
-use Rattle.network_soundness.proofs.board_sound.Tie as tie
+use Rattle.network_limits.proofs.BoardLaws.{board-tests}
+use Rattle.network_limits.proofs.board_sound.Statement.{statement}
+use Rattle.network_limits.proofs.board_sound.Tie as tie
 
 returns : tie.Need-returns
 returns c = let b = c .before .before .before .before .before .args .board in board-tests b (search needs) (search needs)
