@@ -11,8 +11,8 @@ use Rattle.basics.specs.TableLaws.{map-tab}
 use Rattle.network.specs.Changes.{raised}
 use Rattle.network.specs.Places.{Pasted}
 use Rattle.network_places.specs.PasteLaws.{pasted-none, pasted-more, pasted-tab}
-use Rattle.network_insertion.proofs.unchecked.raise_all.Statement.{statement}
-use Rattle.network_insertion.proofs.unchecked.raise_all.Tie as tie
+use Rattle.network_gaps.proofs.unchecked.raise_all.Statement.{statement}
+use Rattle.network_gaps.proofs.unchecked.raise_all.Tie as tie
 
 abbrev Inv-loop : tie.InvT-loop
 Inv-loop signals₀ u p₀ p-end signals p = (p ≤ p-end) × Pasted 0 0 p (λ k. raised u (getD signals₀ k 0)) signals₀ signals

@@ -6,10 +6,10 @@ use Prim.Native.Nat.{ℕ}
 use native.Mathlib.Omega.{arith}
 use denote.Ref.{now}
 use Rattle.network.specs.Changes.{raised}
-use Rattle.network_insertion.specs.Gaps.{withPlaces, MembersBelow}
-use Rattle.network_insertion.specs.InsertLaws.{low-places}
-use Rattle.network_insertion.proofs.unchecked.signals_with_gap.Statement.{statement}
-use Rattle.network_insertion.proofs.unchecked.signals_with_gap.Tie as tie
+use Rattle.network_gaps.specs.Gaps.{withPlaces, MembersBelow}
+use Rattle.network_gaps.specs.GapLaws.{low-places}
+use Rattle.network_gaps.proofs.unchecked.signals_with_gap.Statement.{statement}
+use Rattle.network_gaps.proofs.unchecked.signals_with_gap.Tie as tie
 
 raise-all-requires : tie.Need-raise-all-requires
 raise-all-requires c κs =

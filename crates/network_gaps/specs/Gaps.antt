@@ -1,13 +1,10 @@
--- Internal: places put into an array, and the records into which a gate can be put. Nothing is proved here.
-use mathlib.Core.Path.{_≡_}
-use mathlib.Core.Bool.{true, cond}
+-- Internal: places put into an array, and what is asked of signals that are raised. Nothing is proved here.
+use mathlib.Core.Bool.{cond}
 use mathlib.Core.List.{List}
-use Prim.Native.Nat.{ℕ, _+_, _-_, _≤_, _<_}
+use Prim.Native.Nat.{ℕ, _+_, _-_, _<_}
 use lib.Dec.{ltb}
 use lib.ListN.{getD}
 use Rattle.basics.specs.Lists.{tab}
-use Rattle.network.specs.Record.{soundRecord}
-use Rattle.network.specs.declared.Network.{Network}
 
 -- the place that moves to place p when gap places are put in from first on; size, which is past the end, for a new place
 unfoldable pub source : ℕ → ℕ → ℕ → ℕ → ℕ
@@ -20,10 +17,3 @@ withPlaces d size first gap xs = tab size (λ p. getD xs (source size first gap 
 -- each member is below n
 pub record MembersBelow (n : ℕ) (xs : List ℕ) : Type 0 where
   pub each : (p : ℕ) → getD xs p 0 < n
-
--- a sound record with room for one more gate, and the signal of a gate, or the one after the last
-pub record Insertable (r : Network) (u : ℕ) : Type 0 where
-  pub sound : soundRecord r ≡ true
-  pub above : r .inputs ≤ u
-  pub within : u ≤ r .inputs + r .gates
-  pub room : r .gates < 128

@@ -3,8 +3,8 @@ use borrow.Author.Needs.{needs}
 use mathlib.Core.Path.{sym, _∙_}
 use native.Mathlib.Omega.{arith}
 use Rattle.network.specs.ChangeLaws.{raised-low, raised-high}
-use Rattle.network_insertion.proofs.unchecked.raise.Statement.{statement}
-use Rattle.network_insertion.proofs.unchecked.raise.Tie as tie
+use Rattle.network_gaps.proofs.unchecked.raise.Statement.{statement}
+use Rattle.network_gaps.proofs.unchecked.raise.Tie as tie
 
 returns : tie.Need-returns
 returns c = sym (raised-low _ _ (omega arith))

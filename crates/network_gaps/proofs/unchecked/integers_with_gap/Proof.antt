@@ -10,9 +10,9 @@ use lib.ListN.{getD, length}
 use denote.Ref.{now}
 use Rattle.network.specs.Places.{Pasted}
 use Rattle.network_places.specs.PasteLaws.{pasted-none, pasted-more, pasted-tab}
-use Rattle.network_insertion.specs.Gaps.{source, withPlaces}
-use Rattle.network_insertion.proofs.unchecked.integers_with_gap.Statement.{statement}
-use Rattle.network_insertion.proofs.unchecked.integers_with_gap.Tie as tie
+use Rattle.network_gaps.specs.Gaps.{source, withPlaces}
+use Rattle.network_gaps.proofs.unchecked.integers_with_gap.Statement.{statement}
+use Rattle.network_gaps.proofs.unchecked.integers_with_gap.Tie as tie
 
 abbrev Inv-loop : tie.InvT-loop
 Inv-loop integers first gap out₀ size p₀ p-end out p =

@@ -2,9 +2,9 @@
 use borrow.Author.Needs.{needs}
 use mathlib.Core.Path.{sym}
 use native.Mathlib.Omega.{arith}
-use Rattle.network_insertion.specs.GapLaws.{source-low, source-new, source-high}
-use Rattle.network_insertion.proofs.unchecked.source_of.Statement.{statement}
-use Rattle.network_insertion.proofs.unchecked.source_of.Tie as tie
+use Rattle.network_gaps.specs.GapLaws.{source-low, source-new, source-high}
+use Rattle.network_gaps.proofs.unchecked.source_of.Statement.{statement}
+use Rattle.network_gaps.proofs.unchecked.source_of.Tie as tie
 
 returns : tie.Need-returns
 returns c = sym (source-low _ _ _ _ (c .if1 .taken))

@@ -3,9 +3,9 @@ use borrow.Author.Needs.{needs}
 use mathlib.Core.Path.{ap, _∙_}
 use Prim.Native.Nat.{ℕ}
 use denote.Ref.{now}
-use Rattle.network_insertion.specs.Gaps.{withPlaces}
-use Rattle.network_insertion.proofs.unchecked.fanins_with_gap.Statement.{statement}
-use Rattle.network_insertion.proofs.unchecked.fanins_with_gap.Tie as tie
+use Rattle.network_gaps.specs.Gaps.{withPlaces}
+use Rattle.network_gaps.proofs.unchecked.fanins_with_gap.Statement.{statement}
+use Rattle.network_gaps.proofs.unchecked.fanins_with_gap.Tie as tie
 
 returns : tie.Need-returns
 returns c =
