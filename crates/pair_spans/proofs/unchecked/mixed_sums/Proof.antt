@@ -9,10 +9,10 @@ use mir.Val.{toZ, ofZ}
 use borrow.Author.Needs.{needs}
 use Rattle.gate_sums.specs.SumLaws.{place-held}
 use Rattle.basics.specs.SizeLaws.{read-back}
-use Rattle.pair_blocks.specs.Blocks.{MixedSums}
-use Rattle.pair_blocks.specs.BlockLaws.{mixed-none, mixed-more}
-use Rattle.pair_blocks.proofs.unchecked.mixed_sums.Statement.{statement}
-use Rattle.pair_blocks.proofs.unchecked.mixed_sums.Tie as tie
+use Rattle.pair_spans.specs.Spans.{MixedSums}
+use Rattle.pair_spans.specs.SpanLaws.{mixed-none, mixed-more}
+use Rattle.pair_spans.proofs.unchecked.mixed_sums.Statement.{statement}
+use Rattle.pair_spans.proofs.unchecked.mixed_sums.Tie as tie
 
 abbrev Inv-loop : tie.InvT-loop
 Inv-loop sums-u sums-v k l lows mixes₀ low₀ mixes low = (low ≤ lows) × MixedSums k l low sums-u sums-v mixes

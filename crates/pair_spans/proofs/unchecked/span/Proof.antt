@@ -8,10 +8,10 @@ use mir.Syntax.{w32}
 use mir.Val.{toZ, ofZ}
 use borrow.Author.Needs.{needs}
 use Rattle.basics.specs.SizeLaws.{read-back}
-use Rattle.pair_blocks.specs.Blocks.{Spanned}
-use Rattle.pair_blocks.specs.BlockLaws.{span-none, span-more}
-use Rattle.pair_blocks.proofs.unchecked.span.Statement.{statement}
-use Rattle.pair_blocks.proofs.unchecked.span.Tie as tie
+use Rattle.pair_spans.specs.Spans.{Spanned}
+use Rattle.pair_spans.specs.SpanLaws.{span-none, span-more}
+use Rattle.pair_spans.proofs.unchecked.span.Statement.{statement}
+use Rattle.pair_spans.proofs.unchecked.span.Tie as tie
 
 abbrev Inv-loop : tie.InvT-loop
 Inv-loop sums lows least₀ most₀ low₀ least most low = (low ≤ lows) × Spanned low sums (record { least = toZ w32 least; most = toZ w32 most })
