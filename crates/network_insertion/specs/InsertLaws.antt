@@ -25,8 +25,9 @@ use Rattle.network.specs.PlaceLaws.{GateChanged, gate-beyond}
 use Rattle.network.specs.RecordLaws.{ArrayLengths, layout-netOf, sound-net, count-gates, count-outputs}
 use Rattle.network_places.specs.RemoveLaws.{place-none, drivers-map}
 use Rattle.network_places.specs.StoreLaws.{stored-gates}
-use Rattle.network_insertion.specs.Gaps.{source, withPlaces, MembersBelow, Insertable}
-use Rattle.network_insertion.specs.GapLaws.{source-low, source-new, source-high}
+use Rattle.network_gaps.specs.Gaps.{source, withPlaces, MembersBelow}
+use Rattle.network_gaps.specs.GapLaws.{source-low, source-new, source-high}
+use Rattle.network_insertion.specs.Insertions.{Insertable}
 
 -- ---- a list with one member more
 module _ {A : Type 0} (d x : A) where
@@ -221,18 +222,6 @@ low-drivers n l e =
                 omega (arith, List·getD-eq-default (driversOf os) 0 {n = p} (omega (arith, long)))
           ]);
     }
-
--- the new places hold 0
-pub low-places : (n size first gap : ℕ) (xs : List ℕ) → 0 < n → MembersBelow n xs → MembersBelow n (withPlaces 0 size first gap xs)
-unfolding withPlaces
-low-places n size first gap xs z h = record {
-  each = λ p. elim (decLt p size) as (λ d. getD (withPlaces 0 size first gap xs) p 0 < n) [
-    | yes k ↦ omega (arith, getD-tab 0 size (λ p. getD xs (source size first gap p) 0) p k, h .each (source size first gap p))
-    | no k ↦
-        let long = length-tab size (λ p. getD xs (source size first gap p) 0) in
-        omega (arith, List·getD-eq-default (withPlaces 0 size first gap xs) 0 {n = p} (omega (arith, long)))
-  ];
-}
 
 -- ---- the record with the gate's places is that of the network with the gate
 module _ (n : Network) (u : ℕ) (gate : GateRecord) (l : ArrayLengths n) (s : Insertable n u) (packed : gate ≡ gateRecord (gateIn gate)) where

@@ -1,28 +1,18 @@
--- Internal: the settings of a block, those with one setting of the high half, all at once: the merged gate's sums on them, the ends between
--- which sums lie, what the ends settle, and how many settings are clear. Nothing is proved here.
+-- Internal: the settings of a block, those with one setting of the high half, all at once: what the ends of their sums settle, and how many
+-- settings are clear. Nothing is proved here.
 use mathlib.Core.Bool.{Bool, false, not, _&&_}
 use mathlib.Core.List.{List}
 use mathlib.Core.Path.{_≡_}
 use Prim.Native.Nat.{ℕ, _≤_, _<_}
 use lib.Dec.{T}
 use lib.IntN.{ℤ, pos}
-use lib.ListN.{length, getD}
+use lib.ListN.{getD}
 use lib.Signed.{leZ}
 use Rattle.basics.specs.Lists.{below}
-use Rattle.fold_theory.specs.Aligned.{mix, clears}
+use Rattle.fold_theory.specs.Aligned.{clears}
 use Rattle.fold_theory.specs.declared.Thresholds.{Thresholds}
 use Rattle.pair_clearing.specs.Clearing.{clearsBetween}
-use Rattle.pair_blocks.specs.declared.Span.{Span}
-
--- the merged gate's sum on each setting below n
-pub record MixedSums (k l n : ℕ) (us vs mixes : List ℤ) : Type 0 where
-  pub long : length mixes ≡ 256
-  pub same : (j : ℕ) → j < n → getD mixes j (pos 0) ≡ mix k l (getD us j (pos 0)) (getD vs j (pos 0))
-
--- the sums on the settings below n lie between two ends
-pub record Spanned (n : ℕ) (sums : List ℤ) (ends : Span) : Type 0 where
-  pub from-least : (j : ℕ) → j < n → T (leZ (ends .least) (getD sums j (pos 0)))
-  pub to-most : (j : ℕ) → j < n → T (leZ (getD sums j (pos 0)) (ends .most))
+use Rattle.pair_spans.specs.declared.Span.{Span}
 
 -- a merged sum is between its bounds on every setting below n
 unfoldable pub blockBetween : Thresholds → ℤ → ℤ → ℕ → List ℤ → List ℤ → List ℤ → Bool

@@ -1,10 +1,3 @@
 // Whether a merged gate has the composed pair's bit and keeps the margins on a block of settings, on two gates by their distinct feeds. Its
 // calls ask for what `unchecked` says.
-
-// The least and the greatest of some sums.
-pub struct Span {
-    pub least: i32,
-    pub most: i32,
-}
-
 pub mod unchecked;

@@ -7,7 +7,8 @@ use Rattle.basics.specs.SizeLaws.{read-back}
 use borrow.Author.Needs.{needs}
 use Rattle.fold_theory.specs.Aligned.{mixedThreshold}
 use Rattle.fold_theory.specs.declared.Thresholds.{Thresholds}
-use Rattle.pair_blocks.specs.Blocks.{MixedSums, Spanned, blockBetween, blockClear}
+use Rattle.pair_spans.specs.Spans.{MixedSums, Spanned}
+use Rattle.pair_blocks.specs.Blocks.{blockBetween, blockClear}
 use Rattle.pair_blocks.specs.BlockLaws.{clear-off, clear-on, block-is}
 use Rattle.pair_blocks.proofs.unchecked.block_clears.Statement.{statement}
 use Rattle.pair_blocks.proofs.unchecked.block_clears.Tie as tie
