@@ -1,11 +1,11 @@
 // Collapse in the arrays of a sound record, which are lent, with the single steps of an accepted call entered into the journal.
 // Each function asks for arrays of a sound record.
-use call_steps::unchecked::call_left;
 use call_steps::unchecked::enter_collapse;
 use fold_collapse::Pairs;
 use fold_collapse::unchecked::collapse_by_pairs;
 use fold_collapse::unchecked::collapse_pairs;
 use journal::CallLeft;
+use journal::call_left;
 use network_places::Head;
 ghost use mathlib.Core.Path.{_≡_};
 ghost use Prim.Native.Nat.{_-_};

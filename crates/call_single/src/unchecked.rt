@@ -1,11 +1,11 @@
 // Merge and drop in the arrays of a sound record, which are lent, with the single step of an accepted call entered into the journal.
 // Each function asks for arrays of a sound record.
-use call_steps::unchecked::call_left;
-use call_steps::unchecked::enter_gate;
 use fold_drop::unchecked::drop_code;
 use fold_merge::unchecked::merges::merged_at;
 use journal::CallLeft;
+use journal::call_left;
 use journal_entry::unchecked::one_more;
+use journal_gate::unchecked::enter_gate;
 use network_places::Head;
 use network_places::unchecked::store_gate;
 use network_removal::unchecked::remove_places;

@@ -1,2 +1,2 @@
-// The steps of a call entered into the journal of a record whose arrays are lent. Its calls ask for what `unchecked` says.
+// The steps of a call entered into the journal of a record whose arrays are lent. Its call asks for what `unchecked` says.
 pub mod unchecked;

@@ -1,76 +1,16 @@
-// The steps of a call entered into a journal whose arrays are lent, and the numbers that a call leaves.
-// Each function asks for arrays of a sound record.
-use call_theory::Figures;
+// The steps of a call entered into a journal whose arrays are lent. Each function asks for arrays of a sound record.
 use fold_merge::unchecked::readers::reads_gate;
-use journal::CallLeft;
-use journal_entry::unchecked::enter_step;
 use journal_entry::unchecked::one_more;
+use journal_gate::unchecked::enter_gate;
 use network_places::Head;
-use network_places::unchecked::gate_at;
 ghost use mathlib.Core.Path.{_≡_};
 ghost use mathlib.Core.Bool.{true};
-ghost use Prim.Native.Nat.{_<_};
-ghost use Rattle.network.specs.Record.{netOf, soundRecord, rowAt};
+ghost use Rattle.network.specs.Record.{netOf, soundRecord};
 ghost use Rattle.network.specs.Places.{SoundGate};
 ghost use Rattle.network_places.specs.Parts.{fromParts};
 ghost use Rattle.call_theory.specs.Steps.{readerSteps, collapseSteps};
 ghost use Rattle.journal.specs.Journals.{enterAll};
-ghost use Rattle.journal_entry.specs.Entering.{StepEntered};
-ghost use Rattle.journal.specs.Parts.{journalParts, leaving};
-
-// What a call leaves: its code, the numbers of gates and of steps, and the number of collapses of a sweep.
-pub fn call_left(code: u8, gates: usize, count: usize, collapses: usize) -> CallLeft
-    ensures { λ r. ⌜ r ≡ leaving code gates count collapses ⌝ }
-{
-    let figures = Figures {
-        first: collapses as u64,
-        second: 0,
-        third: 0,
-    };
-    CallLeft {
-        code,
-        gates,
-        count,
-        figures,
-    }
-}
-
-// A step of that kind, 0 a merge and 1 a drop, at gate g, which has that signal.
-pub fn enter_gate<'a>(
-    fanins: &'a [u8; 128],
-    thresholds: &'a [i32; 128],
-    signals: &'a [u8; 2048],
-    weights: &'a [i32; 2048],
-    kinds: &mut [u8; 64],
-    step_signals: &mut [u8; 64],
-    step_fanins: &mut [u8; 64],
-    step_thresholds: &mut [i32; 64],
-    feeds: &mut [u8; 1024],
-    step_weights: &mut [i32; 1024],
-    kind: u8,
-    signal: u8,
-    g: usize,
-)
-    requires { ⌜ g < 128 ⌝ }
-    ensures { λ _. ⌜ StepEntered kind signal (rowAt (now (fanins .entry)) (now (thresholds .entry)) (now (signals .entry)) (now (weights .entry)) g)
-        (now (kinds .entry)) (now («step_signals» .entry)) (now («step_fanins» .entry)) (now («step_thresholds» .entry))
-        (now (feeds .entry)) (now («step_weights» .entry))
-        (now (kinds .exit)) (now («step_signals» .exit)) (now («step_fanins» .exit)) (now («step_thresholds» .exit))
-        (now (feeds .exit)) (now («step_weights» .exit)) ⌝ }
-{
-    let row = gate_at(fanins, thresholds, signals, weights, g);
-    enter_step(
-        kinds,
-        step_signals,
-        step_fanins,
-        step_thresholds,
-        feeds,
-        step_weights,
-        kind,
-        signal,
-        row,
-    );
-}
+ghost use Rattle.journal.specs.Parts.{journalParts};
 
 // The merges of u into its readers, in rising order, entered; the answer is the number of steps.
 fn enter_readers<'a>(

@@ -1,9 +1,9 @@
 // Sweep in the arrays of a sound record, which are lent, with the single steps of its collapses entered into the journal.
 // The function asks for arrays of a sound record.
 use call_collapse::unchecked::collapse_entered;
-use call_steps::unchecked::call_left;
 use fold_sweep::unchecked::lowest_collapsible;
 use journal::CallLeft;
+use journal::call_left;
 use network_places::Head;
 use network_places::unchecked::with_gates;
 ghost use mathlib.Core.Path.{_≡_};

@@ -10,8 +10,8 @@ use Rattle.journal.specs.Parts.{recordParts}
 use Rattle.journal.specs.PartsLaws.{refused-parts, answered-parts}
 use Rattle.journal.specs.AnswerLaws.{whole-network}
 use Rattle.journal.specs.declared.Record.{Record}
-use Rattle.call_undo.specs.declared.Back.{Back}
-use Rattle.call_undo.specs.BackLaws.{back-ok, back-network}
+use Rattle.call_restoring.specs.declared.Back.{Back}
+use Rattle.call_restoring.specs.BackLaws.{back-ok, back-network}
 use Rattle.call_undo.specs.UndoneLaws.{undone-empty, undone-stuck, undone-back}
 use Rattle.call_undo.specs.PartsLaws.{back-parts}
 use Rattle.call_undo.proofs.unchecked.undo_in.Statement.{statement}

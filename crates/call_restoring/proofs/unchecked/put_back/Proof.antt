@@ -6,10 +6,10 @@ use mathlib.Core.Bool.{true}
 use Rattle.network.specs.Record.{gateIn}
 use Rattle.network.specs.Limits.{gateSignal}
 use Rattle.network.specs.RecordLaws.{gate-signal}
-use Rattle.call_undo.specs.BackLaws.{no-gate, back-no, back-merge}
-use Rattle.call_undo.specs.NewestLaws.{packed-few}
-use Rattle.call_undo.proofs.unchecked.put_back.Statement.{statement}
-use Rattle.call_undo.proofs.unchecked.put_back.Tie as tie
+use Rattle.call_restoring.specs.BackLaws.{no-gate, back-no, back-merge}
+use Rattle.call_restoring.specs.NewestLaws.{packed-few}
+use Rattle.call_restoring.proofs.unchecked.put_back.Statement.{statement}
+use Rattle.call_restoring.proofs.unchecked.put_back.Tie as tie
 
 returns : tie.Need-returns
 returns c =

@@ -7,11 +7,11 @@ use lib.ListN.{getD}
 use Rattle.network.specs.Record.{netOf, gateIn}
 use Rattle.call_theory.specs.Steps.{merging, dropping}
 use Rattle.journal.specs.Journals.{rowOf}
-use Rattle.call_undo.specs.TakenBack.{GateRecordOk, backTo}
-use Rattle.call_undo.specs.BackLaws.{back-no}
-use Rattle.call_undo.specs.NewestLaws.{newest-merge, newest-drop, newest-wide, newest-gate, newest-packed}
-use Rattle.call_undo.proofs.unchecked.restored.Statement.{statement}
-use Rattle.call_undo.proofs.unchecked.restored.Tie as tie
+use Rattle.call_restoring.specs.TakenBack.{GateRecordOk, backTo}
+use Rattle.call_restoring.specs.BackLaws.{back-no}
+use Rattle.call_restoring.specs.NewestLaws.{newest-merge, newest-drop, newest-wide, newest-gate, newest-packed}
+use Rattle.call_restoring.proofs.unchecked.restored.Statement.{statement}
+use Rattle.call_restoring.proofs.unchecked.restored.Tie as tie
 
 returns : tie.Need-returns
 returns c =

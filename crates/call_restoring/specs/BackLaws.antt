@@ -22,8 +22,8 @@ use Rattle.network.specs.RecordLaws.{FitsRecord, sound-room, netOf-room, spare-
 use Rattle.network.specs.declared.Network.{Network}
 use Rattle.call_theory.specs.Steps.{Step, merging, dropping, oldGate, undoOf, placed, undoable}
 use Rattle.network_insertion.specs.InsertLaws.{length-insert, insert-here, insert-each}
-use Rattle.call_undo.specs.TakenBack.{backTo}
-use Rattle.call_undo.specs.declared.Back.{Back}
+use Rattle.call_restoring.specs.TakenBack.{backTo}
+use Rattle.call_restoring.specs.declared.Back.{Back}
 
 -- ---- a record with room for a network is sound where the network is
 layout-sound : (M : Net) → FitsRecord M → soundRecord (layout M) ≡ sound M

@@ -6,7 +6,7 @@ use Rattle.network.specs.Record.{netOf, layout, gateIn, gateRecord}
 use Rattle.network.specs.declared.GateRecord.{GateRecord}
 use Rattle.network.specs.declared.Network.{Network}
 use Rattle.call_theory.specs.Steps.{Step, undoOf, undoable}
-use Rattle.call_undo.specs.declared.Back.{Back}
+use Rattle.call_restoring.specs.declared.Back.{Back}
 
 -- a gate's 16 places with 0 in the spare ones, and at most 16 feeds
 pub record GateRecordOk (gate : GateRecord) : Type 0 where

@@ -1,7 +1,7 @@
 -- The gate's places are entered. Assumes nothing.
 use borrow.Author.Needs.{needs}
-use Rattle.call_steps.proofs.unchecked.enter_gate.Statement.{statement}
-use Rattle.call_steps.proofs.unchecked.enter_gate.Tie as tie
+use Rattle.journal_gate.proofs.unchecked.enter_gate.Statement.{statement}
+use Rattle.journal_gate.proofs.unchecked.enter_gate.Tie as tie
 
 returns : tie.Need-returns
 returns c =

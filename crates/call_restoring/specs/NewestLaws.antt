@@ -13,8 +13,8 @@ use Rattle.network.specs.declared.GateRecord.{GateRecord}
 use Rattle.call_theory.specs.Steps.{merging, dropping, oldGate, undoable}
 use Rattle.journal.specs.Journals.{stepOf, rowOf, stepAt}
 use Rattle.journal.specs.declared.Journal.{Journal}
-use Rattle.call_undo.specs.TakenBack.{GateRecordOk}
-use Rattle.call_undo.specs.BackLaws.{too-wide}
+use Rattle.call_restoring.specs.TakenBack.{GateRecordOk}
+use Rattle.call_restoring.specs.BackLaws.{too-wide}
 
 -- a packed gate has at most 16 feeds
 pub packed-few : (gate : GateRecord) → GateRecordOk gate → length (gateIn gate .feeds) ≤ 16

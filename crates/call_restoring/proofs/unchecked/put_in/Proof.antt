@@ -5,10 +5,10 @@ use Prim.Native.Nat.{_+_, _≤_, _<_}
 use native.Mathlib.Omega.{arith}
 use Rattle.network.specs.Record.{gateIn}
 use Rattle.network.specs.SoundLaws.{sized-of}
-use Rattle.call_undo.specs.BackLaws.{undoable-outside, inside, back-no, back-drop}
-use Rattle.call_undo.specs.NewestLaws.{packed-few}
-use Rattle.call_undo.proofs.unchecked.put_in.Statement.{statement}
-use Rattle.call_undo.proofs.unchecked.put_in.Tie as tie
+use Rattle.call_restoring.specs.BackLaws.{undoable-outside, inside, back-no, back-drop}
+use Rattle.call_restoring.specs.NewestLaws.{packed-few}
+use Rattle.call_restoring.proofs.unchecked.put_in.Statement.{statement}
+use Rattle.call_restoring.proofs.unchecked.put_in.Tie as tie
 
 add-if1 : tie.Need-add-if1
 add-if1 c = let z = sized-of (c .args .network) (c .pre .0) in omega (arith, z .few-inputs, z .few-gates)

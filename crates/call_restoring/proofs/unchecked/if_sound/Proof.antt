@@ -2,9 +2,9 @@
 use borrow.Author.Needs.{needs}
 use borrow.Author.Tests.{not-true, not-false}
 use mathlib.Core.Path.{sym, _∙_}
-use Rattle.call_undo.specs.BackLaws.{picked-no, picked-yes}
-use Rattle.call_undo.proofs.unchecked.if_sound.Statement.{statement}
-use Rattle.call_undo.proofs.unchecked.if_sound.Tie as tie
+use Rattle.call_restoring.specs.BackLaws.{picked-no, picked-yes}
+use Rattle.call_restoring.proofs.unchecked.if_sound.Statement.{statement}
+use Rattle.call_restoring.proofs.unchecked.if_sound.Tie as tie
 
 returns : tie.Need-returns
 returns c = c .kept .ensures ∙ picked-no _ _ (sym (c .before .before .is-sound .ensures) ∙ not-true _ (c .before .if1 .taken))

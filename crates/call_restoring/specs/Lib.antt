@@ -1,0 +1,3 @@
+pub mod TakenBack
+pub mod BackLaws
+pub mod NewestLaws
