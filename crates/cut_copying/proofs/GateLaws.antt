@@ -25,7 +25,7 @@ use Rattle.network.specs.declared.GateRecord.{GateRecord}
 use Rattle.network_places.specs.StoreLaws.{stored-gates}
 use Rattle.cut_theory.specs.Cut.{picked, newSignal, renamedFeed, renamedGate, cutBy}
 use Rattle.cut_theory.specs.CopyLaws.{new-zero, picked-kept, picked-gone}
-use Rattle.cut_copying.specs.Copying.{NewSignals}
+use Rattle.cut_signals.specs.Signals.{NewSignals}
 
 -- ---- one gate with new signals
 renamed-weight : (f : ℕ → ℕ) (fs : List Feed) (i : ℕ) → getD fs i noFeed .weight ≡ getD (map (renamedFeed f) fs) i noFeed .weight

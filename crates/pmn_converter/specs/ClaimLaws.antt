@@ -15,9 +15,11 @@ use Rattle.pmn_format.specs.Format.{Read, done, fileBytes, parseFile}
 use Rattle.pmn_format.specs.WriteReadLaws.{file-read}
 use Rattle.pmn_format.specs.ReadWriteLaws.{file-of}
 use Rattle.pmn_opening.specs.Files.{asAnswer, readNet}
-use Rattle.pmn_converter.specs.Conversion.{convertible, converted, conversion, conversionOf}
+use Rattle.pmn_versions.specs.Versions.{convertible, converted}
+use Rattle.pmn_versions.specs.VersionLaws.{other-back, converted-sound, converted-twice}
+use Rattle.pmn_converter.specs.Conversion.{conversion, conversionOf}
 use Rattle.pmn_converter.specs.Claims.{ThereAndBack}
-use Rattle.pmn_converter.specs.ConversionLaws.{other-back, converted-sound, converted-twice, conversion-on}
+use Rattle.pmn_converter.specs.ConversionLaws.{conversion-on}
 
 -- an accepted read
 read-of : (r : Read Net) {N : Net} → asAnswer r ≡ accepted N → (m : List ℕ) × (r ≡ done N m)

@@ -1,5 +1,4 @@
 pub mod Conversion
-pub mod Versions
 pub mod Claims
 pub mod ConversionLaws
 pub mod FileLaws

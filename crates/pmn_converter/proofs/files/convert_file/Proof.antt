@@ -8,8 +8,10 @@ use Rattle.network.specs.Record.{netOf}
 use Rattle.pmn_opening.specs.Opening.{FileOpen}
 use Rattle.pmn_opening.specs.AnswerLaws.{refused-two, same-two}
 use Rattle.pmn_opening.specs.OpeningLaws.{file-sound, open-refused}
-use Rattle.pmn_converter.specs.Conversion.{convertible, conversionPlaces}
-use Rattle.pmn_converter.specs.ConversionLaws.{conversion-refused, with-sound, with-file}
+use Rattle.pmn_versions.specs.Versions.{convertible}
+use Rattle.pmn_versions.specs.VersionLaws.{with-sound}
+use Rattle.pmn_converter.specs.Conversion.{conversionPlaces}
+use Rattle.pmn_converter.specs.ConversionLaws.{conversion-refused, with-file}
 use Rattle.pmn_converter.specs.FileLaws.{converted-open}
 use Rattle.pmn_converter.proofs.files.convert_file.Statement.{statement}
 use Rattle.pmn_converter.proofs.files.convert_file.Tie as tie

@@ -8,8 +8,10 @@ use Prim.Native.Nat.{ℕ}
 use lib.ListN.{length}
 use Rattle.basics.specs.Refusals.{Answer, stored}
 use Rattle.network.specs.Record.{netOf}
-use Rattle.pmn_converter.specs.Conversion.{convertible, asConverted}
-use Rattle.pmn_converter.specs.ConversionLaws.{conversion-refused, with-sound, with-written, with-bytes}
+use Rattle.pmn_versions.specs.Versions.{convertible}
+use Rattle.pmn_versions.specs.VersionLaws.{with-sound}
+use Rattle.pmn_converter.specs.Conversion.{asConverted}
+use Rattle.pmn_converter.specs.ConversionLaws.{conversion-refused, with-written, with-bytes}
 use Rattle.pmn_converter.proofs.unchecked.convert_sound.Statement.{statement}
 use Rattle.pmn_converter.proofs.unchecked.convert_sound.Tie as tie
 

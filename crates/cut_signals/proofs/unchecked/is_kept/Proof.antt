@@ -1,9 +1,9 @@
 -- An input stays; of a gate the mark says it. Assumes nothing.
 use borrow.Author.Needs.{needs}
 use mathlib.Core.Path.{sym, _∙_}
-use Rattle.cut_copying.proofs.CopyLaws.{stays-input, stays-gate}
-use Rattle.cut_copying.proofs.unchecked.is_kept.Statement.{statement}
-use Rattle.cut_copying.proofs.unchecked.is_kept.Tie as tie
+use Rattle.cut_signals.proofs.SignalLaws.{stays-input, stays-gate}
+use Rattle.cut_signals.proofs.unchecked.is_kept.Statement.{statement}
+use Rattle.cut_signals.proofs.unchecked.is_kept.Tie as tie
 
 returns : tie.Need-returns
 returns c = sym (stays-input _ _ _ (c .if1 .taken))

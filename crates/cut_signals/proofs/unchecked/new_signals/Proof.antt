@@ -7,9 +7,9 @@ use lib.ListN.{length}
 use Rattle.basics.specs.TestLaws.{byte-below}
 use Rattle.cut_marking.specs.Marking.{marksOf}
 use Rattle.cut_marking.specs.WordLaws.{length-marks}
-use Rattle.cut_copying.proofs.CopyLaws.{Numbered, numbered-none, numbered-more, numbered-all}
-use Rattle.cut_copying.proofs.unchecked.new_signals.Statement.{statement}
-use Rattle.cut_copying.proofs.unchecked.new_signals.Tie as tie
+use Rattle.cut_signals.proofs.SignalLaws.{Numbered, numbered-none, numbered-more, numbered-all}
+use Rattle.cut_signals.proofs.unchecked.new_signals.Statement.{statement}
+use Rattle.cut_signals.proofs.unchecked.new_signals.Tie as tie
 
 abbrev Inv-loop : tie.InvT-loop
 Inv-loop marks inputs gates result₀ next₀ s₀ s-end result next s = (s-end ≡ inputs + gates) × Numbered (marksOf marks) inputs gates result₀ result next s

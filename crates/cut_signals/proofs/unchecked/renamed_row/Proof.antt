@@ -10,8 +10,8 @@ use Rattle.network.specs.Places.{Pasted}
 use Rattle.basics.specs.ListLaws.{tab-of}
 use Rattle.basics.specs.TableLaws.{map-tab}
 use Rattle.network_places.specs.PasteLaws.{pasted-none, pasted-more, pasted-tab}
-use Rattle.cut_copying.proofs.unchecked.renamed_row.Statement.{statement}
-use Rattle.cut_copying.proofs.unchecked.renamed_row.Tie as tie
+use Rattle.cut_signals.proofs.unchecked.renamed_row.Statement.{statement}
+use Rattle.cut_signals.proofs.unchecked.renamed_row.Tie as tie
 
 abbrev Inv-loop : tie.InvT-loop
 Inv-loop numbers row result₀ i₀ result i = (i ≤ 16) × Pasted 0 0 i (λ k. getD numbers (getD row k 0) 0) result₀ result

@@ -1,6 +1,6 @@
 -- Internal: the record that the code makes of a record: the same network in the other version. Nothing is proved here.
 use Rattle.network.specs.declared.Network.{Network}
-use Rattle.pmn_converter.specs.Conversion.{otherVersion}
+use Rattle.pmn_versions.specs.Versions.{otherVersion}
 
 -- a record with the other version
 unfoldable pub otherRecord : Network → Network

@@ -1,4 +1,4 @@
--- The marked gates copied one after the other: the new signals, a row of them, and the arrays that hold the gates so far. Assumes nothing.
+-- The new signals found one after the other: whether a signal stays, and the table of those so far. Assumes nothing.
 use mathlib.Core.Path.{_≡_, sym, ap, _∙_}
 use mathlib.Core.Bool.{Bool, true, false}
 use mathlib.Core.List.{List}
@@ -13,7 +13,7 @@ use Rattle.network.specs.Places.{Pasted}
 use Rattle.network_places.specs.PasteLaws.{pasted-none, pasted-more, pasted-first}
 use Rattle.cut_theory.specs.Cut.{newSignal}
 use Rattle.cut_theory.specs.CopyLaws.{new-input, new-kept, new-gone, new-most, new-zero}
-use Rattle.cut_copying.specs.Copying.{signalStays, NewSignals}
+use Rattle.cut_signals.specs.Signals.{signalStays, NewSignals}
 
 -- ---- new signals
 pub stays-input : (marks : List Bool) (n s : ℕ) → s < n → signalStays marks n s ≡ true

@@ -1,4 +1,4 @@
--- Internal: what the copying of the marked gates goes by. Nothing is proved here.
+-- Internal: which signals stay, and the new ones of a network's signals. Nothing is proved here.
 use mathlib.Core.Path.{_≡_}
 use mathlib.Core.Bool.{Bool, false, _||_}
 use mathlib.Core.List.{List}
