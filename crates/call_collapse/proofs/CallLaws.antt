@@ -14,7 +14,7 @@ use Rattle.journal.specs.Records.{stateOf, soundWhole}
 use Rattle.journal.specs.Answers.{journalAfter, applied}
 use Rattle.journal.specs.Parts.{refusing, answered}
 use Rattle.journal.specs.declared.Record.{Record}
-use Rattle.call_steps.specs.CallLaws.{IsCall, call-refused, call-accepted}
+use Rattle.journal.specs.CallLaws.{IsCall, call-refused, call-accepted}
 
 module _ (r : Record) (whole : soundWhole r ≡ true) (s : ℕ) where
   is-collapse : IsCall r (Collapse s) (λ M. collapse M s)

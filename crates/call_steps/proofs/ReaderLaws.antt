@@ -19,7 +19,7 @@ use Rattle.fold_theory.specs.Merge.{silent, reads}
 use Rattle.call_theory.specs.Steps.{Step, merging, dropping, oldGate, readerSteps, collapseSteps}
 use Rattle.journal.specs.Journals.{kindOf, signalOf, withStep, enter, enterAll}
 use Rattle.journal.specs.declared.Journal.{Journal}
-use Rattle.call_steps.specs.EnterLaws.{enterAll-join}
+use Rattle.journal.specs.JournalLaws.{enterAll-join}
 
 -- ---- the steps from gate g on
 module _ (n : Network) (u g : ℕ) where

@@ -31,7 +31,7 @@ use Rattle.fold_sweep.specs.Sweeping.{asked, NextCollapse}
 use Rattle.fold_sweep.specs.Memory.{Remembered, RememberedAfter}
 use Rattle.fold_sweep.specs.MemoryLaws.{remembered-none}
 use Rattle.journal.specs.Parts.{answered}
-use Rattle.call_steps.specs.EnterLaws.{enterAll-join}
+use Rattle.journal.specs.JournalLaws.{enterAll-join}
 use Rattle.call_collapse.specs.Entering.{CollapseEntered}
 
 goOn-end : {A : Type 0} (a : Answer Net) (f : Net → A) (x : A) → Refused a → goOn a f x ≡ x

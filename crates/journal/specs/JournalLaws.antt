@@ -141,6 +141,12 @@ enterAll-journal ss [] h = refl
 enterAll-journal ss (s ∷ new) h = ap (λ (j : Journal). enterAll j new) (enter-journal ss s h)
     ∙ enterAll-journal (take 64 (s ∷ ss)) new (omega (arith, length-take 64 (s ∷ ss)))
 
+-- steps entered, and more after them
+pub enterAll-join : (j : Journal) (ss ts : List Step) → enterAll j (ss ++ ts) ≡ enterAll (enterAll j ss) ts
+unfolding enterAll
+enterAll-join j [] ts = refl
+enterAll-join j (s ∷ ss) ts = enterAll-join (enter j s) ss ts
+
 -- ---- the newest taken out
 
 -- the newest taken out, by the step of each place

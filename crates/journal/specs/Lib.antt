@@ -7,3 +7,4 @@ pub mod ShiftLaws
 pub mod PartsLaws
 pub mod JournalLaws
 pub mod AnswerLaws
+pub mod CallLaws

@@ -1,2 +1,0 @@
-pub mod EnterLaws
-pub mod CallLaws
