@@ -1,7 +1,7 @@
 // The steps of a call entered into a journal whose arrays are lent, and the numbers that a call leaves.
 // Each function asks for arrays of a sound record.
 use call_theory::Figures;
-use fold_merge::unchecked::readers::reads_gate;
+use fold_readers::unchecked::reads_gate;
 use journal::CallLeft;
 use journal_entry::unchecked::enter_step;
 use journal_entry::unchecked::one_more;

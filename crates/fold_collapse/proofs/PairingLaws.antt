@@ -16,7 +16,7 @@ use Rattle.network.specs.Sound.{HasSignal}
 use Rattle.network.specs.Record.{gateFrom}
 use Rattle.network.specs.declared.Board.{Board}
 use Rattle.fold_theory.specs.Merge.{edgeOf, reads}
-use Rattle.fold_merge.specs.Arrays.{edgeIn, GateReads}
+use Rattle.fold_edges.specs.Edges.{edgeIn, GateReads}
 use Rattle.fold_theory.specs.Pair.{Pair}
 use Rattle.fold_collapse.specs.Collapsing.{edgeTo, noPair, readerPair}
 

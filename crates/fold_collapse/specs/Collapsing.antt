@@ -22,7 +22,8 @@ use Rattle.fold_theory.specs.Pair.{Pair, pairOf}
 use Rattle.fold_theory.specs.Collapse.{mergedReaders, collapse}
 use Rattle.network_places.specs.declared.Head.{Head}
 use Rattle.pair_theory.specs.Alignments.{alignmentOf, Mergeable}
-use Rattle.fold_merge.specs.Arrays.{edgeIn, SoundArrays, GateReads}
+use Rattle.fold_readers.specs.Arrays.{SoundArrays}
+use Rattle.fold_edges.specs.Edges.{edgeIn, GateReads}
 use Rattle.fold_collapse.specs.declared.Pairs.{Pairs}
 
 -- ---- one gate

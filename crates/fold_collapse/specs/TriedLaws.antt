@@ -13,7 +13,7 @@ use Rattle.network.specs.RecordLaws.{gate-signal}
 use Rattle.network.specs.Places.{SoundGate}
 use Rattle.network.specs.declared.Network.{Network}
 use Rattle.fold_theory.specs.Collapse.{collapsed, collapse}
-use Rattle.fold_merge.specs.Readers.{occurs}
+use Rattle.fold_readers.specs.Readers.{occurs}
 use Rattle.fold_collapse.specs.declared.Pairs.{Pairs}
 use Rattle.fold_collapse.specs.Collapsing.{ReaderPairs, PairsTried}
 use Rattle.fold_collapse.specs.CollapsingLaws.{pairs-all, pairs-first, collapsed-pairs, collapsed-first}

@@ -1,10 +1,10 @@
 // Collapse in the arrays of a sound record, which are lent: the pairs of all readers first, then the merges and the drop.
 use crate::Pairs;
-use fold_merge::unchecked::edges::aligned_at;
-use fold_merge::unchecked::readers::is_output;
-use fold_merge::unchecked::readers::reads_gate;
+use fold_edges::unchecked::aligned_at;
 use fold_pair::PairFound;
 use fold_pair::unchecked::pair_of;
+use fold_readers::unchecked::is_output;
+use fold_readers::unchecked::reads_gate;
 use network::Board;
 use network_places::Head;
 use network_places::unchecked::store_gate;
@@ -23,7 +23,8 @@ ghost use Rattle.network.specs.Places.{GateStored};
 ghost use Rattle.network_places.specs.Parts.{fromParts, counting, Lengths};
 ghost use Rattle.fold_pair.specs.Answers.{asPair};
 ghost use Rattle.pair_theory.specs.Alignments.{alignmentOf, mergedOf};
-ghost use Rattle.fold_merge.specs.Arrays.{edgeIn, SoundArrays};
+ghost use Rattle.fold_readers.specs.Arrays.{SoundArrays};
+ghost use Rattle.fold_edges.specs.Edges.{edgeIn};
 ghost use Rattle.fold_collapse.specs.Collapsing.{edgeTo, readerPair, ReaderPairs, collapsedBy, MergesIn, CollapsesBy, PairsTried};
 
 // No pairs: a refusal, and the reader that it came from.

@@ -18,7 +18,7 @@ use Rattle.network.specs.declared.Network.{Network}
 use Rattle.fold_theory.specs.Collapse.{collapse}
 use Rattle.fold_theory.specs.Sweep.{readers, orElse, sweepFrom, sweepOnce}
 use Rattle.fold_collapse.specs.declared.Pairs.{Pairs}
-use Rattle.fold_merge.specs.Readers.{occurs}
+use Rattle.fold_readers.specs.Readers.{occurs}
 use Rattle.fold_unchanged.specs.Unchanged.{RefusedBy}
 use Rattle.fold_unchanged.specs.UnchangedLaws.{refused-collapse}
 use Rattle.fold_collapse.specs.Collapsing.{AllPairs, collapsedBy}

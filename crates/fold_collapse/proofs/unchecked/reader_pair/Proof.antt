@@ -12,11 +12,11 @@ use Rattle.pair_theory.specs.Alignments.{AlignmentOnScale}
 use Rattle.pair_theory.specs.AlignmentLaws.{aligned-fair}
 use Rattle.fold_pair.specs.Answers.{asPair}
 use Rattle.fold_pair.specs.Parts.{pairOfAlignment}
-use Rattle.fold_merge.specs.Arrays.{GateReads}
-use Rattle.fold_merge.specs.EdgeLaws.{joined-ok}
+use Rattle.fold_readers.specs.ArrayLaws.{lent-counted}
+use Rattle.fold_edges.specs.Edges.{GateReads}
+use Rattle.fold_edges.specs.EdgeLaws.{joined-ok}
 use Rattle.fold_pair.specs.PairLaws.{pair-on}
 use Rattle.fold_collapse.specs.Collapsing.{edgeTo}
-use Rattle.fold_merge.specs.ArrayLaws.{lent-counted}
 use Rattle.fold_collapse.specs.CollapsingLaws.{pair-silent, pair-reader}
 use Rattle.fold_collapse.proofs.PairingLaws.{edge-number, joined-number}
 use Rattle.fold_collapse.proofs.unchecked.reader_pair.Statement.{statement}

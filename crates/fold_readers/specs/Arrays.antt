@@ -1,24 +1,16 @@
 -- Internal: the gates in the lent arrays of a sound record. Nothing is proved here.
 use mathlib.Core.Path.{_≡_}
 use mathlib.Core.List.{List}
-use Prim.Native.Nat.{ℕ, _-_, _≤_, _<_}
-use lib.Dec.{T}
+use Prim.Native.Nat.{ℕ, _≤_, _<_}
 use lib.IntN.{ℤ}
 use Rattle.basics.specs.Lists.{tab}
 use Rattle.network.specs.Threshold.{Gate}
 use Rattle.network.specs.Record.{gateFrom, gateRecord, rowAt}
-use Rattle.network.specs.Sound.{GatesOk, HasSignal}
-use Rattle.network.specs.declared.Board.{Board}
-use Rattle.fold_theory.specs.Merge.{Edge, edgeOf, reads}
+use Rattle.network.specs.Sound.{GatesOk}
 
 -- the gates
 abbrev pub gatesIn : List ℕ → List ℤ → List ℕ → List ℤ → ℕ → List Gate
 gatesIn fanins thresholds signals weights gates = tab gates (gateFrom fanins thresholds signals weights)
-
--- gates u and v, by their signals, as an edge on a board
-abbrev pub edgeIn : Board → List ℕ → List ℤ → List ℕ → List ℤ → ℕ → ℕ → ℕ → Edge
-edgeIn b fanins thresholds signals weights inputs u v =
-    edgeOf b u v (gateFrom fanins thresholds signals weights (u - inputs)) (gateFrom fanins thresholds signals weights (v - inputs))
 
 -- the arrays are those of a sound record: every gate is within the limits, and its places hold it and nothing more
 pub record SoundArrays (fanins : List ℕ) (thresholds : List ℤ) (signals : List ℕ) (weights : List ℤ) (inputs gates : ℕ) : Type 0 where
@@ -27,9 +19,3 @@ pub record SoundArrays (fanins : List ℕ) (thresholds : List ℤ) (signals : Li
   pub few-gates : gates ≤ 128
   pub all-gates : GatesOk inputs (gatesIn fanins thresholds signals weights gates)
   pub rows : (g : ℕ) → g < gates → rowAt fanins thresholds signals weights g ≡ gateRecord (gateFrom fanins thresholds signals weights g)
-
--- v reads u, both being gates
-pub record GateReads (fanins : List ℕ) (thresholds : List ℤ) (signals : List ℕ) (weights : List ℤ) (inputs gates u v : ℕ) : Type 0 where
-  pub u-gate : HasSignal inputs gates u
-  pub v-gate : HasSignal inputs gates v
-  pub joined : T (reads u (gateFrom fanins thresholds signals weights (v - inputs)))

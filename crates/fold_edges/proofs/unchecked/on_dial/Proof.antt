@@ -2,8 +2,8 @@
 use mathlib.Core.Path.{refl}
 use Rattle.basics.specs.Lists.{between}
 use Rattle.fold_theory.specs.Merge.{onDial}
-use Rattle.fold_merge.proofs.unchecked.edges.on_dial.Statement.{statement}
-use Rattle.fold_merge.proofs.unchecked.edges.on_dial.Tie as tie
+use Rattle.fold_edges.proofs.unchecked.on_dial.Statement.{statement}
+use Rattle.fold_edges.proofs.unchecked.on_dial.Tie as tie
 
 returns : tie.Need-returns
 unfolding onDial between

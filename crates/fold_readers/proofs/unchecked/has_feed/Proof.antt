@@ -3,10 +3,10 @@ use borrow.Author.Needs.{needs}
 use mathlib.Core.Path.{_≡_, sym, _∙_}
 use Prim.Native.Nat.{_+_, _-_, _≤_}
 use native.Mathlib.Omega.{arith}
-use Rattle.fold_merge.specs.Readers.{occurs}
-use Rattle.fold_merge.proofs.ReaderLaws.{occurs-here, occurs-next, occurs-end}
-use Rattle.fold_merge.proofs.unchecked.readers.has_feed.Statement.{statement}
-use Rattle.fold_merge.proofs.unchecked.readers.has_feed.Tie as tie
+use Rattle.fold_readers.specs.Readers.{occurs}
+use Rattle.fold_readers.proofs.ReaderLaws.{occurs-here, occurs-next, occurs-end}
+use Rattle.fold_readers.proofs.unchecked.has_feed.Statement.{statement}
+use Rattle.fold_readers.proofs.unchecked.has_feed.Tie as tie
 
 abbrev Inv-loop : tie.InvT-loop
 Inv-loop signals base count signal p₀ p-end p =

@@ -24,9 +24,10 @@ use Rattle.fold_theory.specs.Merge.{edge, reads, edgeOf}
 use Rattle.fold_theory.specs.AlignedLaws.{EdgeOk}
 use Rattle.pair_theory.specs.Alignments as alignments
 use Rattle.pair_theory.specs.Alignments.{Alignable}
-use Rattle.fold_merge.specs.Arrays.{edgeIn, SoundArrays, GateReads}
-use Rattle.fold_merge.specs.ArrayLaws.{lent-gate}
-use Rattle.fold_merge.specs.Codes.{firstFailing, edgeTests, edgeTestsIn}
+use Rattle.fold_readers.specs.Arrays.{SoundArrays}
+use Rattle.fold_readers.specs.ArrayLaws.{lent-gate}
+use Rattle.fold_edges.specs.Edges.{edgeIn, GateReads}
+use Rattle.fold_edges.specs.Codes.{firstFailing, edgeTests, edgeTestsIn}
 
 -- ---- gates in lent arrays
 

@@ -1,7 +1,7 @@
 -- The outputs are the first places of a list of signals. Assumes nothing.
 use borrow.Author.Needs.{needs}
-use Rattle.fold_merge.proofs.unchecked.readers.is_output.Statement.{statement}
-use Rattle.fold_merge.proofs.unchecked.readers.is_output.Tie as tie
+use Rattle.fold_readers.proofs.unchecked.is_output.Statement.{statement}
+use Rattle.fold_readers.proofs.unchecked.is_output.Tie as tie
 
 returns : tie.Need-returns
 returns c = c .has-feed .ensures

@@ -14,7 +14,7 @@ use Rattle.network.specs.Limits.{signalsOf}
 use Rattle.network.specs.Record.{feedAt, feedsFrom, gateFrom}
 use Rattle.basics.specs.RangeLaws.{range-step, range-end}
 use Rattle.fold_theory.specs.Merge.{silent, reads}
-use Rattle.fold_merge.specs.Readers.{occurs}
+use Rattle.fold_readers.specs.Readers.{occurs}
 
 -- ---- a signal among places, from place p to the end e
 module _ (xs : List ℕ) (p e s : ℕ) where

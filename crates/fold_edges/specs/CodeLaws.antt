@@ -5,7 +5,7 @@ use mathlib.Core.List.{List, [], _∷_, _++_, append-nil}
 use Prim.Native.Nat.{ℕ}
 use Rattle.basics.specs.Refusals.{Answer, accepted, refused, Test, _else_, checks, codeOf, Passed}
 use Rattle.fold_theory.specs.RefusalLaws.{NoneSays}
-use Rattle.fold_merge.specs.Codes.{firstFailing}
+use Rattle.fold_edges.specs.Codes.{firstFailing}
 
 -- ---- tests and others after them
 

@@ -9,12 +9,12 @@ use Rattle.basics.specs.TestLaws.{T-is, T-and}
 use Rattle.network.specs.Limits.{gateSignal}
 use Rattle.network.specs.Sound.{HasSignal}
 use Rattle.network.specs.LimitLaws.{signal-of}
-use Rattle.fold_merge.specs.ArrayLaws.{lent-counted}
-use Rattle.fold_merge.specs.EdgeLaws.{signal-place}
-use Rattle.fold_merge.specs.Codes.{firstFailing, edgeTestsIn}
+use Rattle.fold_readers.specs.ArrayLaws.{lent-counted}
+use Rattle.fold_edges.specs.EdgeLaws.{signal-place}
+use Rattle.fold_edges.specs.Codes.{firstFailing, edgeTestsIn}
 use borrow.Author.Needs.{needs}
-use Rattle.fold_merge.proofs.unchecked.edges.edge_code.Statement.{statement}
-use Rattle.fold_merge.proofs.unchecked.edges.edge_code.Tie as tie
+use Rattle.fold_edges.proofs.unchecked.edge_code.Statement.{statement}
+use Rattle.fold_edges.proofs.unchecked.edge_code.Tie as tie
 
 -- what the first test found
 tested : (c : tie.After-is-gate2) → let a = c .before .before .args in

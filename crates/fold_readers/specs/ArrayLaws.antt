@@ -13,7 +13,7 @@ use Rattle.network.specs.Places.{Counted}
 use Rattle.network.specs.PlaceLaws.{length-gateFrom}
 use Rattle.network.specs.RecordLaws.{count-gates, sound-net, row-gate}
 use Rattle.network.specs.declared.Network.{Network}
-use Rattle.fold_merge.specs.Arrays.{gatesIn, SoundArrays}
+use Rattle.fold_readers.specs.Arrays.{gatesIn, SoundArrays}
 
 -- the arrays of a sound record
 pub lent-of : (r : Network) → T (soundRecord r) → SoundArrays (r .fanins) (r .thresholds) (r .signals) (r .weights) (r .inputs) (r .gates)

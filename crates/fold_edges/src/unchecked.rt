@@ -1,6 +1,6 @@
 // Two gates of a record whose arrays are lent: the tests that both are gates and that one feeds the other, and the two aligned by
 // their distinct feeds.
-use crate::unchecked::readers::reads_gate;
+use fold_readers::unchecked::reads_gate;
 use network::Board;
 use network_places::unchecked::gate_at;
 use network_limits::is_gate;
@@ -11,8 +11,9 @@ ghost use lib.Dec.{T};
 ghost use Rattle.network.specs.Limits.{boardOk};
 ghost use Rattle.fold_theory.specs.Merge.{onDial};
 ghost use Rattle.pair_theory.specs.Alignments.{alignmentOf};
-ghost use Rattle.fold_merge.specs.Arrays.{edgeIn, SoundArrays, GateReads};
-ghost use Rattle.fold_merge.specs.Codes.{firstFailing, edgeTestsIn};
+ghost use Rattle.fold_readers.specs.Arrays.{SoundArrays};
+ghost use Rattle.fold_edges.specs.Edges.{edgeIn, GateReads};
+ghost use Rattle.fold_edges.specs.Codes.{firstFailing, edgeTestsIn};
 
 // 11 or 12 if u or v is no gate or u doesn't feed v, else 0.
 pub fn edge_code<'a>(

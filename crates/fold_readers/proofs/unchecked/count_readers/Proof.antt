@@ -12,10 +12,10 @@ use Rattle.basics.specs.Lists.{keep, range}
 use Rattle.network.specs.Record.{gateFrom}
 use Rattle.basics.specs.TestLaws.{byte-below}
 use Rattle.fold_theory.specs.Merge.{reads}
-use Rattle.fold_merge.specs.Arrays.{gatesIn}
-use Rattle.fold_merge.proofs.ReaderLaws.{kept-step, kept-end}
-use Rattle.fold_merge.proofs.unchecked.readers.count_readers.Statement.{statement}
-use Rattle.fold_merge.proofs.unchecked.readers.count_readers.Tie as tie
+use Rattle.fold_readers.specs.Arrays.{gatesIn}
+use Rattle.fold_readers.proofs.ReaderLaws.{kept-step, kept-end}
+use Rattle.fold_readers.proofs.unchecked.count_readers.Statement.{statement}
+use Rattle.fold_readers.proofs.unchecked.count_readers.Tie as tie
 
 abbrev Inv-loop : tie.InvT-loop
 Inv-loop fanins signals gates signal count₀ g₀ count g =

@@ -2,11 +2,11 @@
 use mathlib.Core.Path.{_≡_, sym, ap, _∙_, subst}
 use Rattle.pair_theory.specs.Alignments as alignments
 use Rattle.pair_theory.specs.Alignments.{Alignable, alignmentOf}
-use Rattle.fold_merge.specs.Arrays.{edgeIn}
-use Rattle.fold_merge.specs.EdgeLaws.{signal-place, joined-alignable, joined-rows}
+use Rattle.fold_edges.specs.Edges.{edgeIn}
+use Rattle.fold_edges.specs.EdgeLaws.{signal-place, joined-alignable, joined-rows}
 use borrow.Author.Needs.{needs}
-use Rattle.fold_merge.proofs.unchecked.edges.aligned_at.Statement.{statement}
-use Rattle.fold_merge.proofs.unchecked.edges.aligned_at.Tie as tie
+use Rattle.fold_edges.proofs.unchecked.aligned_at.Statement.{statement}
+use Rattle.fold_edges.proofs.unchecked.aligned_at.Tie as tie
 
 gate-at-requires : tie.Need-gate-at-requires
 gate-at-requires c κs = signal-place (c .pre .0) (c .args .u) (c .pre .1 .0 .u-gate)

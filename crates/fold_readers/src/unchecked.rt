@@ -9,8 +9,8 @@ ghost use Rattle.basics.specs.Lists.{keep};
 ghost use Rattle.network.specs.Record.{gateFrom};
 ghost use Rattle.network.specs.Places.{Counted};
 ghost use Rattle.fold_theory.specs.Merge.{reads};
-ghost use Rattle.fold_merge.specs.Arrays.{gatesIn};
-ghost use Rattle.fold_merge.specs.Readers.{occurs};
+ghost use Rattle.fold_readers.specs.Arrays.{gatesIn};
+ghost use Rattle.fold_readers.specs.Readers.{occurs};
 
 // Whether a signal is one of count signals from place base on.
 fn has_feed(signals: &[u8], base: usize, count: usize, signal: usize) -> bool
