@@ -16,11 +16,11 @@ use Rattle.fold_readers.specs.ArrayLaws.{lent-counted}
 use Rattle.fold_edges.specs.Edges.{GateReads}
 use Rattle.fold_edges.specs.EdgeLaws.{joined-ok}
 use Rattle.fold_pair.specs.PairLaws.{pair-on}
-use Rattle.fold_collapse.specs.Collapsing.{edgeTo}
-use Rattle.fold_collapse.specs.CollapsingLaws.{pair-silent, pair-reader}
-use Rattle.fold_collapse.proofs.PairingLaws.{edge-number, joined-number}
-use Rattle.fold_collapse.proofs.unchecked.reader_pair.Statement.{statement}
-use Rattle.fold_collapse.proofs.unchecked.reader_pair.Tie as tie
+use Rattle.fold_reader_pairs.specs.Collapsing.{edgeTo}
+use Rattle.fold_reader_pairs.specs.CollapsingLaws.{pair-silent, pair-reader}
+use Rattle.fold_reader_pairs.proofs.PairingLaws.{edge-number, joined-number}
+use Rattle.fold_reader_pairs.proofs.unchecked.reader_pair.Statement.{statement}
+use Rattle.fold_reader_pairs.proofs.unchecked.reader_pair.Tie as tie
 
 reads-gate-requires : tie.Need-reads-gate-requires
 reads-gate-requires c κs = let n = lent-counted (c .pre .0) in (omega (arith, n .few-gates), n .few-feeds _ (c .pre .2))

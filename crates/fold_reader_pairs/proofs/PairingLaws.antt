@@ -18,7 +18,7 @@ use Rattle.network.specs.declared.Board.{Board}
 use Rattle.fold_theory.specs.Merge.{edgeOf, reads}
 use Rattle.fold_edges.specs.Edges.{edgeIn, GateReads}
 use Rattle.fold_theory.specs.Pair.{Pair}
-use Rattle.fold_collapse.specs.Collapsing.{edgeTo, noPair, readerPair}
+use Rattle.fold_reader_pairs.specs.Collapsing.{edgeTo, noPair, readerPair}
 
 -- ---- gates u and g of lent arrays
 module _ (board : Board) (fs : List ℕ) (ts : List ℤ) (ss : List ℕ) (ws : List ℤ) (inputs gates u g : ℕ) where

@@ -7,11 +7,11 @@ use Rattle.basics.specs.Refusals.{accepted}
 use Rattle.network.specs.Threshold.{Gate}
 use Rattle.network.specs.Record.{gateFrom}
 use Rattle.fold_theory.specs.Merge.{Edge}
-use Rattle.fold_collapse.specs.Collapsing.{edgeTo, readerPair}
-use Rattle.fold_collapse.specs.CollapsingLaws.{readerPair-numbered, asPair-accepted, asPair-refused, pair-small}
-use Rattle.fold_collapse.proofs.PairingLaws.{Found, found-none, found-more}
-use Rattle.fold_collapse.proofs.unchecked.reader_pairs.Statement.{statement}
-use Rattle.fold_collapse.proofs.unchecked.reader_pairs.Tie as tie
+use Rattle.fold_reader_pairs.specs.Collapsing.{edgeTo, readerPair}
+use Rattle.fold_reader_pairs.specs.CollapsingLaws.{readerPair-numbered, asPair-accepted, asPair-refused, pair-small}
+use Rattle.fold_reader_pairs.proofs.PairingLaws.{Found, found-none, found-more}
+use Rattle.fold_reader_pairs.proofs.unchecked.reader_pairs.Statement.{statement}
+use Rattle.fold_reader_pairs.proofs.unchecked.reader_pairs.Tie as tie
 
 abbrev Inv-loop : tie.InvT-loop
 Inv-loop board fanins thresholds signals weights inputs gates u ks₀ ls₀ g₀ ks ls g =

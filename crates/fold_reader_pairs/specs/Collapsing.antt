@@ -5,13 +5,11 @@ use mathlib.Core.Bool.{cond}
 use mathlib.Core.List.{List}
 use mathlib.Core.Logic.{_≢_}
 use Prim.Native.Nat.{ℕ, _+_, _-_, _≤_, _<_}
-use lib.Dec.{T, eqb}
-use lib.IntN.{ℤ}
+use lib.Dec.{eqb}
 use lib.ListN.{getD}
 use Rattle.basics.specs.Lists.{tab}
 use Rattle.basics.specs.Refusals.{Answer, accepted, refused}
 use Rattle.network.specs.Threshold.{Gate, Net}
-use Rattle.network.specs.Limits.{boardOk}
 use Rattle.network.specs.Record.{gateOf, netOf}
 use Rattle.network.specs.Changes.{withGates, without}
 use Rattle.network.specs.Places.{SoundGate}
@@ -20,11 +18,7 @@ use Rattle.network.specs.declared.Network.{Network}
 use Rattle.fold_theory.specs.Merge.{Edge, edgeOf, silent, merged}
 use Rattle.fold_theory.specs.Pair.{Pair, pairOf}
 use Rattle.fold_theory.specs.Collapse.{mergedReaders, collapse}
-use Rattle.network_places.specs.declared.Head.{Head}
-use Rattle.pair_theory.specs.Alignments.{alignmentOf, Mergeable}
-use Rattle.fold_readers.specs.Arrays.{SoundArrays}
-use Rattle.fold_edges.specs.Edges.{edgeIn, GateReads}
-use Rattle.fold_collapse.specs.declared.Pairs.{Pairs}
+use Rattle.fold_reader_pairs.specs.declared.Pairs.{Pairs}
 
 -- ---- one gate
 
@@ -85,14 +79,6 @@ gatesWithPairs board gate inputs gates u p = tab gates (λ g. withPair (edgeTo b
 -- the network of a record, with gate u collapsed into its readers by their pairs
 unfoldable pub collapsedBy : Network → ℕ → Pairs → Net
 collapsedBy r u p = without (withGates (netOf r) (gatesWithPairs (r .board) (gateOf r) (r .inputs) (r .gates) u p)) u
-
--- gate u can be merged with k and l into its reader with number g, in lent arrays
-pub record MergesIn (head : Head) (fanins : List ℕ) (thresholds : List ℤ) (signals : List ℕ) (weights : List ℤ) (u g k l : ℕ) : Type 0 where
-  pub lent : SoundArrays fanins thresholds signals weights (head .inputs) (head .gates)
-  pub joined : GateReads fanins thresholds signals weights (head .inputs) (head .gates) u (head .inputs + g)
-  pub board-ok : T (boardOk (head .board))
-  pub mergeable : Mergeable (alignmentOf (edgeIn (head .board) fanins thresholds signals weights (head .inputs) u (head .inputs + g))) k l
-  pub place : g < 128
 
 -- u is a gate of a sound record, and p has the pairs of all its readers
 pub record CollapsesBy (r : Network) (u : ℕ) (p : Pairs) : Type 0 where

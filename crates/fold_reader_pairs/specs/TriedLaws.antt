@@ -14,9 +14,9 @@ use Rattle.network.specs.Places.{SoundGate}
 use Rattle.network.specs.declared.Network.{Network}
 use Rattle.fold_theory.specs.Collapse.{collapsed, collapse}
 use Rattle.fold_readers.specs.Readers.{occurs}
-use Rattle.fold_collapse.specs.declared.Pairs.{Pairs}
-use Rattle.fold_collapse.specs.Collapsing.{ReaderPairs, PairsTried}
-use Rattle.fold_collapse.specs.CollapsingLaws.{pairs-all, pairs-first, collapsed-pairs, collapsed-first}
+use Rattle.fold_reader_pairs.specs.declared.Pairs.{Pairs}
+use Rattle.fold_reader_pairs.specs.Collapsing.{ReaderPairs, PairsTried}
+use Rattle.fold_reader_pairs.specs.CollapsingLaws.{pairs-all, pairs-first, collapsed-pairs, collapsed-first}
 
 not-twice : (b : Bool) → not (not b) ≡ b
 not-twice true = refl

@@ -29,10 +29,10 @@ use Rattle.fold_theory.specs.NumberLaws.{pairOf-numbered}
 use Rattle.fold_theory.specs.SoundLaws.{merged-ok, reader-above}
 use Rattle.fold_theory.specs.PairLaws.{qualified-of, dial-of, pairOf-found}
 use Rattle.fold_pair.specs.Answers.{asPair}
-use Rattle.fold_collapse.specs.Collapsing.{edgeTo, noPair, readerPair, withPair, allMerged, pairAt, AllPairs, ReaderPairs}
-use Rattle.fold_collapse.specs.Collapsing.{gatesWithPairs, collapsedBy}
+use Rattle.fold_reader_pairs.specs.Collapsing.{edgeTo, noPair, readerPair, withPair, allMerged, pairAt, AllPairs, ReaderPairs}
+use Rattle.fold_reader_pairs.specs.Collapsing.{gatesWithPairs, collapsedBy}
 use Rattle.fold_pair.specs.declared.PairFound.{PairFound}
-use Rattle.fold_collapse.specs.declared.Pairs.{Pairs}
+use Rattle.fold_reader_pairs.specs.declared.Pairs.{Pairs}
 
 -- ---- the number of a refusal
 pub readerPair-numbered : (e : Edge) → Numbered (readerPair e)
