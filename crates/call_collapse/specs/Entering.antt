@@ -2,8 +2,8 @@
 use mathlib.Core.Path.{_≡_}
 use Prim.Native.Nat.{ℕ}
 use Rattle.network.specs.Record.{netOf, layout}
-use Rattle.fold_collapse.specs.Collapsing.{collapsedBy}
-use Rattle.fold_collapse.specs.declared.Pairs.{Pairs}
+use Rattle.fold_reader_pairs.specs.Collapsing.{collapsedBy}
+use Rattle.fold_reader_pairs.specs.declared.Pairs.{Pairs}
 use Rattle.call_theory.specs.Steps.{collapseSteps}
 use Rattle.journal.specs.Journals.{enterAll}
 use Rattle.journal.specs.declared.Record.{Record}

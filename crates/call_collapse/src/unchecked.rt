@@ -1,16 +1,16 @@
 // Collapse in the arrays of a sound record, which are lent, with the single steps of an accepted call entered into the journal.
 // Each function asks for arrays of a sound record.
 use call_steps::unchecked::enter_collapse;
-use fold_collapse::Pairs;
 use fold_collapse::unchecked::collapse_by_pairs;
-use fold_collapse::unchecked::collapse_pairs;
+use fold_reader_pairs::Pairs;
+use fold_reader_pairs::unchecked::collapse_pairs;
 use journal::CallLeft;
 use journal::call_left;
 use network_places::Head;
 ghost use mathlib.Core.Path.{_≡_};
 ghost use Prim.Native.Nat.{_-_};
 ghost use Rattle.network_places.specs.Parts.{fromParts, counting, Lengths};
-ghost use Rattle.fold_collapse.specs.Collapsing.{CollapsesBy};
+ghost use Rattle.fold_reader_pairs.specs.Collapsing.{CollapsesBy};
 ghost use Rattle.call_theory.specs.declared.Call.the-variants.{Collapse};
 ghost use Rattle.journal.specs.Answers.{applied};
 ghost use Rattle.journal.specs.Parts.{recordParts, answerParts, SoundParts};

@@ -1,5 +1,5 @@
 // The steps of a call entered into a journal whose arrays are lent. Each function asks for arrays of a sound record.
-use fold_merge::unchecked::readers::reads_gate;
+use fold_readers::unchecked::reads_gate;
 use journal_entry::unchecked::one_more;
 use journal_gate::unchecked::enter_gate;
 use network_places::Head;

@@ -24,8 +24,8 @@ use Rattle.journal.specs.Journals.{enterAll}
 use Rattle.journal.specs.declared.CallAnswer.{CallAnswer}
 use Rattle.journal.specs.declared.Journal.{Journal}
 use Rattle.journal.specs.declared.Record.{Record}
-use Rattle.fold_collapse.specs.Collapsing.{collapsedBy}
-use Rattle.fold_collapse.specs.declared.Pairs.{Pairs}
+use Rattle.fold_reader_pairs.specs.Collapsing.{collapsedBy}
+use Rattle.fold_reader_pairs.specs.declared.Pairs.{Pairs}
 use Rattle.fold_sweep.specs.declared.Choice.{Choice}
 use Rattle.fold_sweep.specs.Sweeping.{asked, NextCollapse}
 use Rattle.fold_sweep.specs.Memory.{Remembered, RememberedAfter}

@@ -30,14 +30,15 @@ use Rattle.fold_theory.specs.Merge.{Edge, edgeOf, reads, merged, narrow}
 use Rattle.fold_theory.specs.Pair.{qualifies}
 use Rattle.fold_theory.specs.SoundLaws.{resized-sound}
 use Rattle.pair_theory.specs.Alignments.{alignmentOf, mergedOf, Mergeable}
-use Rattle.fold_collapse.specs.declared.Pairs.{Pairs}
-use Rattle.fold_merge.specs.Arrays.{edgeIn, SoundArrays, GateReads}
-use Rattle.fold_merge.specs.ArrayLaws.{lent-of, lent-gate}
-use Rattle.fold_merge.specs.EdgeLaws.{joined-ok}
+use Rattle.fold_reader_pairs.specs.declared.Pairs.{Pairs}
+use Rattle.fold_readers.specs.Arrays.{SoundArrays}
+use Rattle.fold_readers.specs.ArrayLaws.{lent-of, lent-gate}
+use Rattle.fold_edges.specs.Edges.{edgeIn, GateReads}
+use Rattle.fold_edges.specs.EdgeLaws.{joined-ok}
 use Rattle.fold_merge.specs.AlignedLaws.{qualified-mergeable, mergedOf-is}
-use Rattle.fold_collapse.specs.Collapsing.{edgeTo, withPair, pairAt, AllPairs, gatesWithPairs, collapsedBy}
-use Rattle.fold_collapse.specs.CollapsingLaws.{own-silent, Merges, pair-merges, withPair-zero, withPair-silent, withPair-merged}
-use Rattle.fold_collapse.specs.CollapsingLaws.{gateCollapsed-ok, gateCollapsed-keeps}
+use Rattle.fold_reader_pairs.specs.Collapsing.{edgeTo, withPair, pairAt, AllPairs, gatesWithPairs, collapsedBy}
+use Rattle.fold_reader_pairs.specs.CollapsingLaws.{own-silent, Merges, pair-merges, withPair-zero, withPair-silent, withPair-merged}
+use Rattle.fold_reader_pairs.specs.CollapsingLaws.{gateCollapsed-ok, gateCollapsed-keeps}
 
 -- ---- gates of which the first are new
 

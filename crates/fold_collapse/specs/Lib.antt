@@ -1,3 +1,1 @@
-pub mod Collapsing
-pub mod CollapsingLaws
-pub mod TriedLaws
+pub mod Merging

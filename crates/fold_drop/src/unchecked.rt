@@ -1,6 +1,6 @@
 // The tests of a drop. The function asks for arrays of a sound record.
-use fold_merge::unchecked::readers::count_readers;
-use fold_merge::unchecked::readers::is_output;
+use fold_readers::unchecked::count_readers;
+use fold_readers::unchecked::is_output;
 use network_places::Head;
 use network_limits::is_gate;
 ghost use mathlib.Core.Path.{_≡_};

@@ -23,8 +23,9 @@ use Rattle.fold_theory.specs.LimitLaws.{narrow-few}
 use Rattle.pair_theory.specs.Alignments.{alignmentOf, alignedIn, mixedFeed, mergedOf, AlignmentOnScale, Searchable, Mergeable}
 use Rattle.pair_theory.specs.declared.Alignment.{Alignment}
 use Rattle.pair_theory.specs.AlignmentLaws.{aligned-in, merged-is, mergeable}
-use Rattle.fold_merge.specs.Codes.{firstFailing, mergeTests, settingTests, limitTestsOn, mergeTestsOn}
-use Rattle.fold_merge.specs.CodeLaws.{code-passed}
+use Rattle.fold_edges.specs.Codes.{firstFailing}
+use Rattle.fold_edges.specs.CodeLaws.{code-passed}
+use Rattle.fold_merge.specs.Codes.{mergeTests, settingTests, limitTestsOn, mergeTestsOn}
 
 module _ (e : Edge) (ok : EdgeOk e) where
   -- 6, 24 and 15, where 7 does not apply

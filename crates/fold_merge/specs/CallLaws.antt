@@ -22,12 +22,13 @@ use Rattle.fold_theory.specs.SoundLaws.{merged-ok}
 use Rattle.fold_theory.specs.AlignedLaws.{EdgeOk}
 use Rattle.pair_theory.specs.Alignments.{alignmentOf, mergedOf, Mergeable}
 use Rattle.pair_theory.specs.AlignmentLaws.{merged-is, mergeable}
+use Rattle.fold_edges.specs.Edges.{edgeIn, GateReads}
+use Rattle.fold_edges.specs.Codes.{firstFailing, edgeTests, edgeTestsIn}
+use Rattle.fold_edges.specs.CodeLaws.{code-passed, code-refused, code-checks}
+use Rattle.fold_edges.specs.EdgeLaws.{joined-of, edge-is, tests-are}
 use Rattle.fold_merge.specs.Answers.{onRecord, mergeCode}
-use Rattle.fold_merge.specs.Codes.{TriedMerge, firstFailing, edgeTests, edgeTestsIn, mergeTests}
+use Rattle.fold_merge.specs.Codes.{TriedMerge, mergeTests}
 use Rattle.fold_merge.specs.declared.MergedGate.{MergedGate}
-use Rattle.fold_merge.specs.Arrays.{edgeIn, GateReads}
-use Rattle.fold_merge.specs.CodeLaws.{code-passed, code-refused, code-checks}
-use Rattle.fold_merge.specs.EdgeLaws.{joined-of, edge-is, tests-are}
 
 -- a call on two gates of a record, of which u feeds v
 abbrev pub onGates : {A : Type 0} → (Edge → Answer A) → Network → ℕ → ℕ → Answer A

@@ -1,15 +1,13 @@
--- Internal: the tests of a merge after that of the record, and the number of the first that fails. Nothing is proved here.
-use mathlib.Core.Bool.{cond, _&&_}
+-- Internal: the tests of a merge after those of the record and of the edge. Nothing is proved here.
+use mathlib.Core.Bool.{_&&_}
 use mathlib.Core.List.{List, [], _∷_, _++_}
-use Prim.Native.Nat.{ℕ, _-_}
+use Prim.Native.Nat.{ℕ}
 use lib.Dec.{leb}
-use lib.IntN.{ℤ}
 use Rattle.basics.specs.Refusals.{Test, _else_, accepted, refused}
-use Rattle.network.specs.Threshold.{Net}
-use Rattle.network.specs.Limits.{scaleOk, keeps, gateSignal, isGate}
-use Rattle.network.specs.Changes.{gateAt, withGate}
-use Rattle.network.specs.Record.{gateFrom, netOf, noGate, gateIn, gateRecord}
-use Rattle.fold_theory.specs.Merge.{Edge, reads, merge, merged, agrees, mergeKeeps, onDial, narrow}
+use Rattle.network.specs.Limits.{scaleOk, keeps}
+use Rattle.network.specs.Changes.{withGate}
+use Rattle.network.specs.Record.{netOf, noGate, gateIn, gateRecord}
+use Rattle.fold_theory.specs.Merge.{Edge, merge, merged, agrees, mergeKeeps, onDial, narrow}
 use Rattle.fold_theory.specs.Aligned.{Aligned, agreesAll, scaleFits}
 use Rattle.pair_theory.specs.Alignments.{alignedIn, mergedOf}
 use Rattle.pair_theory.specs.declared.Alignment.{Alignment}
@@ -26,21 +24,6 @@ pub record TriedMerge (r : Network) (u v k l : ℕ) (m : MergedGate) : Type 0 wh
   pub accepts : m .code ≡ 0 → merge (netOf r) u v k l ≡ accepted (withGate (netOf r) v (gateIn (m .gate)))
   pub own : m .code ≡ 0 → SoundGate r v
   pub packed : m .code ≡ 0 → m .gate ≡ gateRecord (gateIn (m .gate))
-
--- the number of the first test that fails, 0 if none does
-unfoldable pub firstFailing : List Test → ℕ
-firstFailing [] = 0
-firstFailing ((b else c) ∷ ts) = cond b (firstFailing ts) c
-
--- 11 and 12: u and v are gates, and u feeds v
-unfoldable pub edgeTests : Net → ℕ → ℕ → List Test
-edgeTests N u v = (isGate N u && isGate N v else 11) ∷ (reads u (gateAt N v) else 12) ∷ []
-
--- the same in lent arrays
-unfoldable pub edgeTestsIn : List ℕ → List ℤ → List ℕ → List ℤ → ℕ → ℕ → ℕ → ℕ → List Test
-edgeTestsIn fanins thresholds signals weights inputs gates u v =
-    (gateSignal inputs gates u && gateSignal inputs gates v else 11)
-    ∷ (reads u (gateFrom fanins thresholds signals weights (v - inputs)) else 12) ∷ []
 
 -- 14, 7, 6, 24 and 15: what is tested of the two gates and of k and l
 unfoldable pub mergeTests : Edge → ℕ → ℕ → List Test

@@ -1,10 +1,5 @@
 pub mod Answers
 pub mod AnswerLaws
-pub mod Arrays
-pub mod Readers
-pub mod ArrayLaws
 pub mod Codes
-pub mod CodeLaws
-pub mod EdgeLaws
 pub mod AlignedLaws
 pub mod CallLaws

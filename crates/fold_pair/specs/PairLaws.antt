@@ -15,8 +15,8 @@ use Rattle.fold_theory.specs.Aligned.{Aligned, qualifiesOn}
 use Rattle.fold_theory.specs.AlignedLaws.{EdgeOk, first-on}
 use Rattle.pair_theory.specs.Alignments.{alignmentOf, alignedIn}
 use Rattle.pair_theory.specs.AlignmentLaws.{aligned-in}
-use Rattle.fold_merge.specs.Arrays.{edgeIn}
-use Rattle.fold_merge.specs.Codes.{firstFailing, edgeTestsIn}
+use Rattle.fold_edges.specs.Edges.{edgeIn}
+use Rattle.fold_edges.specs.Codes.{firstFailing, edgeTestsIn}
 use Rattle.fold_merge.specs.CallLaws.{onGates, call-broken, call-apart, call-joined}
 use Rattle.fold_pair.specs.Answers.{asPair, pairFound}
 use Rattle.fold_pair.specs.Parts.{pairOfAlignment}

@@ -1,6 +1,6 @@
 // The preview on a sound record whose arrays are lent: the collapse is made in copies of them.
 use fold_collapse::unchecked::collapse_by_pairs;
-use fold_collapse::unchecked::collapse_pairs;
+use fold_reader_pairs::unchecked::collapse_pairs;
 use network::Network;
 use network_places::Head;
 use network_report::SizeReport;

@@ -17,13 +17,13 @@ use Rattle.network.specs.Limits.{gateSignal}
 use Rattle.network.specs.declared.Network.{Network}
 use Rattle.fold_theory.specs.Collapse.{collapse}
 use Rattle.fold_theory.specs.Sweep.{readers, orElse, sweepFrom, sweepOnce}
-use Rattle.fold_collapse.specs.declared.Pairs.{Pairs}
-use Rattle.fold_merge.specs.Readers.{occurs}
+use Rattle.fold_reader_pairs.specs.declared.Pairs.{Pairs}
+use Rattle.fold_readers.specs.Readers.{occurs}
 use Rattle.fold_unchanged.specs.Unchanged.{RefusedBy}
 use Rattle.fold_unchanged.specs.UnchangedLaws.{refused-collapse}
-use Rattle.fold_collapse.specs.Collapsing.{AllPairs, collapsedBy}
-use Rattle.fold_collapse.specs.CollapsingLaws.{collapsed-pairs}
-use Rattle.fold_collapse.specs.TriedLaws.{sound-gate, collapse-output, collapse-collapsed}
+use Rattle.fold_reader_pairs.specs.Collapsing.{AllPairs, collapsedBy}
+use Rattle.fold_reader_pairs.specs.CollapsingLaws.{collapsed-pairs}
+use Rattle.fold_reader_pairs.specs.TriedLaws.{sound-gate, collapse-output, collapse-collapsed}
 use Rattle.fold_sweep.specs.Sweeping.{asked, LowerRefused, NextCollapse}
 
 -- ---- the gates from u on

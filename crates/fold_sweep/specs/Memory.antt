@@ -7,7 +7,7 @@ use lib.ListN.{length, getD}
 use Rattle.network.specs.Threshold.{Net}
 use Rattle.network.specs.declared.Network.{Network}
 use Rattle.fold_unchanged.specs.Unchanged.{RefusedBy}
-use Rattle.fold_collapse.specs.Collapsing.{collapsedBy}
+use Rattle.fold_reader_pairs.specs.Collapsing.{collapsedBy}
 use Rattle.fold_sweep.specs.declared.Choice.{Choice}
 
 -- a number for each gate: below 128 it is that of a reader that refuses the gate

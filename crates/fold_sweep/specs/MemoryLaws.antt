@@ -22,9 +22,9 @@ use Rattle.fold_theory.specs.LowerLaws.{DoesNotRead, silent-free}
 use Rattle.fold_theory.specs.StepLaws.{collapse-kept}
 use Rattle.fold_unchanged.specs.Unchanged.{RefusedBy}
 use Rattle.fold_unchanged.specs.UnchangedLaws.{collapse-inputs, refusal-stands}
-use Rattle.fold_collapse.specs.Collapsing.{edgeTo, pairAt, AllPairs, ReaderRefuses, collapsedBy}
-use Rattle.fold_collapse.specs.CollapsingLaws.{pair-zero, pair-refused, edgeTo-net}
-use Rattle.fold_collapse.specs.declared.Pairs.{Pairs}
+use Rattle.fold_reader_pairs.specs.Collapsing.{edgeTo, pairAt, AllPairs, ReaderRefuses, collapsedBy}
+use Rattle.fold_reader_pairs.specs.CollapsingLaws.{pair-zero, pair-refused, edgeTo-net}
+use Rattle.fold_reader_pairs.specs.declared.Pairs.{Pairs}
 use Rattle.fold_sweep.specs.Sweeping.{NextCollapse}
 use Rattle.fold_memory.specs.Keeping.{RefusersKept}
 use Rattle.fold_memory.specs.KeepingLaws.{at-set}

@@ -13,8 +13,8 @@ use Rattle.network.specs.declared.Network.{Network}
 use Rattle.fold_theory.specs.Collapse.{collapse}
 use Rattle.fold_theory.specs.Sweep.{readers, sweepOnce}
 use Rattle.fold_sweep.specs.declared.Choice.{Choice}
-use Rattle.fold_collapse.specs.declared.Pairs.{Pairs}
-use Rattle.fold_collapse.specs.Collapsing.{AllPairs, collapsedBy}
+use Rattle.fold_reader_pairs.specs.declared.Pairs.{Pairs}
+use Rattle.fold_reader_pairs.specs.Collapsing.{AllPairs, collapsedBy}
 
 -- what a sweep asks of gate u
 abbrev pub asked : Net → ℕ → ℕ → Answer Net

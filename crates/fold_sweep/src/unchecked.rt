@@ -1,14 +1,14 @@
 // The choice of the gate that a sweep of a sound record, whose arrays are lent, folds next.
 use crate::Choice;
 use basics::wide;
-use fold_collapse::Pairs;
-use fold_collapse::unchecked::no_pairs;
-use fold_collapse::unchecked::reader_pair;
-use fold_collapse::unchecked::reader_pairs;
 use fold_memory::unchecked::kept_refusers;
 use fold_memory::unchecked::lower_hints;
-use fold_merge::unchecked::readers::count_readers;
-use fold_merge::unchecked::readers::is_output;
+use fold_reader_pairs::Pairs;
+use fold_reader_pairs::unchecked::no_pairs;
+use fold_reader_pairs::unchecked::reader_pair;
+use fold_reader_pairs::unchecked::reader_pairs;
+use fold_readers::unchecked::count_readers;
+use fold_readers::unchecked::is_output;
 use network::Board;
 use network_places::Head;
 ghost use mathlib.Core.Path.{_≡_};
@@ -18,8 +18,8 @@ ghost use Rattle.network.specs.Limits.{boardOk};
 ghost use Rattle.network.specs.Sound.{HasSignal};
 ghost use Rattle.network.specs.Record.{gateFrom, netOf, soundRecord};
 ghost use Rattle.network_places.specs.Parts.{fromParts};
-ghost use Rattle.fold_merge.specs.Arrays.{SoundArrays};
-ghost use Rattle.fold_collapse.specs.Collapsing.{TriedPairs};
+ghost use Rattle.fold_readers.specs.Arrays.{SoundArrays};
+ghost use Rattle.fold_reader_pairs.specs.Collapsing.{TriedPairs};
 ghost use Rattle.fold_sweep.specs.Sweeping.{Chosen};
 ghost use Rattle.fold_sweep.specs.Memory.{Remembered, RememberedAfter};
 

@@ -15,12 +15,12 @@ use Rattle.network.specs.declared.Network.{Network}
 use Rattle.fold_theory.specs.Merge.{Edge, edge, distinct, narrow, agreesAt}
 use Rattle.fold_theory.specs.AlignedLaws.{EdgeOk}
 use Rattle.pair_theory.specs.Alignments.{alignmentOf}
+use Rattle.fold_readers.specs.ArrayLaws.{lent-of}
+use Rattle.fold_edges.specs.Edges.{edgeIn}
+use Rattle.fold_edges.specs.EdgeLaws.{joined-ok}
+use Rattle.fold_edges.specs.Codes.{firstFailing, edgeTestsIn}
+use Rattle.fold_edges.specs.CodeLaws.{code-never}
 use Rattle.fold_merge.specs.Answers.{mergeCode}
-use Rattle.fold_merge.specs.Arrays.{edgeIn}
-use Rattle.fold_merge.specs.ArrayLaws.{lent-of}
-use Rattle.fold_merge.specs.EdgeLaws.{joined-ok}
-use Rattle.fold_merge.specs.Codes.{firstFailing, edgeTestsIn}
-use Rattle.fold_merge.specs.CodeLaws.{code-never}
 use Rattle.fold_merge.specs.CallLaws.{apart-none, onGates, call-broken, call-apart, call-joined, merge-broken, code-apart, here-is, merge-number}
 use Rattle.fold_witness.specs.declared.Witnessed.{Witnessed}
 use Rattle.fold_witness.specs.declared.DistinctFeeds.{DistinctFeeds}

@@ -11,7 +11,8 @@ use Rattle.pair_theory.specs.Alignments.{alignedIn}
 use Rattle.pair_theory.specs.declared.Alignment.{Alignment}
 use Rattle.pair_witness.specs.declared.Unclear.{Unclear}
 use Rattle.pair_witness.specs.declared.Unclear.the-variants.{At, Nowhere}
-use Rattle.fold_merge.specs.Codes.{firstFailing, settingTests, mergeTestsOn}
+use Rattle.fold_edges.specs.Codes.{firstFailing}
+use Rattle.fold_merge.specs.Codes.{settingTests, mergeTestsOn}
 use Rattle.fold_witness.specs.declared.Witnessed.{Witnessed}
 use Rattle.fold_witness.specs.declared.DistinctFeeds.{DistinctFeeds}
 use Rattle.fold_witness.specs.Witness.{Shows}

@@ -20,8 +20,9 @@ use Rattle.pair_witness.specs.declared.Unclear.{Unclear}
 use Rattle.pair_witness.specs.declared.Unclear.the-variants.{At, Nowhere}
 use Rattle.pair_witness.specs.Fewest.{Fewest}
 use Rattle.pair_witness.specs.Pass.{FewestUnclear}
-use Rattle.fold_merge.specs.Codes.{firstFailing, settingTests, limitTestsOn, mergeTestsOn, mergeTests}
-use Rattle.fold_merge.specs.CodeLaws.{code-after, code-before, code-never, passed-before}
+use Rattle.fold_edges.specs.Codes.{firstFailing}
+use Rattle.fold_edges.specs.CodeLaws.{code-after, code-before, code-never, passed-before}
+use Rattle.fold_merge.specs.Codes.{settingTests, limitTestsOn, mergeTestsOn, mergeTests}
 use Rattle.fold_merge.specs.AlignedLaws.{tests-on, limits-passed}
 use Rattle.fold_witness.specs.declared.Witnessed.{Witnessed}
 use Rattle.fold_witness.specs.Witness.{Shows}

@@ -1,8 +1,8 @@
 // The tests of a merge after that of the record, on the two gates by their distinct feeds, and the gate that it puts in the place of the second.
 use crate::MergedGate;
-use crate::unchecked::edges::aligned_at;
-use crate::unchecked::edges::edge_code;
-use crate::unchecked::edges::on_dial;
+use fold_edges::unchecked::aligned_at;
+use fold_edges::unchecked::edge_code;
+use fold_edges::unchecked::on_dial;
 use network::GateRecord;
 use network::unchecked::gate_keeps;
 use network_places::Head;
@@ -18,7 +18,8 @@ ghost use Rattle.network.specs.Record.{noGate, gateRecord, soundRecord};
 ghost use Rattle.network_places.specs.Parts.{fromParts};
 ghost use Rattle.fold_theory.specs.Aligned.{scaleFits};
 ghost use Rattle.pair_theory.specs.Alignments.{alignedIn, mergedOf, AlignmentOnScale, Mergeable};
-ghost use Rattle.fold_merge.specs.Codes.{TriedMerge, firstFailing, limitTestsOn, mergeTestsOn};
+ghost use Rattle.fold_edges.specs.Codes.{firstFailing};
+ghost use Rattle.fold_merge.specs.Codes.{TriedMerge, limitTestsOn, mergeTestsOn};
 
 // Whether the merged gate keeps the margins.
 fn merge_keeps(a: Alignment, k: usize, l: usize) -> bool

@@ -11,9 +11,10 @@ use Rattle.pair_theory.specs.Alignments.{AlignmentOnScale}
 use Rattle.pair_theory.specs.AlignmentLaws.{aligned-fair}
 use Rattle.fold_pair.specs.Answers.{asPair}
 use Rattle.fold_pair.specs.Parts.{pairOfAlignment}
-use Rattle.fold_merge.specs.Arrays.{edgeIn, SoundArrays, GateReads}
-use Rattle.fold_merge.specs.ArrayLaws.{lent-of}
-use Rattle.fold_merge.specs.EdgeLaws.{joined-ok}
+use Rattle.fold_readers.specs.Arrays.{SoundArrays}
+use Rattle.fold_readers.specs.ArrayLaws.{lent-of}
+use Rattle.fold_edges.specs.Edges.{edgeIn, GateReads}
+use Rattle.fold_edges.specs.EdgeLaws.{joined-ok}
 use Rattle.fold_merge.specs.CallLaws.{apart-none}
 use Rattle.fold_pair.specs.PairLaws.{pair-broken, pair-apart, pair-joined, pair-on}
 use borrow.Author.Needs.{needs}

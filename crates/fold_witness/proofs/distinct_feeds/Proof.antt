@@ -5,8 +5,9 @@ use borrow.Author.Tests.{not-true, not-false}
 use Rattle.basics.specs.TestLaws.{T-is}
 use Rattle.network.specs.Record.{soundRecord}
 use Rattle.network.specs.SoundLaws.{sound-board}
-use Rattle.fold_merge.specs.Arrays.{SoundArrays, GateReads}
-use Rattle.fold_merge.specs.ArrayLaws.{lent-of}
+use Rattle.fold_readers.specs.Arrays.{SoundArrays}
+use Rattle.fold_readers.specs.ArrayLaws.{lent-of}
+use Rattle.fold_edges.specs.Edges.{GateReads}
 use Rattle.fold_merge.specs.CallLaws.{apart-none}
 use Rattle.fold_witness.specs.Parts.{feedsOfAlignment}
 use Rattle.fold_witness.specs.CallLaws.{feeds-broken, feeds-apart, feeds-joined}

@@ -10,9 +10,10 @@ use Rattle.pair_theory.specs.Alignments.{AlignmentOnScale}
 use Rattle.pair_theory.specs.AlignmentLaws.{aligned-fair}
 use Rattle.pair_theory.specs.declared.Alignment.{Alignment}
 use Rattle.network.specs.SoundLaws.{sound-board}
-use Rattle.fold_merge.specs.Arrays.{edgeIn, SoundArrays, GateReads}
-use Rattle.fold_merge.specs.ArrayLaws.{lent-of}
-use Rattle.fold_merge.specs.EdgeLaws.{joined-ok}
+use Rattle.fold_readers.specs.Arrays.{SoundArrays}
+use Rattle.fold_readers.specs.ArrayLaws.{lent-of}
+use Rattle.fold_edges.specs.Edges.{edgeIn, GateReads}
+use Rattle.fold_edges.specs.EdgeLaws.{joined-ok}
 use Rattle.fold_merge.specs.CallLaws.{apart-none}
 use Rattle.fold_witness.specs.Parts.{WitnessOfAlignment}
 use Rattle.fold_witness.specs.CallLaws.{witness-broken, witness-apart, witness-joined}

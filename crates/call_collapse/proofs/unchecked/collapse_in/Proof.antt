@@ -5,7 +5,7 @@ use Prim.Native.Nat.{_-_, _≤_, _<_}
 use native.Mathlib.Omega.{arith}
 use denote.Ref.{now}
 use Rattle.network.specs.RecordLaws.{gate-number}
-use Rattle.fold_collapse.specs.Collapsing.{CollapsesBy}
+use Rattle.fold_reader_pairs.specs.Collapsing.{CollapsesBy}
 use Rattle.journal.specs.Parts.{recordParts}
 use Rattle.journal.specs.AnswerLaws.{whole-network}
 use Rattle.journal.specs.declared.Record.{Record}

@@ -10,7 +10,7 @@ use Rattle.network.specs.SoundLaws.{sound-board}
 use Rattle.network.specs.declared.Network.{Network}
 use Rattle.network_places.specs.Parts.{fromParts}
 use Rattle.network_places.specs.PartsLaws.{lengths, shaped-parts, removed-parts}
-use Rattle.fold_collapse.specs.CollapsingLaws.{pair-small}
+use Rattle.fold_reader_pairs.specs.CollapsingLaws.{pair-small}
 use Rattle.fold_collapse.proofs.PartLaws.{partNet, part-none, part-same, part-shape, part-own, part-left}
 use Rattle.fold_collapse.proofs.PartLaws.{part-lent, part-joined, part-mergeable, part-made, part-next}
 use Rattle.fold_collapse.proofs.unchecked.collapse_by_pairs.Statement.{statement}

@@ -10,7 +10,7 @@ use Rattle.network.specs.declared.Network.{Network}
 use Rattle.network_report.specs.Size.{reported}
 use Rattle.network_places.specs.Parts.{fromParts}
 use Rattle.fold_theory.specs.Collapse.{collapse}
-use Rattle.fold_collapse.specs.Collapsing.{collapsedBy}
+use Rattle.fold_reader_pairs.specs.Collapsing.{collapsedBy}
 use Rattle.fold_preview.specs.PreviewLaws.{preview-refused, preview-sound, preview-shown}
 use Rattle.fold_preview.proofs.unchecked.preview_at.Statement.{statement}
 use Rattle.fold_preview.proofs.unchecked.preview_at.Tie as tie

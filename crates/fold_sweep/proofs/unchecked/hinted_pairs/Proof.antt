@@ -4,9 +4,9 @@ use mathlib.Core.Path.{sym, subst}
 use Prim.Native.Nat.{_<_}
 use denote.Ref.{now}
 use Rattle.network.specs.Record.{gateFrom}
-use Rattle.fold_collapse.specs.declared.Pairs.{Pairs}
-use Rattle.fold_collapse.specs.Collapsing.{edgeTo, readerPair, TriedPairs}
-use Rattle.fold_collapse.specs.CollapsingLaws.{asPair-refused, pairs-all}
+use Rattle.fold_reader_pairs.specs.declared.Pairs.{Pairs}
+use Rattle.fold_reader_pairs.specs.Collapsing.{edgeTo, readerPair, TriedPairs}
+use Rattle.fold_reader_pairs.specs.CollapsingLaws.{asPair-refused, pairs-all}
 use Rattle.fold_sweep.proofs.unchecked.hinted_pairs.Statement.{statement}
 use Rattle.fold_sweep.proofs.unchecked.hinted_pairs.Tie as tie
 

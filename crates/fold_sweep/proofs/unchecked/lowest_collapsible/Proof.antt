@@ -13,8 +13,8 @@ use Rattle.network.specs.declared.Network.{Network}
 use Rattle.network_places.specs.Parts.{fromParts}
 use Rattle.fold_theory.specs.Sweep.{readers}
 use Rattle.fold_unchanged.specs.Unchanged.{RefusedBy}
-use Rattle.fold_merge.specs.Readers.{occurs}
-use Rattle.fold_merge.specs.ArrayLaws.{lent-of, lent-counted}
+use Rattle.fold_readers.specs.Readers.{occurs}
+use Rattle.fold_readers.specs.ArrayLaws.{lent-of, lent-counted}
 use Rattle.fold_sweep.specs.Sweeping.{LowerRefused}
 use Rattle.fold_sweep.specs.Memory.{Remembered}
 use Rattle.fold_sweep.specs.MemoryLaws.{remembered-at, remembered-more, refused-of, remembered-after}

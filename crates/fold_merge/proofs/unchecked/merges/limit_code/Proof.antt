@@ -7,7 +7,8 @@ use Rattle.fold_theory.specs.Aligned.{scaleFits}
 use Rattle.pair_theory.specs.Alignments.{alignedIn, DialLimits}
 use Rattle.fold_theory.specs.Merge.{onDial}
 use Rattle.fold_theory.specs.PairLaws.{dial-of}
-use Rattle.fold_merge.specs.Codes.{firstFailing, limitTestsOn}
+use Rattle.fold_edges.specs.Codes.{firstFailing}
+use Rattle.fold_merge.specs.Codes.{limitTestsOn}
 use borrow.Author.Needs.{needs}
 use Rattle.fold_merge.proofs.unchecked.merges.limit_code.Statement.{statement}
 use Rattle.fold_merge.proofs.unchecked.merges.limit_code.Tie as tie

@@ -2,8 +2,9 @@
 use mathlib.Core.Path.{sym, _∙_}
 use borrow.Author.Tests.{not-true, not-false}
 use Rattle.basics.specs.Refusals.{Passed}
-use Rattle.fold_merge.specs.Codes.{firstFailing, limitTestsOn, settingTests, mergeTestsOn}
-use Rattle.fold_merge.specs.CodeLaws.{code-after, code-before}
+use Rattle.fold_edges.specs.Codes.{firstFailing}
+use Rattle.fold_edges.specs.CodeLaws.{code-after, code-before}
+use Rattle.fold_merge.specs.Codes.{limitTestsOn, settingTests, mergeTestsOn}
 use Rattle.fold_merge.specs.AlignedLaws.{limits-passed, limits-hold}
 use Rattle.fold_merge.proofs.unchecked.merges.merge_code.Statement.{statement}
 use Rattle.fold_merge.proofs.unchecked.merges.merge_code.Tie as tie

@@ -13,10 +13,12 @@ use Rattle.fold_theory.specs.AlignedLaws.{EdgeOk}
 use Rattle.pair_theory.specs.Alignments.{mergedOf, AlignmentOnScale, Mergeable}
 use Rattle.pair_theory.specs.AlignmentLaws.{aligned-fair}
 use Rattle.pair_theory.specs.declared.Alignment.{Alignment}
-use Rattle.fold_merge.specs.Codes.{firstFailing, mergeTests, mergeTestsOn}
-use Rattle.fold_merge.specs.Arrays.{edgeIn, SoundArrays, GateReads}
-use Rattle.fold_merge.specs.ArrayLaws.{lent-of}
-use Rattle.fold_merge.specs.EdgeLaws.{joined-ok}
+use Rattle.fold_readers.specs.Arrays.{SoundArrays}
+use Rattle.fold_readers.specs.ArrayLaws.{lent-of}
+use Rattle.fold_edges.specs.Edges.{edgeIn, GateReads}
+use Rattle.fold_edges.specs.Codes.{firstFailing}
+use Rattle.fold_edges.specs.EdgeLaws.{joined-ok}
+use Rattle.fold_merge.specs.Codes.{mergeTests, mergeTestsOn}
 use Rattle.fold_merge.specs.AlignedLaws.{tests-on}
 use Rattle.fold_merge.specs.CallLaws.{merge-apart, apart-none, apart-gate, merge-refused, merge-accepted, merge-passed, merge-fits}
 use Rattle.fold_merge.specs.CallLaws.{fits-mergeable, fits-gate, tried-none, tried-gate}

@@ -1,0 +1,4 @@
+pub mod Edges
+pub mod Codes
+pub mod CodeLaws
+pub mod EdgeLaws

@@ -1,0 +1,3 @@
+pub mod Collapsing
+pub mod CollapsingLaws
+pub mod TriedLaws
