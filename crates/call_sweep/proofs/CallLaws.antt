@@ -8,7 +8,7 @@ use Rattle.network.specs.Limits.{sound}
 use Rattle.network.specs.Record.{netOf}
 use Rattle.network.specs.RecordLaws.{count-gates}
 use Rattle.fold_theory.specs.Sweep.{sweep}
-use Rattle.fold_reader_pairs.specs.TriedLaws.{net-test}
+use Rattle.fold_readers.specs.RecordLaws.{net-test}
 use Rattle.call_theory.specs.Calls.{noFigures, withCollapses, stepsOf, moved, replyOf}
 use Rattle.call_theory.specs.declared.Call.the-variants.{Sweep}
 use Rattle.journal.specs.Records.{stateOf, soundWhole}

@@ -18,7 +18,7 @@ use Rattle.fold_theory.specs.Merge.{silent, reads}
 use Rattle.fold_theory.specs.Collapse.{unread, dropGate}
 use Rattle.fold_theory.specs.Sweep.{readers}
 use Rattle.fold_readers.specs.Readers.{occurs}
-use Rattle.fold_reader_pairs.specs.TriedLaws.{net-test, output-test, sound-gate}
+use Rattle.fold_readers.specs.RecordLaws.{net-test, output-test, sound-gate}
 use Rattle.fold_drop.specs.Dropping.{DropTried}
 
 -- no gate reads s where the readers are none

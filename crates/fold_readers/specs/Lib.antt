@@ -1,3 +1,4 @@
 pub mod Arrays
 pub mod ArrayLaws
 pub mod Readers
+pub mod RecordLaws

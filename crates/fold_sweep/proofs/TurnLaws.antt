@@ -23,7 +23,8 @@ use Rattle.fold_unchanged.specs.Unchanged.{RefusedBy}
 use Rattle.fold_unchanged.specs.UnchangedLaws.{refused-collapse}
 use Rattle.fold_reader_pairs.specs.Collapsing.{AllPairs, collapsedBy}
 use Rattle.fold_reader_pairs.specs.CollapsingLaws.{collapsed-pairs}
-use Rattle.fold_reader_pairs.specs.TriedLaws.{sound-gate, collapse-output, collapse-collapsed}
+use Rattle.fold_readers.specs.RecordLaws.{sound-gate}
+use Rattle.fold_reader_pairs.specs.TriedLaws.{collapse-output, collapse-collapsed}
 use Rattle.fold_sweep.specs.Sweeping.{asked, LowerRefused, NextCollapse}
 
 -- ---- the gates from u on

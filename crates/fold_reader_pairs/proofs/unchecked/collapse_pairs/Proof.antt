@@ -14,7 +14,8 @@ use Rattle.network.specs.declared.Network.{Network}
 use Rattle.network_places.specs.Parts.{fromParts}
 use Rattle.fold_readers.specs.ArrayLaws.{lent-of}
 use Rattle.fold_reader_pairs.specs.declared.Pairs.{Pairs}
-use Rattle.fold_reader_pairs.specs.TriedLaws.{tried-stranger, sound-gate, tried-output, tried-pairs}
+use Rattle.fold_readers.specs.RecordLaws.{sound-gate}
+use Rattle.fold_reader_pairs.specs.TriedLaws.{tried-stranger, tried-output, tried-pairs}
 use Rattle.fold_reader_pairs.proofs.unchecked.collapse_pairs.Statement.{statement}
 use Rattle.fold_reader_pairs.proofs.unchecked.collapse_pairs.Tie as tie
 
