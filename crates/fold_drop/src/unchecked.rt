@@ -1,8 +1,8 @@
 // The tests of a drop. The function asks for arrays of a sound record.
 use fold_readers::unchecked::count_readers;
 use fold_readers::unchecked::is_output;
-use network_places::Head;
 use network_limits::is_gate;
+use network_places::Head;
 ghost use mathlib.Core.Path.{_≡_};
 ghost use mathlib.Core.Bool.{true};
 ghost use Rattle.network.specs.Record.{soundRecord};

@@ -2,8 +2,8 @@
 // their distinct feeds.
 use fold_readers::unchecked::reads_gate;
 use network::Board;
-use network_places::unchecked::gate_at;
 use network_limits::is_gate;
+use network_places::unchecked::gate_at;
 use pair_alignment::unchecked::align;
 use pair_theory::Alignment;
 ghost use mathlib.Core.Path.{_≡_};
