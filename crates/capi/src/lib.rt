@@ -9,7 +9,8 @@ ghost use Rattle.pmn_converter.specs.Conversion.{conversionPlaces};
 ghost use Rattle.frame_batch.specs.Files.{framePlaces, fileFrames};
 ghost use Rattle.fold_pair.specs.Files.{pairPlaces};
 ghost use Rattle.fold_preview.specs.Files.{previewPlaces};
-ghost use Rattle.fold_witness.specs.Files.{WitnessLeft, distinctPlaces};
+ghost use Rattle.fold_witness.specs.Files.{WitnessLeft};
+ghost use Rattle.fold_feeds.specs.Files.{distinctPlaces};
 ghost use Rattle.cut_output.specs.Answers.{cutPlaces};
 ghost use Rattle.question_text.specs.Files.{lineOut};
 ghost use Rattle.call_lists.specs.Files.{runAnswer, ranFile, ranNumbers};
@@ -77,7 +78,7 @@ pub extern "C" fn pmn_distinct(file: &[u8], u: u64, v: u64, answer: &mut [u64]) 
     ensures { λ r. ⌜ r ≡ codeOf (distinctPlaces (now (file .entry)) u v (now (answer .entry))) ⌝ }
     ensures { λ _. ⌜ now (answer .exit) ≡ stored (distinctPlaces (now (file .entry)) u v (now (answer .entry))) (now (answer .entry)) ⌝ }
 {
-    fold_witness::files::distinct_of_file(file, u, v, answer)
+    fold_feeds::files::distinct_of_file(file, u, v, answer)
 }
 
 // The size of the network: gates, cost and levels go into the first three places of the answer.

@@ -8,11 +8,11 @@ use Rattle.network.specs.SoundLaws.{sound-board}
 use Rattle.fold_merge.specs.Arrays.{SoundArrays, GateReads}
 use Rattle.fold_merge.specs.ArrayLaws.{lent-of}
 use Rattle.fold_merge.specs.CallLaws.{apart-none}
-use Rattle.fold_witness.specs.Parts.{feedsOfAlignment}
-use Rattle.fold_witness.specs.CallLaws.{feeds-broken, feeds-apart, feeds-joined}
+use Rattle.fold_feeds.specs.Parts.{feedsOfAlignment}
+use Rattle.fold_feeds.specs.CallLaws.{feeds-broken, feeds-apart, feeds-joined}
 use borrow.Author.Needs.{needs}
-use Rattle.fold_witness.proofs.distinct_feeds.Statement.{statement}
-use Rattle.fold_witness.proofs.distinct_feeds.Tie as tie
+use Rattle.fold_feeds.proofs.distinct_feeds.Statement.{statement}
+use Rattle.fold_feeds.proofs.distinct_feeds.Tie as tie
 
 returns : tie.Need-returns
 returns c =
