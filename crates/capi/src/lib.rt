@@ -11,7 +11,7 @@ ghost use Rattle.fold_pair.specs.Files.{pairPlaces};
 ghost use Rattle.fold_preview.specs.Files.{previewPlaces};
 ghost use Rattle.fold_witness.specs.Files.{WitnessLeft};
 ghost use Rattle.fold_feeds.specs.Files.{distinctPlaces};
-ghost use Rattle.cut_output.specs.Answers.{cutPlaces};
+ghost use Rattle.cut_files.specs.Answers.{cutPlaces};
 ghost use Rattle.question_text.specs.Files.{lineOut};
 ghost use Rattle.call_lists.specs.Files.{runAnswer, ranFile, ranNumbers};
 ghost use Rattle.scorer.specs.Answers.{scorePlaces};
@@ -141,7 +141,7 @@ pub extern "C" fn pmn_cut(file: &[u8], output: u64, out: &mut [u8], answer: &mut
     ensures { λ _. ⌜ now (answer .exit)
         ≡ stored (lengthOf (cutPlaces (now (file .entry)) output (length (now (out .entry))) (length (now (answer .entry))))) (now (answer .entry)) ⌝ }
 {
-    cut_output::files::cut_file(file, output, out, answer)
+    cut_files::cut_file(file, output, out, answer)
 }
 
 // Line n of the question for two files is put into `out`, and its length goes into place 0 of the answer.
