@@ -1,8 +1,8 @@
 // The calls that leave the record as it is. Each prints the code and the numbers that the call answered.
 use case_records::show;
 use case_script::Numbers;
+use fold_feeds::DistinctFeeds;
 use fold_pair::PairFound;
-use fold_witness::DistinctFeeds;
 use fold_witness::Witnessed;
 use journal::Record;
 use journal::just_read;

@@ -9,8 +9,9 @@ ghost use Rattle.pmn_converter.specs.Conversion.{conversionPlaces};
 ghost use Rattle.frame_batch.specs.Files.{framePlaces, fileFrames};
 ghost use Rattle.fold_pair.specs.Files.{pairPlaces};
 ghost use Rattle.fold_preview.specs.Files.{previewPlaces};
-ghost use Rattle.fold_witness.specs.Files.{WitnessLeft, distinctPlaces};
-ghost use Rattle.cut_output.specs.Answers.{cutPlaces};
+ghost use Rattle.fold_witness.specs.Files.{WitnessLeft};
+ghost use Rattle.fold_feeds.specs.Files.{distinctPlaces};
+ghost use Rattle.cut_files.specs.Answers.{cutPlaces};
 ghost use Rattle.question_text.specs.Files.{lineOut};
 ghost use Rattle.call_lists.specs.Files.{runAnswer, ranFile, ranNumbers};
 ghost use Rattle.scorer.specs.Answers.{scorePlaces};
@@ -77,7 +78,7 @@ pub extern "C" fn pmn_distinct(file: &[u8], u: u64, v: u64, answer: &mut [u64]) 
     ensures { λ r. ⌜ r ≡ codeOf (distinctPlaces (now (file .entry)) u v (now (answer .entry))) ⌝ }
     ensures { λ _. ⌜ now (answer .exit) ≡ stored (distinctPlaces (now (file .entry)) u v (now (answer .entry))) (now (answer .entry)) ⌝ }
 {
-    fold_witness::files::distinct_of_file(file, u, v, answer)
+    fold_feeds::files::distinct_of_file(file, u, v, answer)
 }
 
 // The size of the network: gates, cost and levels go into the first three places of the answer.
@@ -140,7 +141,7 @@ pub extern "C" fn pmn_cut(file: &[u8], output: u64, out: &mut [u8], answer: &mut
     ensures { λ _. ⌜ now (answer .exit)
         ≡ stored (lengthOf (cutPlaces (now (file .entry)) output (length (now (out .entry))) (length (now (answer .entry))))) (now (answer .entry)) ⌝ }
 {
-    cut_output::files::cut_file(file, output, out, answer)
+    cut_files::cut_file(file, output, out, answer)
 }
 
 // Line n of the question for two files is put into `out`, and its length goes into place 0 of the answer.

@@ -1,5 +1,4 @@
 // The cut of one output: a network of that output alone. Document 02, No. 12.
-pub mod files;
 pub mod unchecked;
 
 use journal::Record;

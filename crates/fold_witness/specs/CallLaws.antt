@@ -1,18 +1,16 @@
--- Laws of the two calls on a record: the answer by the number of the first test that fails. Assumes nothing.
-use mathlib.Core.Path.{_≡_, refl, sym, ap, _∙_, subst}
-use mathlib.Core.Bool.{true, false, not, cond}
-use mathlib.Core.List.{[], _∷_}
+-- Laws of the call on a record: the answer by the number of the first test that fails. Assumes nothing.
+use mathlib.Core.Path.{_≡_, refl, sym, _∙_, subst}
+use mathlib.Core.Bool.{true, false, not}
 use Prim.Native.Nat.{ℕ, _^_}
 use native.Mathlib.Omega.{arith}
 use native.Mathlib.Decide.{decLt}
-use lib.Dec.{T, leb}
+use lib.Dec.{T}
 use lib.ListN.{length}
-use Rattle.basics.specs.Refusals.{accepted, refused, _else_, checks}
 use Rattle.basics.specs.TestLaws.{is-true, is-false, test-case}
 use Rattle.network.specs.Record.{netOf, soundRecord}
 use Rattle.network.specs.SoundLaws.{sound-board}
 use Rattle.network.specs.declared.Network.{Network}
-use Rattle.fold_theory.specs.Merge.{Edge, edge, distinct, narrow, agreesAt}
+use Rattle.fold_theory.specs.Merge.{Edge, edge, distinct, agreesAt}
 use Rattle.fold_theory.specs.AlignedLaws.{EdgeOk}
 use Rattle.pair_theory.specs.Alignments.{alignmentOf}
 use Rattle.fold_readers.specs.ArrayLaws.{lent-of}
@@ -21,34 +19,16 @@ use Rattle.fold_edges.specs.EdgeLaws.{joined-ok}
 use Rattle.fold_edges.specs.Codes.{firstFailing, edgeTestsIn}
 use Rattle.fold_edges.specs.CodeLaws.{code-never}
 use Rattle.fold_merge.specs.Answers.{mergeCode}
-use Rattle.fold_merge.specs.CallLaws.{apart-none, onGates, call-broken, call-apart, call-joined, merge-broken, code-apart, here-is, merge-number}
+use Rattle.fold_merge.specs.CallLaws.{apart-none, merge-broken, code-apart, here-is, merge-number}
 use Rattle.fold_witness.specs.declared.Witnessed.{Witnessed}
-use Rattle.fold_witness.specs.declared.DistinctFeeds.{DistinctFeeds}
 use Rattle.fold_witness.specs.Witness.{Shows, WitnessOf}
-use Rattle.fold_witness.specs.Feeds.{feedsOf, feeds, asFeeds, distinctFeeds}
-use Rattle.fold_witness.specs.Parts.{noWitness, WitnessOfAlignment, feedsOfAlignment}
+use Rattle.fold_witness.specs.Parts.{noWitness, WitnessOfAlignment}
 use Rattle.fold_witness.specs.WitnessLaws.{none-shows, aligned-shows}
-
--- the distinct feeds are a call on two gates
-feeds-call : (r : Network) (u v : ℕ) → distinctFeeds r u v ≡ asFeeds (onGates feedsOf r u v)
-unfolding distinctFeeds feeds
-feeds-call r u v = refl
-
--- those of the aligned gates are those of the two gates
-feeds-on : (e : Edge) → feedsOfAlignment (alignmentOf e) ≡ asFeeds (feedsOf e)
-unfolding feedsOfAlignment feedsOf asFeeds checks narrow alignmentOf
-feeds-on e = elim (leb (length (distinct e)) 16) as (λ b.
-    cond b (record { code = 0; count = length (distinct e); signals = alignmentOf e .signals }) (asFeeds (refused 7))
-    ≡ asFeeds (checks ((b else 7) ∷ []) (accepted (distinct e))))
-    [ true ↦ refl | false ↦ refl ]
 
 -- ---- a record that is not sound
 module _ (r : Network) (s : soundRecord r ≡ false) where
   pub witness-broken : (u v k l : ℕ) {w : Witnessed} → w ≡ noWitness 20 → WitnessOf r u v k l w
   witness-broken u v k l h = rw (merge-broken r s u v k l) (none-shows 20 _ _ (λ (q : 20 ≡ 15). absurd (omega arith)) h)
-
-  pub feeds-broken : (u v : ℕ) → distinctFeeds r u v ≡ asFeeds (refused 20)
-  feeds-broken u v = feeds-call r u v ∙ ap asFeeds (call-broken r s feedsOf u v)
 
 -- ---- a sound record
 module _ (r : Network) (s : soundRecord r ≡ true) (u v : ℕ) where
@@ -65,16 +45,10 @@ module _ (r : Network) (s : soundRecord r ≡ true) (u v : ℕ) where
       pub witness-apart : (k l : ℕ) {w : Witnessed} → w ≡ noWitness n → WitnessOf r u v k l w
       witness-apart k l h = rw (code-apart r s u v n same other k l) (none-shows n _ _ apart-other h)
 
-      pub feeds-apart : distinctFeeds r u v ≡ asFeeds (refused n)
-      feeds-apart = feeds-call r u v ∙ ap asFeeds (call-apart r s u v n same other feedsOf)
-
     -- u feeds v
     module _ (none : n ≡ 0) where
       abbrev fed : Edge
       fed = edgeIn (r .board) (r .fanins) (r .thresholds) (r .signals) (r .weights) (r .inputs) u v
-
-      pub feeds-joined : {f : DistinctFeeds} → f ≡ feedsOfAlignment (alignmentOf fed) → f ≡ distinctFeeds r u v
-      feeds-joined h = h ∙ feeds-on fed ∙ sym (feeds-call r u v ∙ ap asFeeds (call-joined r s u v n same none feedsOf))
 
       pub witness-joined : EdgeOk fed → (k l : ℕ) {w : Witnessed} → WitnessOfAlignment (alignmentOf fed) k l w → WitnessOf r u v k l w
       witness-joined ok k l {w} h =

@@ -1,11 +1,9 @@
--- What the two calls on whole files answer, and what they leave in the lent numbers. Nothing is proved here.
+-- What the call on a whole file answers, and what it leaves in the lent numbers. Nothing is proved here.
 use Rattle.basics.specs.Library.{_≡_, List, _∷_, ℕ, _^_, length, getD, drop}
-use Rattle.basics.specs.Refusals.{Answer, accepted, refused, bind, codeOf}
+use Rattle.basics.specs.Refusals.{Answer, accepted, refused, codeOf}
 use Rattle.network.specs.Threshold.{Net}
 use Rattle.fold_theory.specs.Merge.{edge, distinct, agreesAt, merge}
-use Rattle.pmn_opening.specs.Files.{openNet}
 use Rattle.pair_witness.specs.Fewest.{Fewest}
-use Rattle.fold_witness.specs.Feeds.{feeds}
 
 -- on the network that was read, "with the merge's own number"; only with 15 a setting is put into place 0, with the fewest ones of those
 -- that differ, and the places after it stay as they were
@@ -19,7 +17,3 @@ pub record WitnessPut (N : Net) (u v k l : ℕ) (before after : List ℕ) (numbe
 abbrev pub WitnessLeft : Answer Net → ℕ → ℕ → ℕ → ℕ → List ℕ → List ℕ → ℕ → Type 0
 WitnessLeft (accepted N) u v k l before after number = WitnessPut N u v k l before after number
 WitnessLeft (refused c) u v k l before after number = (number ≡ c) × (after ≡ before)
-
--- the number of distinct feeds, and their signals
-unfoldable pub distinctPlaces : List ℕ → ℕ → ℕ → List ℕ → Answer (List ℕ)
-distinctPlaces file u v answer = bind (openNet file (length answer) 17) (λ N. bind (feeds N u v) (λ ds. accepted (length ds ∷ ds)))

@@ -1,5 +1,4 @@
 pub mod Witness
-pub mod Feeds
 pub mod Parts
 pub mod WitnessLaws
 pub mod CallLaws

@@ -1,11 +1,8 @@
--- Internal: what the parts of the two calls promise, on two gates by their distinct feeds: needed by proofs only, no public call cites it. Nothing
--- is proved here.
-use mathlib.Core.Bool.{cond}
-use mathlib.Core.List.{List, [], _∷_}
+-- Internal: what the parts of the call promise, on two gates by their distinct feeds: needed by proofs only, no public call cites it. Nothing is
+-- proved here.
+use mathlib.Core.List.{[], _∷_}
 use Prim.Native.Nat.{ℕ, _^_}
-use lib.Dec.{leb}
-use lib.ListN.{take}
-use Rattle.basics.specs.Refusals.{refused, _else_}
+use Rattle.basics.specs.Refusals.{_else_}
 use Rattle.fold_theory.specs.Aligned.{agreesOn, clearsOn, clearsAll}
 use Rattle.pair_theory.specs.Alignments.{alignedIn}
 use Rattle.pair_theory.specs.declared.Alignment.{Alignment}
@@ -14,9 +11,7 @@ use Rattle.pair_witness.specs.declared.Unclear.the-variants.{At, Nowhere}
 use Rattle.fold_edges.specs.Codes.{firstFailing}
 use Rattle.fold_merge.specs.Codes.{settingTests, mergeTestsOn}
 use Rattle.fold_witness.specs.declared.Witnessed.{Witnessed}
-use Rattle.fold_witness.specs.declared.DistinctFeeds.{DistinctFeeds}
 use Rattle.fold_witness.specs.Witness.{Shows}
-use Rattle.fold_witness.specs.Feeds.{asFeeds}
 
 -- none, with a number
 unfoldable pub noWitness : ℕ → Witnessed
@@ -38,11 +33,3 @@ DiffersOn a k l w = Shows (firstFailing (settingTests (alignedIn a) k l)) (2 ^ a
 -- with 14, 7, 6 and 24 before
 abbrev pub WitnessOfAlignment : Alignment → ℕ → ℕ → Witnessed → Type 0
 WitnessOfAlignment a k l w = Shows (firstFailing (mergeTestsOn a k l)) (2 ^ a .count) (agreesOn (alignedIn a) k l) w
-
--- the distinct feeds of two gates, or 7
-unfoldable pub feedsOfAlignment : Alignment → DistinctFeeds
-feedsOfAlignment a = cond (leb (a .count) 16) (record { code = 0; count = a .count; signals = a .signals }) (asFeeds (refused 7))
-
--- their number, and their signals after it
-abbrev pub feedPlaces : DistinctFeeds → List ℕ
-feedPlaces d = d .count ∷ take (d .count) (d .signals)

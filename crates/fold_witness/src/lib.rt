@@ -1,4 +1,4 @@
-// The fewest lit signals that show why a merge disagrees, and the signals that a setting speaks of. Document 02, No. 9.
+// The fewest lit signals that show why a merge disagrees. Document 02, No. 9.
 pub mod files;
 pub mod unchecked;
 
@@ -6,25 +6,14 @@ use fold_edges::unchecked::aligned_at;
 use fold_edges::unchecked::edge_code;
 use network::Network;
 use network_soundness::is_sound;
-use unchecked::listed;
-use unchecked::no_feeds;
 use unchecked::none;
 use unchecked::witness_of;
-ghost use mathlib.Core.Path.{_≡_};
 ghost use Rattle.fold_witness.specs.Witness.{WitnessOf};
-ghost use Rattle.fold_witness.specs.Feeds.{distinctFeeds};
 
 // What `witness` answers: the merge's own number, and the setting where that is 15; else there is none, and `setting` is 0.
 pub struct Witnessed {
     pub code: u8,
     pub setting: usize,
-}
-
-// What `distinct_feeds` answers: 0 or the refusal, the number of distinct feeds, and their signals, rising. Spare places hold 0.
-pub struct DistinctFeeds {
-    pub code: u8,
-    pub count: usize,
-    pub signals: [u8; 16],
 }
 
 // For a merge that is refused with 15, a setting of the distinct feeds on which the merged gate and the composed pair differ, with
@@ -65,42 +54,4 @@ pub fn witness(network: Network, u: usize, v: usize, k: usize, l: usize) -> Witn
         v,
     );
     witness_of(a, k, l)
-}
-
-// The distinct feeds of u and v: signal i is what bit i of a setting stands for. Refusals: 20 broken record, 11 no such gate, 12 not
-// a feed, 7 too wide.
-pub fn distinct_feeds(network: Network, u: usize, v: usize) -> DistinctFeeds
-    ensures { λ r. ⌜ r ≡ distinctFeeds network u v ⌝ }
-{
-    if !is_sound(network) {
-        return no_feeds(20);
-    }
-    let inputs = network.inputs;
-    let gates = network.gates;
-    let apart = edge_code(
-        &network.fanins,
-        &network.thresholds,
-        &network.signals,
-        &network.weights,
-        inputs,
-        gates,
-        u,
-        v,
-    );
-    if apart != 0 {
-        return no_feeds(apart);
-    }
-    let board = network.board;
-    let a = aligned_at(
-        board,
-        &network.fanins,
-        &network.thresholds,
-        &network.signals,
-        &network.weights,
-        inputs,
-        gates,
-        u,
-        v,
-    );
-    listed(a)
 }

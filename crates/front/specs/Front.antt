@@ -20,9 +20,9 @@ use Rattle.pmn_writer.specs.Answers as writing
 use Rattle.pmn_writer.specs.declared.Written.{Written}
 use Rattle.question_text.specs.Answers as lines
 use Rattle.question_text.specs.declared.LineWritten.{LineWritten}
+use Rattle.fold_feeds.specs.Feeds.{feeds, asFeeds}
+use Rattle.fold_feeds.specs.declared.DistinctFeeds.{DistinctFeeds}
 use Rattle.fold_witness.specs.Witness.{Shows}
-use Rattle.fold_witness.specs.Feeds.{feeds, asFeeds}
-use Rattle.fold_witness.specs.declared.DistinctFeeds.{DistinctFeeds}
 use Rattle.fold_witness.specs.declared.Witnessed.{Witnessed}
 use Rattle.front.specs.declared.Opened.{Opened}
 

@@ -5,8 +5,8 @@ use alley_theory::Listed;
 use alley_theory::Totals;
 use call_theory::Call;
 use cut_output::CutAnswer;
+use fold_feeds::DistinctFeeds;
 use fold_pair::PairFound;
-use fold_witness::DistinctFeeds;
 use fold_witness::Witnessed;
 use frame_reading::Reading;
 use journal::CallAnswer;
@@ -218,9 +218,9 @@ pub fn distinct_feeds(held: Record, u: usize, v: usize) -> DistinctFeeds
 {
     let count = held.journal.count;
     if 64 < count {
-        return fold_witness::unchecked::no_feeds(20);
+        return fold_feeds::unchecked::no_feeds(20);
     }
-    fold_witness::distinct_feeds(held.network, u, v)
+    fold_feeds::distinct_feeds(held.network, u, v)
 }
 
 // ---- what changes a record

@@ -2,7 +2,7 @@
 use borrow.Author.Needs.{needs}
 use mathlib.Core.Path.{sym, ap, _∙_}
 use Rattle.fold_merge.specs.Answers.{onRecord}
-use Rattle.fold_witness.specs.Feeds.{feeds, asFeeds, distinctFeeds}
+use Rattle.fold_feeds.specs.Feeds.{feeds, asFeeds, distinctFeeds}
 use Rattle.front.specs.Front.{feedsOn}
 use Rattle.front.specs.FrontLaws.{tested-many, tested-few}
 use Rattle.front.proofs.distinct_feeds.Statement.{statement}

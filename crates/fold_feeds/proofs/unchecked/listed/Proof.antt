@@ -1,10 +1,10 @@
--- `witness::unchecked::listed` meets its contract: too many distinct feeds, or the list. Assumes nothing.
+-- `fold_feeds::unchecked::listed` meets its contract: too many distinct feeds, or the list. Assumes nothing.
 use mathlib.Core.Path.{_∙_}
 use borrow.Author.Tests.{le-leb, lt-leb}
-use Rattle.fold_witness.specs.Parts.{feedsOfAlignment}
+use Rattle.fold_feeds.specs.Parts.{feedsOfAlignment}
 use borrow.Author.Needs.{needs}
-use Rattle.fold_witness.proofs.unchecked.listed.Statement.{statement}
-use Rattle.fold_witness.proofs.unchecked.listed.Tie as tie
+use Rattle.fold_feeds.proofs.unchecked.listed.Statement.{statement}
+use Rattle.fold_feeds.proofs.unchecked.listed.Tie as tie
 
 returns : tie.Need-returns
 unfolding feedsOfAlignment

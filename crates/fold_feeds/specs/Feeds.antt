@@ -7,7 +7,7 @@ use Rattle.network.specs.Threshold.{Net}
 use Rattle.network.specs.declared.Network.{Network}
 use Rattle.fold_theory.specs.Merge.{Edge, edge, distinct, narrow, feedTests}
 use Rattle.fold_merge.specs.Answers.{onRecord}
-use Rattle.fold_witness.specs.declared.DistinctFeeds.{DistinctFeeds}
+use Rattle.fold_feeds.specs.declared.DistinctFeeds.{DistinctFeeds}
 
 -- 7 of two gates
 unfoldable pub feedsOf : Edge → Answer (List ℕ)

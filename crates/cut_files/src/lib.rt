@@ -1,12 +1,12 @@
-// The cut of a whole file, with a place for the length of the new one.
-use crate::unchecked::cut_sound;
+// The cut of a whole file, for C and Rust, with a place for the length of the new one. Document 02, No. 12.
+use cut_output::unchecked::cut_sound;
 use pmn_files::unchecked::put_file;
 use pmn_opening::unchecked::refusal;
 ghost use mathlib.Core.Path.{_≡_};
 ghost use lib.ListN.{length};
 ghost use Rattle.basics.specs.Refusals.{codeOf, stored};
 ghost use Rattle.pmn_opening.specs.Files.{lengthOf};
-ghost use Rattle.cut_output.specs.Answers.{cutPlaces};
+ghost use Rattle.cut_files.specs.Answers.{cutPlaces};
 
 // The file of the cut of an output is put into `out`, and its length goes into place 0 of the answer. Refusals: as read, 18 where there is no
 // place, 8 for an output number that the network lacks, 18 where the new file is longer than `out`.

@@ -3,10 +3,10 @@ use borrow.Author.Needs.{needs}
 use lib.ListN.{length}
 use Rattle.pmn_opening.specs.AnswerLaws.{refused-two, same-two}
 use Rattle.pmn_opening.specs.OpeningLaws.{file-sound, open-refused}
-use Rattle.cut_output.specs.Answers.{cutPlaces}
-use Rattle.cut_output.specs.FileLaws.{file-stray, pin-sound, pin-answer}
-use Rattle.cut_output.proofs.files.cut_file.Statement.{statement}
-use Rattle.cut_output.proofs.files.cut_file.Tie as tie
+use Rattle.cut_files.specs.Answers.{cutPlaces}
+use Rattle.cut_files.specs.FileLaws.{file-stray, pin-sound, pin-answer}
+use Rattle.cut_files.proofs.cut_file.Statement.{statement}
+use Rattle.cut_files.proofs.cut_file.Tie as tie
 
 refusal-requires : tie.Need-refusal-requires
 refusal-requires c κs = (λ i. c .before .before .before .shared-slice-known .given i .fits, c .read .ensures)

@@ -1,13 +1,13 @@
--- `witness::files::distinct_of_file` meets its contract: the refusal, then the distinct feeds in the file's network. Assumes nothing.
+-- `fold_feeds::files::distinct_of_file` meets its contract: the refusal, then the distinct feeds in the file's network. Assumes nothing.
 use borrow.Author.Needs.{needs}
 use Rattle.basics.specs.RefusalLaws.{refused-one}
 use Rattle.pmn_opening.specs.AnswerLaws.{placed}
 use Rattle.pmn_opening.specs.OpeningLaws.{open-refused}
-use Rattle.fold_witness.specs.Parts.{feedPlaces}
-use Rattle.fold_witness.specs.Files.{distinctPlaces}
-use Rattle.fold_witness.specs.FileLaws.{distinct-few, distinct-answer}
-use Rattle.fold_witness.proofs.files.distinct_of_file.Statement.{statement}
-use Rattle.fold_witness.proofs.files.distinct_of_file.Tie as tie
+use Rattle.fold_feeds.specs.Parts.{feedPlaces}
+use Rattle.fold_feeds.specs.Files.{distinctPlaces}
+use Rattle.fold_feeds.specs.FileLaws.{distinct-few, distinct-answer}
+use Rattle.fold_feeds.proofs.files.distinct_of_file.Statement.{statement}
+use Rattle.fold_feeds.proofs.files.distinct_of_file.Tie as tie
 
 refusal-requires : tie.Need-refusal-requires
 refusal-requires c κs = (λ i. c .before .before .shared-slice-known .given i .fits, c .read .ensures)

@@ -1,4 +1,4 @@
--- `witness::unchecked::put_feeds` meets its contract: the number stands in place 0, and the signals passed after it. Assumes nothing.
+-- `fold_feeds::unchecked::put_feeds` meets its contract: the number stands in place 0, and the signals passed after it. Assumes nothing.
 use borrow.Author.Needs.{needs}
 use mathlib.Core.Path.{_≡_, refl, sym, ap, _∙_}
 use mathlib.Core.List.{List, _∷_}
@@ -8,9 +8,9 @@ use native.Mathlib.Omega.{arith}
 use lib.ListN.{length, take, set, length-set}
 use lib.Seq.{paste, paste-zero, paste-suc}
 use Rattle.pmn_opening.specs.AnswerLaws.{keep-places}
-use Rattle.fold_witness.specs.FileLaws.{pasted}
-use Rattle.fold_witness.proofs.unchecked.put_feeds.Statement.{statement}
-use Rattle.fold_witness.proofs.unchecked.put_feeds.Tie as tie
+use Rattle.fold_feeds.specs.FileLaws.{pasted}
+use Rattle.fold_feeds.proofs.unchecked.put_feeds.Statement.{statement}
+use Rattle.fold_feeds.proofs.unchecked.put_feeds.Tie as tie
 
 abbrev Inv-loop : tie.InvT-loop
 Inv-loop answer₀ listed code count i₀ answer i =

@@ -9,11 +9,11 @@ use Rattle.fold_readers.specs.Arrays.{SoundArrays}
 use Rattle.fold_readers.specs.ArrayLaws.{lent-of}
 use Rattle.fold_edges.specs.Edges.{GateReads}
 use Rattle.fold_merge.specs.CallLaws.{apart-none}
-use Rattle.fold_witness.specs.Parts.{feedsOfAlignment}
-use Rattle.fold_witness.specs.CallLaws.{feeds-broken, feeds-apart, feeds-joined}
+use Rattle.fold_feeds.specs.Parts.{feedsOfAlignment}
+use Rattle.fold_feeds.specs.CallLaws.{feeds-broken, feeds-apart, feeds-joined}
 use borrow.Author.Needs.{needs}
-use Rattle.fold_witness.proofs.distinct_feeds.Statement.{statement}
-use Rattle.fold_witness.proofs.distinct_feeds.Tie as tie
+use Rattle.fold_feeds.proofs.distinct_feeds.Statement.{statement}
+use Rattle.fold_feeds.proofs.distinct_feeds.Tie as tie
 
 returns : tie.Need-returns
 returns c =

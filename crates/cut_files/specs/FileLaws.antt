@@ -17,7 +17,7 @@ use Rattle.pmn_files.specs.Files.{fileIn}
 use Rattle.cut_theory.specs.Cut.{named, cutNet, cut}
 use Rattle.cut_theory.specs.RemoveLaws.{cut-sound}
 use Rattle.cut_theory.specs.CutLaws.{named-has, cut-accepts, cut-stray}
-use Rattle.cut_output.specs.Answers.{cutPlaces}
+use Rattle.cut_files.specs.Answers.{cutPlaces}
 
 module _ {file : List ℕ} {places : ℕ} {r : Network} (a : FileOpen file places 1 r) (output room : ℕ) where
   abbrev N : Net
