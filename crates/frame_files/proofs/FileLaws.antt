@@ -14,8 +14,8 @@ use Rattle.frame_reading.specs.declared.Reading.{Reading}
 use Rattle.pmn_opening.specs.Places.{answerOf}
 use Rattle.pmn_opening.specs.Opening.{FileOpen}
 use Rattle.pmn_opening.specs.OpeningLaws.{file-sound, open-record, read-on, open-on}
 use Rattle.frame_batch.specs.Frames.{framesAnswer}
-use Rattle.frame_batch.specs.Files.{framePlaces, fileFrames}
+use Rattle.frame_files.specs.Files.{framePlaces, fileFrames}
 
 -- ---- up to 64 frames
 pub file-answer : {file : List ℕ} {r : Network} → FileOpen file 0 0 r → (frames lent : List ℕ) → fileFrames file frames lent ≡ framesAnswer r frames lent

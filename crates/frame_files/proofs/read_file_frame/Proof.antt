@@ -4,10 +4,10 @@ use mathlib.Core.List.{[], _∷_}
 use Rattle.basics.specs.RefusalLaws.{refused-one}
 use Rattle.pmn_opening.specs.AnswerLaws.{placed}
 use Rattle.pmn_opening.specs.OpeningLaws.{file-sound, open-refused}
-use Rattle.frame_batch.specs.Files.{framePlaces}
-use Rattle.frame_batch.proofs.FileLaws.{frame-answer}
-use Rattle.frame_batch.proofs.files.read_file_frame.Statement.{statement}
-use Rattle.frame_batch.proofs.files.read_file_frame.Tie as tie
+use Rattle.frame_files.specs.Files.{framePlaces}
+use Rattle.frame_files.proofs.FileLaws.{frame-answer}
+use Rattle.frame_files.proofs.read_file_frame.Statement.{statement}
+use Rattle.frame_files.proofs.read_file_frame.Tie as tie
 
 refusal-requires : tie.Need-refusal-requires
 refusal-requires c κs = (λ i. c .before .before .shared-slice-known .given i .fits, c .read .ensures)

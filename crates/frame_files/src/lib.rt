@@ -1,10 +1,10 @@
-// The reading of frames on the network of a whole file. The record that was read is sound, and not tested again.
-use crate::unchecked::read_sound;
+// A frame, and a batch of frames, on the network of a whole file. The record that was read is sound, and not tested again.
+use frame_batch::unchecked::read_sound;
 use pmn_opening::unchecked::places::put_two;
 use pmn_opening::unchecked::refusal;
 ghost use mathlib.Core.Path.{_≡_};
 ghost use Rattle.basics.specs.Refusals.{codeOf, stored};
-ghost use Rattle.frame_batch.specs.Files.{framePlaces, fileFrames};
+ghost use Rattle.frame_files.specs.Files.{framePlaces, fileFrames};
 
 // The outputs of a file's network on one frame: their bits go into place 0 of the answer, the number of ones into place 1. Refusals: as read,
 // 18 for fewer than two places, 10 long frame.

@@ -3,10 +3,10 @@ use mathlib.Core.Path.{_∙_}
 use borrow.Author.Needs.{needs}
 use Rattle.basics.specs.RefusalLaws.{left-one, refused-one}
 use Rattle.pmn_opening.specs.OpeningLaws.{file-sound, read-refused}
-use Rattle.frame_batch.specs.Files.{fileFrames}
-use Rattle.frame_batch.proofs.FileLaws.{file-answer}
-use Rattle.frame_batch.proofs.files.read_file_frames.Statement.{statement}
-use Rattle.frame_batch.proofs.files.read_file_frames.Tie as tie
+use Rattle.frame_files.specs.Files.{fileFrames}
+use Rattle.frame_files.proofs.FileLaws.{file-answer}
+use Rattle.frame_files.proofs.read_file_frames.Statement.{statement}
+use Rattle.frame_files.proofs.read_file_frames.Tie as tie
 
 refusal-requires : tie.Need-refusal-requires
 refusal-requires c κs = (λ i. c .before .before .before .shared-slice-known .given i .fits, c .read .ensures)
