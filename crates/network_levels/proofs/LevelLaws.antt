@@ -11,9 +11,9 @@ use Rattle.basics.specs.Lists.{range, tab}
 use Rattle.basics.specs.TestLaws.{cond-case}
 use Rattle.network.specs.Threshold.{Feed, Gate}
 use Rattle.network.specs.Record.{feedAt, feedsFrom, gateFrom}
-use Rattle.network_report.specs.Size.{highest, levelAbove, gateLevel, withLevel, levelsFrom}
-use Rattle.network_report.specs.Arrays.{levelsIn}
-use Rattle.network_report.proofs.SetLaws.{getD-repeated, getD-set}
+use Rattle.network_levels.specs.Levels.{highest, levelAbove, gateLevel, withLevel, levelsFrom}
+use Rattle.network_levels.specs.Arrays.{levelsIn}
+use Rattle.network_levels.proofs.SetLaws.{getD-repeated, getD-set}
 
 -- ---- the feeds of a gate
 

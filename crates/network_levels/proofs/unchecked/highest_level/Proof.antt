@@ -1,14 +1,14 @@
--- `report::unchecked::highest_level` meets its contract: the higher of the level so far and of the highest among the feeds that are left is
+-- `unchecked::highest_level` meets its contract: the higher of the level so far and of the highest among the feeds that are left is
 -- the highest among all. Assumes nothing.
 use mathlib.Core.Path.{ap, _∙_}
 use Prim.Native.Nat.{ℕ, _-_, max}
 use native.Mathlib.Omega.{arith}
 use lib.ListN.{getD}
 use borrow.Author.Needs.{needs}
-use Rattle.network_report.specs.Arrays.{levelsIn}
-use Rattle.network_report.proofs.LevelLaws.{FeedsSeen, feeds-none, feeds-next, feeds-all}
-use Rattle.network_report.proofs.unchecked.highest_level.Statement.{statement}
-use Rattle.network_report.proofs.unchecked.highest_level.Tie as tie
+use Rattle.network_levels.specs.Arrays.{levelsIn}
+use Rattle.network_levels.proofs.LevelLaws.{FeedsSeen, feeds-none, feeds-next, feeds-all}
+use Rattle.network_levels.proofs.unchecked.highest_level.Statement.{statement}
+use Rattle.network_levels.proofs.unchecked.highest_level.Tie as tie
 
 abbrev Inv-loop : tie.InvT-loop
 Inv-loop signals levels base count most₀ i₀ most i = FeedsSeen (levelsIn levels) signals base count i most

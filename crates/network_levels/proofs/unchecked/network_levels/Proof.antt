@@ -1,11 +1,11 @@
--- `report::unchecked::network_levels` meets its contract: the higher of the level so far and of the levels of the gates that are left, on the
+-- `unchecked::network_levels` meets its contract: the higher of the level so far and of the levels of the gates that are left, on the
 -- array's levels, is the network's. Assumes nothing.
 use Prim.Native.Nat.{_-_}
 use native.Mathlib.Omega.{arith}
 use borrow.Author.Needs.{needs}
-use Rattle.network_report.proofs.LevelLaws.{LevelsLeft, levels-none, levels-next, levels-all}
-use Rattle.network_report.proofs.unchecked.network_levels.Statement.{statement}
-use Rattle.network_report.proofs.unchecked.network_levels.Tie as tie
+use Rattle.network_levels.proofs.LevelLaws.{LevelsLeft, levels-none, levels-next, levels-all}
+use Rattle.network_levels.proofs.unchecked.network_levels.Statement.{statement}
+use Rattle.network_levels.proofs.unchecked.network_levels.Tie as tie
 
 abbrev Inv-loop : tie.InvT-loop
 Inv-loop fanins signals inputs gates levels₀ most₀ g₀ levels most g = LevelsLeft fanins signals inputs gates g most levels

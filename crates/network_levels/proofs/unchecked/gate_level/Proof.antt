@@ -1,4 +1,4 @@
--- `report::unchecked::gate_level` meets its contract: 0 without feeds, else one more than the highest level among them, which is no higher
+-- `unchecked::gate_level` meets its contract: 0 without feeds, else one more than the highest level among them, which is no higher
 -- than the number of gates before. Assumes nothing.
 use mathlib.Core.Path.{sym, ap, _∙_}
 use mathlib.Core.List.{[]}
@@ -7,11 +7,11 @@ use native.Mathlib.Numerals.{add-one}
 use native.Mathlib.Omega.{arith}
 use borrow.Author.Needs.{needs}
 use Rattle.network.specs.Record.{feedsFrom, gateFrom}
-use Rattle.network_report.specs.Size.{highest, gateLevel}
-use Rattle.network_report.specs.Arrays.{levelsIn}
-use Rattle.network_report.proofs.LevelLaws.{highest-most, above-none, above-some}
-use Rattle.network_report.proofs.unchecked.gate_level.Statement.{statement}
-use Rattle.network_report.proofs.unchecked.gate_level.Tie as tie
+use Rattle.network_levels.specs.Levels.{highest, gateLevel}
+use Rattle.network_levels.specs.Arrays.{levelsIn}
+use Rattle.network_levels.proofs.LevelLaws.{highest-most, above-none, above-some}
+use Rattle.network_levels.proofs.unchecked.gate_level.Statement.{statement}
+use Rattle.network_levels.proofs.unchecked.gate_level.Tie as tie
 
 returns : tie.Need-returns
 unfolding gateLevel gateFrom
