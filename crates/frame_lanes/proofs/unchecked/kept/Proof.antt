@@ -1,7 +1,7 @@
 -- All ones keep every bit of the weight, and all zeros none. Assumes nothing.
-use Rattle.frame_pass.proofs.MaskLaws.{kept-is}
-use Rattle.frame_pass.proofs.unchecked.kept.Statement.{statement}
-use Rattle.frame_pass.proofs.unchecked.kept.Tie as tie
+use Rattle.frame_lanes.specs.MaskLaws.{kept-is}
+use Rattle.frame_lanes.proofs.unchecked.kept.Statement.{statement}
+use Rattle.frame_lanes.proofs.unchecked.kept.Tie as tie
 
 returns : tie.Need-returns
 returns c = kept-is (c .args .mask) (c .args .weight) (c .pre) (c .fits .weight)

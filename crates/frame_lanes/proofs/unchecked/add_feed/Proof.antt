@@ -12,10 +12,10 @@ use borrow.Author.Needs.{needs}
 use Rattle.basics.specs.SizeLaws.{read-back}
 use Rattle.network.specs.Places.{Pasted}
 use Rattle.network_places.specs.PasteLaws.{pasted-none, pasted-more}
-use Rattle.frame_pass.specs.Lanes.{isOn}
-use Rattle.frame_pass.proofs.MaskLaws.{under-fits}
-use Rattle.frame_pass.proofs.unchecked.add_feed.Statement.{statement}
-use Rattle.frame_pass.proofs.unchecked.add_feed.Tie as tie
+use Rattle.frame_lanes.specs.Lanes.{isOn}
+use Rattle.frame_lanes.specs.MaskLaws.{under-fits}
+use Rattle.frame_lanes.proofs.unchecked.add_feed.Statement.{statement}
+use Rattle.frame_lanes.proofs.unchecked.add_feed.Tie as tie
 
 abbrev Inv-loop : tie.InvT-loop
 Inv-loop masks sums₀ from weight f₀ sums f =

@@ -6,9 +6,9 @@ use mir.Syntax.{w32}
 use mir.Val.{SFits}
 use mir.Facts.{toZ-ofZ}
 use borrow.Author.Needs.{needs}
-use Rattle.frame_pass.proofs.SignalLaneLaws.{block-put}
-use Rattle.frame_pass.proofs.unchecked.put_block.Statement.{statement}
-use Rattle.frame_pass.proofs.unchecked.put_block.Tie as tie
+use Rattle.frame_lanes.proofs.LaneSumLaws.{block-put}
+use Rattle.frame_lanes.proofs.unchecked.put_block.Statement.{statement}
+use Rattle.frame_lanes.proofs.unchecked.put_block.Tie as tie
 
 lane-sums-requires : tie.Need-lane-sums-requires
 lane-sums-requires c κs =

@@ -12,9 +12,9 @@ use borrow.Author.Needs.{needs}
 use Rattle.basics.specs.SizeLaws.{read-back}
 use Rattle.network.specs.Places.{Pasted}
 use Rattle.network_places.specs.PasteLaws.{pasted-none, pasted-more}
-use Rattle.frame_pass.specs.Lanes.{maskOf}
-use Rattle.frame_pass.proofs.unchecked.put_bits.Statement.{statement}
-use Rattle.frame_pass.proofs.unchecked.put_bits.Tie as tie
+use Rattle.frame_lanes.specs.Lanes.{maskOf}
+use Rattle.frame_lanes.proofs.unchecked.put_bits.Statement.{statement}
+use Rattle.frame_lanes.proofs.unchecked.put_bits.Tie as tie
 
 abbrev Inv-loop : tie.InvT-loop
 Inv-loop masks₀ sums threshold from f₀ masks f = (f ≤ 32) × Pasted (pos 0) from f (λ k. maskOf (leZ (toZ w32 threshold) (getD sums k (pos 0)))) masks₀ masks

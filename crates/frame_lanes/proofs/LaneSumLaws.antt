@@ -1,17 +1,22 @@
--- The sums of a gate's feeds in 32 lanes, feed by feed, and how large they are. Assumes nothing.
-use mathlib.Core.Path.{_≡_, sym, ap, ap₂, _∙_, subst}
+-- The sums of a gate's feeds in 32 lanes, feed by feed, how large they are, and the gate's bits by them. Assumes nothing.
+use mathlib.Core.Path.{_≡_, refl, sym, ap, ap₂, _∙_, subst}
 use mathlib.Core.Bool.{Bool, cond}
 use mathlib.Core.List.{List}
 use Prim.Native.Nat.{ℕ, _+_, _*_, _≤_, _<_}
 use native.Mathlib.Omega.{arith}
 use lib.IntN.{ℤ, pos, natAbs, _+ℤ_}
 use lib.ListN.{length, getD, replicate, length-replicate, getD-replicate}
+use lib.Signed.{leZ}
+use Rattle.network.specs.Threshold.{sum, bit}
+use Rattle.network.specs.Record.{feedsFrom, gateFrom}
 use Rattle.network.specs.Places.{Pasted}
-use Rattle.network_places.specs.PasteLaws.{pasted-first}
+use Rattle.network_places.specs.PasteLaws.{pasted-first, pasted-as}
 use Rattle.frame_reading.specs.Evaluation.{bitsIn}
 use Rattle.frame_reading.proofs.SumLaws.{Added, added-none, added-next, added-all}
-use Rattle.frame_pass.specs.Lanes.{isOn, lane, CanSum, LaneSums}
-use Rattle.frame_pass.proofs.LaneLaws.{lane-bit}
+use Rattle.frame_lanes.specs.Lanes.{maskOf, isOn, lane, CanSum, LaneSums, gateMasks}
+use Rattle.frame_lanes.specs.LaneLaws.{lane-bit}
+
+-- ---- the sums
 
 -- in each of 32 lanes i of the count feeds are added
 pub record LanesAdded (masks : List ℤ) (ss : List ℕ) (ws : List ℤ) (base count block i : ℕ) (sums : List ℤ) : Type 0 where
@@ -48,3 +53,14 @@ module _ {masks : List ℤ} {ss : List ℕ} {ws : List ℤ} {base count block i 
 
   pub lanes-all : count ≤ i → LaneSums masks ss ws base count block sums
   lanes-all k = record { long = h .long; total = λ f l. added-all (h .added f l) k }
+
+-- ---- the gate
+
+-- 32 lanes by their sums: these are the gate's bits
+pub block-put : {masks new sums ws : List ℤ} {ss : List ℕ} {count block from : ℕ} {t : ℤ} (fanins : List ℕ) (thresholds : List ℤ) (g : ℕ)
+    → LaneSums masks ss ws (16 * g) count block sums → count ≡ getD fanins g 0 → t ≡ getD thresholds g (pos 0)
+    → Pasted (pos 0) from 32 (λ f. maskOf (leZ t (getD sums f (pos 0)))) masks new
+    → Pasted (pos 0) from 32 (gateMasks masks (gateFrom fanins thresholds ss ws g) block) masks new
+unfolding bit gateFrom
+block-put {masks} {new} {sums} {ws} {ss} {count} {block} fanins thresholds g h e d p = pasted-as p refl λ f l.
+    ap maskOf (ap₂ leZ d (h .total f l ∙ ap (λ (n : ℕ). sum (bitsIn (lane masks (block + f))) (feedsFrom ss ws (16 * g) n)) e))

@@ -7,9 +7,9 @@ use mir.Syntax.{w32}
 use mir.Val.{SFits}
 use mir.Facts.{toZ-ofZ}
 use borrow.Author.Needs.{needs}
-use Rattle.frame_pass.proofs.LaneSumLaws.{LanesAdded, lanes-none, lanes-small, lanes-next, lanes-all}
-use Rattle.frame_pass.proofs.unchecked.lane_sums.Statement.{statement}
-use Rattle.frame_pass.proofs.unchecked.lane_sums.Tie as tie
+use Rattle.frame_lanes.proofs.LaneSumLaws.{LanesAdded, lanes-none, lanes-small, lanes-next, lanes-all}
+use Rattle.frame_lanes.proofs.unchecked.lane_sums.Statement.{statement}
+use Rattle.frame_lanes.proofs.unchecked.lane_sums.Tie as tie
 
 abbrev Inv-loop : tie.InvT-loop
 Inv-loop signals weights masks base count block sums₀ i₀ sums i = LanesAdded masks signals weights base count block i sums

@@ -13,7 +13,7 @@ use mir.Val.{SFits, toZ, ofZ}
 use mir.Facts.{toZ-ofZ, fits-ofZ}
 use Rattle.basics.specs.SizeLaws.{size-add, size-fits}
 use Rattle.basics.specs.TestLaws.{is-false, not-below}
-use Rattle.frame_pass.specs.Lanes.{maskOf, isOn}
+use Rattle.frame_lanes.specs.Lanes.{maskOf, isOn}
 
 pub on-mask : (b : Bool) → isOn (maskOf b) ≡ b
 on-mask true = refl

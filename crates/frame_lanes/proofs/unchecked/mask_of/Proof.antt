@@ -1,6 +1,6 @@
 -- Both bits. Assumes nothing.
-use Rattle.frame_pass.proofs.unchecked.mask_of.Statement.{statement}
-use Rattle.frame_pass.proofs.unchecked.mask_of.Tie as tie
+use Rattle.frame_lanes.proofs.unchecked.mask_of.Statement.{statement}
+use Rattle.frame_lanes.proofs.unchecked.mask_of.Tie as tie
 
 returns : tie.Need-returns
 returns c = rw (c .if1 .taken)
