@@ -6,7 +6,7 @@ ghost use Rattle.basics.specs.Refusals.{codeOf, stored};
 ghost use Rattle.pmn_opening.specs.Files.{readNet, openNet, lengthOf};
 ghost use Rattle.pmn_files.specs.Files.{reportPlaces, fileOut, partOut};
 ghost use Rattle.pmn_converter.specs.Conversion.{conversionPlaces};
-ghost use Rattle.frame_batch.specs.Files.{framePlaces, fileFrames};
+ghost use Rattle.frame_files.specs.Files.{framePlaces, fileFrames};
 ghost use Rattle.fold_pair.specs.Files.{pairPlaces};
 ghost use Rattle.fold_preview.specs.Files.{previewPlaces};
 ghost use Rattle.fold_witness.specs.Files.{WitnessLeft};
@@ -31,7 +31,7 @@ pub extern "C" fn pmn_frame(file: &[u8], frame: u64, answer: &mut [u64]) -> u8
     ensures { λ r. ⌜ r ≡ codeOf (framePlaces (now (file .entry)) frame (now (answer .entry))) ⌝ }
     ensures { λ _. ⌜ now (answer .exit) ≡ stored (framePlaces (now (file .entry)) frame (now (answer .entry))) (now (answer .entry)) ⌝ }
 {
-    frame_batch::files::read_file_frame(file, frame, answer)
+    frame_files::read_file_frame(file, frame, answer)
 }
 
 // Up to 64 frames are read in one pass: the output bits on frame i go into place i of the answers.
@@ -40,7 +40,7 @@ pub extern "C" fn pmn_frames(file: &[u8], frames: &[u64], answers: &mut [u64]) -
     ensures { λ r. ⌜ r ≡ codeOf (fileFrames (now (file .entry)) (now (frames .entry)) (now (answers .entry))) ⌝ }
     ensures { λ _. ⌜ now (answers .exit) ≡ stored (fileFrames (now (file .entry)) (now (frames .entry)) (now (answers .entry))) (now (answers .entry)) ⌝ }
 {
-    frame_batch::files::read_file_frames(file, frames, answers)
+    frame_files::read_file_frames(file, frames, answers)
 }
 
 // A game is scored from the frames after each ball: the number of balls goes into place 0 of the answer, the number of scores known into

@@ -1,5 +1,4 @@
-// The reading of up to 64 frames in one pass on a record, and of frames on a whole file.
-pub mod files;
+// The reading of up to 64 frames in one pass on a record.
 pub mod unchecked;
 
 use network::Network;

@@ -9,14 +9,15 @@ use native.Mathlib.Omega.{arith}
 use lib.IntN.{ℤ, pos}
 use lib.ListN.{length, getD, set, replicate, length-replicate}
 use Rattle.basics.specs.Lists.{tab}
-use Rattle.basics.specs.ListLaws.{length-tab, getD-tab, getD-spare, tab-same, tab-replicate}
+use Rattle.basics.specs.ListLaws.{getD-spare, tab-same, tab-replicate}
 use Rattle.basics.specs.TableLaws.{tab-set}
 use Rattle.network.specs.Threshold.{wordOf}
 use Rattle.network.specs.Places.{Pasted}
 use Rattle.network_places.specs.PasteLaws.{pasted-first}
 use Rattle.frame_reading.specs.Evaluation.{bitsIn}
-use Rattle.frame_pass.specs.Lanes.{maskOf, isOn, lane, Masks, Blank, LanesPut, LaneWords}
-use Rattle.frame_pass.proofs.MaskLaws.{on-mask}
+use Rattle.frame_lanes.specs.Lanes.{maskOf, isOn, lane, Masks}
+use Rattle.frame_lanes.specs.MaskLaws.{on-mask}
+use Rattle.frame_pass.specs.Lanes.{Blank, LanesPut, LaneWords}
 
 -- ---- the masks
 pub blank-all : Blank (replicate 16384 (pos 0))
@@ -43,15 +44,6 @@ masks-put {base} {n} b {old} {new} m h k = record {
 }
 
 -- ---- the lanes
-pub length-lane : (masks : List ℤ) (f : ℕ) → length (lane masks f) ≡ 256
-unfolding lane
-length-lane masks f = length-tab 256 (λ s. isOn (getD masks (64 * s + f) (pos 0)))
-
--- the bit of a signal in a lane
-pub lane-bit : (masks : List ℤ) (f s : ℕ) → s < 256 → bitsIn (lane masks f) s ≡ isOn (getD masks (64 * s + f) (pos 0))
-unfolding lane
-lane-bit masks f s h = getD-tab false 256 (λ t. isOn (getD masks (64 * t + f) (pos 0))) s h
-
 pub lane-none : {masks : List ℤ} (f : ℕ) → Blank masks → lane masks f ≡ replicate 256 false
 unfolding lane
 lane-none {masks} f h =

@@ -1,5 +1,3 @@
-pub mod MaskLaws
 pub mod LaneLaws
-pub mod LaneSumLaws
 pub mod SignalLaneLaws
 pub mod RecordLaws

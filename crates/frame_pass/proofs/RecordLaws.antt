@@ -21,8 +21,9 @@ use Rattle.network.specs.SoundLaws.{sized-of}
 use Rattle.network.specs.declared.Network.{Network}
 use Rattle.frame_reading.specs.Reading.{frameAnswer, asReading, reading}
 use Rattle.frame_reading.specs.Evaluation.{bitsIn}
+use Rattle.frame_lanes.specs.Lanes.{lane, Masks, GateFits}
 use Rattle.frame_pass.specs.Batch.{Readable, FirstWords}
-use Rattle.frame_pass.specs.Lanes.{lane, Masks, GateFits, CanRunLanes, Lanes, LaneWords}
+use Rattle.frame_pass.specs.Lanes.{CanRunLanes, Lanes, LaneWords}
 
 -- ---- a sound record
 module _ (r : Network) (sound : soundRecord r ≡ true) where

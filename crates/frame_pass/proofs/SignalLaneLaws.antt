@@ -1,38 +1,25 @@
 -- The signals in the lanes: a gate put in blocks of 32 lanes, and the inputs and the gates that are left, lane by lane as in a single
 -- reading. Assumes nothing.
-use mathlib.Core.Path.{_≡_, refl, sym, ap, ap₂, _∙_, subst}
+use mathlib.Core.Path.{_≡_, refl, sym, ap, subst}
 use mathlib.Core.Bool.{Bool}
 use mathlib.Core.List.{List}
 use Prim.Native.Nat.{ℕ, _+_, _*_, _≤_, _<_}
 use native.Mathlib.Omega.{arith}
 use lib.IntN.{ℤ, pos}
 use lib.ListN.{length, getD}
-use lib.Signed.{leZ}
 use Rattle.basics.specs.Lists.{tab}
 use Rattle.basics.specs.ListLaws.{all-at}
-use Rattle.network.specs.Threshold.{Gate, sum, bit, run, frame, fitsFrame}
-use Rattle.network.specs.Record.{feedsFrom, gateFrom}
+use Rattle.network.specs.Threshold.{Gate, bit, run, frame, fitsFrame}
 use Rattle.network.specs.Places.{Pasted}
 use Rattle.network_places.specs.PasteLaws.{pasted-join, pasted-as}
 use Rattle.frame_reading.specs.Evaluation.{bitsIn}
 use Rattle.frame_reading.proofs.SignalLaws.{Inputs, inputs-none, inputs-next, inputs-all, GatesLeft, gates-none, gates-next, gates-all}
-use Rattle.frame_pass.specs.Lanes.{maskOf, lane, Masks, Blank, LanesPut, Lanes, LaneSums, CanPutInputs}
-use Rattle.frame_pass.proofs.LaneLaws.{masks-none, length-lane, lane-none, lane-kept, put-all}
+use Rattle.frame_lanes.specs.Lanes.{maskOf, lane, Masks, gateMasks}
+use Rattle.frame_lanes.specs.LaneLaws.{length-lane}
+use Rattle.frame_pass.specs.Lanes.{Blank, LanesPut, Lanes, CanPutInputs}
+use Rattle.frame_pass.proofs.LaneLaws.{masks-none, lane-none, lane-kept, put-all}
 
 -- ---- one gate
-
--- the masks of a gate in lanes block, block + 1, ..
-abbrev pub gateMasks : List ℤ → Gate → ℕ → ℕ → ℤ
-gateMasks masks gate block f = maskOf (bit (bitsIn (lane masks (block + f))) gate)
-
--- 32 lanes by their sums: these are the gate's bits
-pub block-put : {masks new sums ws : List ℤ} {ss : List ℕ} {count block from : ℕ} {t : ℤ} (fanins : List ℕ) (thresholds : List ℤ) (g : ℕ)
-    → LaneSums masks ss ws (16 * g) count block sums → count ≡ getD fanins g 0 → t ≡ getD thresholds g (pos 0)
-    → Pasted (pos 0) from 32 (λ f. maskOf (leZ t (getD sums f (pos 0)))) masks new
-    → Pasted (pos 0) from 32 (gateMasks masks (gateFrom fanins thresholds ss ws g) block) masks new
-unfolding bit gateFrom
-block-put {masks} {new} {sums} {ws} {ss} {count} {block} fanins thresholds g h e d p = pasted-as p refl λ f l.
-    ap maskOf (ap₂ leZ d (h .total f l ∙ ap (λ (n : ℕ). sum (bitsIn (lane masks (block + f))) (feedsFrom ss ws (16 * g) n)) e))
 
 module _ {old mid : List ℤ} (own : ℕ) (gate : Gate) (m : Masks old) (low : own < 256)
     (h : Pasted (pos 0) (64 * own + 0) 32 (gateMasks old gate 0) old mid) where

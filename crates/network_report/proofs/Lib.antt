@@ -1,3 +1,1 @@
-pub mod SetLaws
 pub mod CostLaws
-pub mod LevelLaws

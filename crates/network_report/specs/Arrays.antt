@@ -1,16 +1,10 @@
--- Internal: what the size report goes by on a record's arrays: the levels that an array holds, and the cost of a part. Nothing is proved
--- here.
+-- Internal: what the size report goes by on a record's arrays: the cost of a part. Nothing is proved here.
 use mathlib.Core.Path.{_≡_}
 use mathlib.Core.List.{List}
 use Prim.Native.Nat.{ℕ, _*_, _≤_}
 use lib.IntN.{ℤ}
-use lib.ListN.{getD}
 use Rattle.network.specs.Record.{feedsFrom, gateFrom}
 use Rattle.network_report.specs.Size.{weightsCost, gateCost}
-
--- the levels that an array holds: signal s has the level at place s, and 0 past the end
-abbrev pub levelsIn : List ℕ → ℕ → ℕ
-levelsIn a = λ s. getD a s 0
 
 -- r is the cost of the weights at count places from base on, whatever signals stand beside them
 pub record CostOfWeights (weights : List ℤ) (base count r : ℕ) : Type 0 where

@@ -13,9 +13,9 @@ use Rattle.basics.specs.TestLaws.{byte-below}
 use Rattle.network.specs.Threshold.{Assignment}
 use Rattle.frame_reading.specs.Evaluation.{bitsIn}
 use Rattle.frame_reading.proofs.OutputLaws.{WordFrom, word-none, word-next, word-fits, word-all}
-use Rattle.frame_pass.specs.Lanes.{lane}
-use Rattle.frame_pass.proofs.MaskLaws.{on-sign}
-use Rattle.frame_pass.proofs.LaneLaws.{lane-bit}
+use Rattle.frame_lanes.specs.Lanes.{lane}
+use Rattle.frame_lanes.specs.MaskLaws.{on-sign}
+use Rattle.frame_lanes.specs.LaneLaws.{lane-bit}
 use Rattle.frame_pass.proofs.unchecked.lane_word.Statement.{statement}
 use Rattle.frame_pass.proofs.unchecked.lane_word.Tie as tie
 

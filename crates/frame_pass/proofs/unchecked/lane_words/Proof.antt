@@ -9,7 +9,7 @@ use Rattle.network.specs.Threshold.{wordOf}
 use Rattle.network.specs.Places.{Pasted}
 use Rattle.network_places.specs.PasteLaws.{pasted-none, pasted-more}
 use Rattle.frame_reading.specs.Evaluation.{bitsIn}
-use Rattle.frame_pass.specs.Lanes.{lane}
+use Rattle.frame_lanes.specs.Lanes.{lane}
 use Rattle.frame_pass.proofs.LaneLaws.{words-all}
 use Rattle.frame_pass.proofs.unchecked.lane_words.Statement.{statement}
 use Rattle.frame_pass.proofs.unchecked.lane_words.Tie as tie

@@ -5,7 +5,7 @@ use borrow.Author.Needs.{needs}
 use Rattle.network.specs.Threshold.{Gate, bit}
 use Rattle.network.specs.Record.{gateFrom}
 use Rattle.frame_reading.specs.Evaluation.{bitsIn}
-use Rattle.frame_pass.specs.Lanes.{lane}
+use Rattle.frame_lanes.specs.Lanes.{lane}
 use Rattle.frame_pass.proofs.LaneLaws.{masks-put}
 use Rattle.frame_pass.proofs.SignalLaneLaws.{gate-narrow, gate-wide}
 use Rattle.frame_pass.proofs.unchecked.put_gate.Statement.{statement}

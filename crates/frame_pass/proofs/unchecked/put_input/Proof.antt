@@ -10,7 +10,7 @@ use Rattle.basics.specs.SizeLaws.{read-back}
 use Rattle.network.specs.Threshold.{frame}
 use Rattle.network.specs.Places.{Pasted}
 use Rattle.network_places.specs.PasteLaws.{pasted-none, pasted-more}
-use Rattle.frame_pass.specs.Lanes.{maskOf}
+use Rattle.frame_lanes.specs.Lanes.{maskOf}
 use Rattle.frame_pass.proofs.LaneLaws.{put-all}
 use Rattle.frame_pass.proofs.unchecked.put_input.Statement.{statement}
 use Rattle.frame_pass.proofs.unchecked.put_input.Tie as tie

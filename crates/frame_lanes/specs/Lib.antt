@@ -1,0 +1,3 @@
+pub mod Lanes
+pub mod MaskLaws
+pub mod LaneLaws
