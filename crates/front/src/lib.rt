@@ -32,8 +32,9 @@ ghost use Rattle.scorer.specs.Answers.{scoring};
 ghost use Rattle.three_feeds.specs.Rule.{EntryRule};
 ghost use Rattle.three_feeds.specs.Table.{tableEntry};
 ghost use Rattle.three_feeds_part.specs.Parts.{maskPart, partBytesAfter};
-ghost use Rattle.front.specs.Front.{openedFile, writingOn, asWritten, readingOn, framesOn, reportOn, pairOn, previewOn, WitnessOn, feedsOn};
-ghost use Rattle.front.specs.Front.{lineOn, asLineWritten};
+ghost use Rattle.journal_calls.specs.Answers.{writingOn, asWritten, readingOn, framesOn, reportOn, lineOn, asLineWritten};
+ghost use Rattle.journal_calls.specs.Answers.{pairOn, previewOn, WitnessOn, feedsOn};
+ghost use Rattle.front.specs.Front.{openedFile};
 
 // What `read` answers: 0 or the refusal, and the record; that of the blank network on refusal.
 pub struct Opened {
@@ -59,14 +60,7 @@ pub fn write(held: Record, out: &mut [u8]) -> Written
     ensures { λ r. ⌜ r ≡ asWritten (writingOn held (length (now (out .entry)))) ⌝ }
     ensures { λ _. ⌜ now (out .exit) ≡ stored (writingOn held (length (now (out .entry)))) (now (out .entry)) ⌝ }
 {
-    let count = held.journal.count;
-    if 64 < count {
-        return Written {
-            code: 20,
-            length: 0,
-        };
-    }
-    pmn_writer::write(held.network, out)
+    journal_calls::write(held, out)
 }
 
 // The bytes of the gate with a signal in a file; none where the file or the signal is refused.
@@ -104,15 +98,7 @@ pub fn is_sound(held: Record) -> bool
 pub fn read_frame(held: Record, frame: u64) -> Reading
     ensures { λ r. ⌜ r ≡ readingOn held frame ⌝ }
 {
-    let count = held.journal.count;
-    if 64 < count {
-        return Reading {
-            code: 20,
-            bits: 0,
-            ones: 0,
-        };
-    }
-    frame_reading::read_frame(held.network, frame)
+    journal_calls::read_frame(held, frame)
 }
 
 // The output bits on each of up to 64 frames, in one pass: those on frame i go into place i of the answers. Refusals: 20, 26, 10.
@@ -120,27 +106,14 @@ pub fn read_frames(held: Record, frames: &[u64], answers: &mut [u64]) -> u8
     ensures { λ r. ⌜ r ≡ codeOf (framesOn held (now (frames .entry)) (now (answers .entry))) ⌝ }
     ensures { λ _. ⌜ now (answers .exit) ≡ stored (framesOn held (now (frames .entry)) (now (answers .entry))) (now (answers .entry)) ⌝ }
 {
-    let count = held.journal.count;
-    if 64 < count {
-        return 20;
-    }
-    frame_batch::read_frames(held.network, frames, answers)
+    journal_calls::read_frames(held, frames, answers)
 }
 
 // Gates, cost and levels. Refusals: 20.
 pub fn report(held: Record) -> SizeReport
     ensures { λ r. ⌜ r ≡ reportOn held ⌝ }
 {
-    let count = held.journal.count;
-    if 64 < count {
-        return SizeReport {
-            code: 20,
-            gates: 0,
-            cost: 0,
-            levels: 0,
-        };
-    }
-    network_report::report(held.network)
+    journal_calls::report(held)
 }
 
 // Line n of the question of two records is put at the front of the lent bytes; the answer is its length. Refusals: 20 for either, 19, 21, 18.
@@ -148,21 +121,7 @@ pub fn line(first: Record, second: Record, n: usize, out: &mut [u8]) -> LineWrit
     ensures { λ r. ⌜ r ≡ asLineWritten (lineOn first second n (length (now (out .entry)))) ⌝ }
     ensures { λ _. ⌜ now (out .exit) ≡ stored (lineOn first second n (length (now (out .entry)))) (now (out .entry)) ⌝ }
 {
-    let one = first.journal.count;
-    if 64 < one {
-        return LineWritten {
-            code: 20,
-            length: 0,
-        };
-    }
-    let other = second.journal.count;
-    if 64 < other {
-        return LineWritten {
-            code: 20,
-            length: 0,
-        };
-    }
-    question_text::line(first.network, second.network, n, out)
+    journal_calls::line(first, second, n, out)
 }
 
 // ---- what folding would do
@@ -171,56 +130,28 @@ pub fn line(first: Record, second: Record, n: usize, out: &mut [u8]) -> LineWrit
 pub fn pair(held: Record, u: usize, v: usize) -> PairFound
     ensures { λ r. ⌜ r ≡ pairOn held u v ⌝ }
 {
-    let count = held.journal.count;
-    if 64 < count {
-        return PairFound {
-            code: 20,
-            k: 0,
-            l: 0,
-        };
-    }
-    fold_pair::pair(held.network, u, v)
+    journal_calls::pair(held, u, v)
 }
 
 // Gates, cost and levels that a collapse of the gate with signal s would leave; the record is not changed. Refusals: those of the collapse.
 pub fn preview(held: Record, s: usize) -> SizeReport
     ensures { λ r. ⌜ r ≡ previewOn held s ⌝ }
 {
-    let count = held.journal.count;
-    if 64 < count {
-        return SizeReport {
-            code: 20,
-            gates: 0,
-            cost: 0,
-            levels: 0,
-        };
-    }
-    fold_preview::preview(held.network, s)
+    journal_calls::preview(held, s)
 }
 
 // The merge's own number; where it is 15, a setting of the distinct feeds that shows why, with as few lit as any. The record is not changed.
 pub fn witness(held: Record, u: usize, v: usize, k: usize, l: usize) -> Witnessed
     ensures { λ r. ⌜ WitnessOn held u v k l r ⌝ }
 {
-    let count = held.journal.count;
-    if 64 < count {
-        return Witnessed {
-            code: 20,
-            setting: 0,
-        };
-    }
-    fold_witness::witness(held.network, u, v, k, l)
+    journal_calls::witness(held, u, v, k, l)
 }
 
 // The distinct feeds of u and v, rising, of which a setting speaks. Refusals: 20, 11, 12, 7.
 pub fn distinct_feeds(held: Record, u: usize, v: usize) -> DistinctFeeds
     ensures { λ r. ⌜ r ≡ feedsOn held u v ⌝ }
 {
-    let count = held.journal.count;
-    if 64 < count {
-        return fold_feeds::unchecked::no_feeds(20);
-    }
-    fold_feeds::distinct_feeds(held.network, u, v)
+    journal_calls::distinct_feeds(held, u, v)
 }
 
 // ---- what changes a record

@@ -9,9 +9,9 @@ use Rattle.fold_theory.specs.Merge.{edge, distinct, agreesAt}
 use Rattle.fold_witness.specs.Witness.{Shows}
 use Rattle.fold_witness.specs.declared.Witnessed.{Witnessed}
 use Rattle.journal.specs.declared.Record.{Record}
-use Rattle.front.specs.FrontLaws.{merge-number, broken-number}
-use Rattle.front.proofs.witness.Statement.{statement}
-use Rattle.front.proofs.witness.Tie as tie
+use Rattle.journal_calls.specs.AnswerLaws.{merge-number, broken-number}
+use Rattle.journal_calls.proofs.witness.Statement.{statement}
+use Rattle.journal_calls.proofs.witness.Tie as tie
 
 -- the promise, by the merge's number
 abbrev With : Record → ℕ → ℕ → ℕ → ℕ → Witnessed → ℕ → Type 0

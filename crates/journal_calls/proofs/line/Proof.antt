@@ -7,10 +7,10 @@ use lib.ListN.{length}
 use Rattle.basics.specs.Refusals.{Answer, stored}
 use Rattle.journal.specs.Records.{tested}
 use Rattle.question_text.specs.Answers.{lineAnswer, asLineWritten}
-use Rattle.front.specs.Front.{lineOn}
-use Rattle.front.specs.FrontLaws.{tested-many, tested-few}
-use Rattle.front.proofs.line.Statement.{statement}
-use Rattle.front.proofs.line.Tie as tie
+use Rattle.journal_calls.specs.Answers.{lineOn}
+use Rattle.journal_calls.specs.AnswerLaws.{tested-many, tested-few}
+use Rattle.journal_calls.proofs.line.Statement.{statement}
+use Rattle.journal_calls.proofs.line.Tie as tie
 
 returns : tie.Need-returns
 unfolding lineOn asLineWritten stored

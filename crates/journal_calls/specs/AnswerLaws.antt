@@ -10,7 +10,7 @@ use Rattle.fold_theory.specs.Merge.{merge}
 use Rattle.journal.specs.Records.{tested}
 use Rattle.journal.specs.declared.Record.{Record}
 use Rattle.fold_merge.specs.Answers.{onRecord, mergeCode}
-use Rattle.front.specs.Front.{mergeNumber}
+use Rattle.journal_calls.specs.Answers.{mergeNumber}
 
 module _ {A : Type 0} (r : Record) (a : Answer A) where
   -- a journal that claims more than 64 steps

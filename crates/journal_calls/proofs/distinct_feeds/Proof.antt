@@ -3,10 +3,10 @@ use borrow.Author.Needs.{needs}
 use mathlib.Core.Path.{sym, ap, _∙_}
 use Rattle.fold_merge.specs.Answers.{onRecord}
 use Rattle.fold_feeds.specs.Feeds.{feeds, asFeeds, distinctFeeds}
-use Rattle.front.specs.Front.{feedsOn}
-use Rattle.front.specs.FrontLaws.{tested-many, tested-few}
-use Rattle.front.proofs.distinct_feeds.Statement.{statement}
-use Rattle.front.proofs.distinct_feeds.Tie as tie
+use Rattle.journal_calls.specs.Answers.{feedsOn}
+use Rattle.journal_calls.specs.AnswerLaws.{tested-many, tested-few}
+use Rattle.journal_calls.proofs.distinct_feeds.Statement.{statement}
+use Rattle.journal_calls.proofs.distinct_feeds.Tie as tie
 
 returns : tie.Need-returns
 unfolding feedsOn

@@ -5,10 +5,10 @@ use mathlib.Core.List.{List}
 use Prim.Native.Nat.{ℕ}
 use Rattle.basics.specs.Refusals.{Answer, codeOf, stored}
 use Rattle.frame_batch.specs.Frames.{framesAnswer}
-use Rattle.front.specs.Front.{framesOn}
-use Rattle.front.specs.FrontLaws.{tested-many, tested-few}
-use Rattle.front.proofs.read_frames.Statement.{statement}
-use Rattle.front.proofs.read_frames.Tie as tie
+use Rattle.journal_calls.specs.Answers.{framesOn}
+use Rattle.journal_calls.specs.AnswerLaws.{tested-many, tested-few}
+use Rattle.journal_calls.proofs.read_frames.Statement.{statement}
+use Rattle.journal_calls.proofs.read_frames.Tie as tie
 
 returns : tie.Need-returns
 unfolding framesOn codeOf stored

@@ -4,10 +4,10 @@ use mathlib.Core.Path.{sym, ap, _∙_}
 use Rattle.fold_theory.specs.Pair.{pair}
 use Rattle.fold_merge.specs.Answers.{onRecord}
 use Rattle.fold_pair.specs.Answers.{asPair, pairFound}
-use Rattle.front.specs.Front.{pairOn}
-use Rattle.front.specs.FrontLaws.{tested-many, tested-few}
-use Rattle.front.proofs.pair.Statement.{statement}
-use Rattle.front.proofs.pair.Tie as tie
+use Rattle.journal_calls.specs.Answers.{pairOn}
+use Rattle.journal_calls.specs.AnswerLaws.{tested-many, tested-few}
+use Rattle.journal_calls.proofs.pair.Statement.{statement}
+use Rattle.journal_calls.proofs.pair.Tie as tie
 
 returns : tie.Need-returns
 unfolding pairOn pairFound asPair

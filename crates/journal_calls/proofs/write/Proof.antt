@@ -6,10 +6,10 @@ use Prim.Native.Nat.{ℕ}
 use lib.ListN.{length}
 use Rattle.basics.specs.Refusals.{Answer, stored}
 use Rattle.pmn_writer.specs.Answers.{writeAnswer, asWritten, written, bytesAfter}
-use Rattle.front.specs.Front.{writingOn}
-use Rattle.front.specs.FrontLaws.{tested-many, tested-few}
-use Rattle.front.proofs.write.Statement.{statement}
-use Rattle.front.proofs.write.Tie as tie
+use Rattle.journal_calls.specs.Answers.{writingOn}
+use Rattle.journal_calls.specs.AnswerLaws.{tested-many, tested-few}
+use Rattle.journal_calls.proofs.write.Statement.{statement}
+use Rattle.journal_calls.proofs.write.Tie as tie
 
 returns : tie.Need-returns
 unfolding writingOn asWritten stored

@@ -5,10 +5,10 @@ use Rattle.network_report.specs.Size.{reportOf}
 use Rattle.fold_theory.specs.Collapse.{collapse}
 use Rattle.fold_merge.specs.Answers.{onRecord}
 use Rattle.fold_preview.specs.Preview.{previewed}
-use Rattle.front.specs.Front.{previewOn}
-use Rattle.front.specs.FrontLaws.{tested-many, tested-few}
-use Rattle.front.proofs.preview.Statement.{statement}
-use Rattle.front.proofs.preview.Tie as tie
+use Rattle.journal_calls.specs.Answers.{previewOn}
+use Rattle.journal_calls.specs.AnswerLaws.{tested-many, tested-few}
+use Rattle.journal_calls.proofs.preview.Statement.{statement}
+use Rattle.journal_calls.proofs.preview.Tie as tie
 
 returns : tie.Need-returns
 unfolding previewOn previewed reportOf

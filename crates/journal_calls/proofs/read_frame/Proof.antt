@@ -2,10 +2,10 @@
 use borrow.Author.Needs.{needs}
 use mathlib.Core.Path.{sym, ap, _∙_}
 use Rattle.frame_reading.specs.Reading.{frameAnswer, asReading, reading}
-use Rattle.front.specs.Front.{readingOn}
-use Rattle.front.specs.FrontLaws.{tested-many, tested-few}
-use Rattle.front.proofs.read_frame.Statement.{statement}
-use Rattle.front.proofs.read_frame.Tie as tie
+use Rattle.journal_calls.specs.Answers.{readingOn}
+use Rattle.journal_calls.specs.AnswerLaws.{tested-many, tested-few}
+use Rattle.journal_calls.proofs.read_frame.Statement.{statement}
+use Rattle.journal_calls.proofs.read_frame.Tie as tie
 
 returns : tie.Need-returns
 unfolding readingOn reading asReading

@@ -4,10 +4,10 @@ use mathlib.Core.Path.{sym, ap, _∙_}
 use Rattle.basics.specs.Refusals.{accepted}
 use Rattle.network_report.specs.Size.{reportOf, reported}
 use Rattle.fold_merge.specs.Answers.{onRecord}
-use Rattle.front.specs.Front.{reportOn}
-use Rattle.front.specs.FrontLaws.{tested-many, tested-few}
-use Rattle.front.proofs.report.Statement.{statement}
-use Rattle.front.proofs.report.Tie as tie
+use Rattle.journal_calls.specs.Answers.{reportOn}
+use Rattle.journal_calls.specs.AnswerLaws.{tested-many, tested-few}
+use Rattle.journal_calls.proofs.report.Statement.{statement}
+use Rattle.journal_calls.proofs.report.Tie as tie
 
 returns : tie.Need-returns
 unfolding reportOn reported reportOf onRecord
