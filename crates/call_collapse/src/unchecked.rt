@@ -5,7 +5,7 @@ use fold_collapse::unchecked::collapse_by_pairs;
 use fold_reader_pairs::Pairs;
 use fold_reader_pairs::unchecked::collapse_pairs;
 use journal::CallLeft;
-use journal::call_left;
+use journal::unchecked::call_left;
 use network_places::Head;
 ghost use mathlib.Core.Path.{_≡_};
 ghost use Prim.Native.Nat.{_-_};

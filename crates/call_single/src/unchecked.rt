@@ -3,7 +3,7 @@
 use fold_drop::unchecked::drop_code;
 use fold_merge::unchecked::merges::merged_at;
 use journal::CallLeft;
-use journal::call_left;
+use journal::unchecked::call_left;
 use journal_entry::unchecked::one_more;
 use journal_gate::unchecked::enter_gate;
 use network_places::Head;

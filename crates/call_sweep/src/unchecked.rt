@@ -3,7 +3,7 @@
 use call_collapse::unchecked::collapse_entered;
 use fold_sweep::unchecked::lowest_collapsible;
 use journal::CallLeft;
-use journal::call_left;
+use journal::unchecked::call_left;
 use network_places::Head;
 use network_places::unchecked::with_gates;
 ghost use mathlib.Core.Path.{_≡_};

@@ -1,8 +1,8 @@
 // One step of a sound record taken back.
 use call_restoring::unchecked::restored;
-use call_theory::Figures;
 use journal::CallLeft;
 use journal::Journal;
+use journal::unchecked::call_left;
 use journal_newest::unchecked::without_newest;
 use network::Network;
 use network_places::Head;
@@ -10,23 +10,6 @@ ghost use mathlib.Core.Path.{_≡_};
 ghost use Rattle.call_theory.specs.declared.Call.the-variants.{Undo};
 ghost use Rattle.journal.specs.Answers.{applied};
 ghost use Rattle.journal.specs.Parts.{recordParts, answerParts, SoundParts};
-
-// What an undo leaves: its code, and the numbers of gates and of steps.
-fn left(code: u8, gates: usize, count: usize) -> CallLeft
-    ensures { λ r. ⌜ r ≡ record { code = code; gates = gates; count = count; figures = record { first = 0; second = 0; third = 0 } } ⌝ }
-{
-    let figures = Figures {
-        first: 0,
-        second: 0,
-        third: 0,
-    };
-    CallLeft {
-        code,
-        gates,
-        count,
-        figures,
-    }
-}
 
 // The latest step taken back, in the arrays of a sound record, which are lent. Refusals: 22 empty journal, 23 a step that would leave an unsound
 // network.
@@ -55,7 +38,7 @@ pub fn undo_in(
         (now (feeds .entry)) (now («step_weights» .entry))) Undo ⌝ }
 {
     if count == 0 {
-        return left(22, head.gates, count);
+        return call_left(22, head.gates, count, 0);
     }
     let board = head.board;
     let network = Network {
@@ -81,7 +64,7 @@ pub fn undo_in(
     let back = restored(network, journal);
     let ok = back.ok;
     if !ok {
-        return left(23, head.gates, count);
+        return call_left(23, head.gates, count, 0);
     }
     let before = back.network;
     let old_fanins = before.fanins;
@@ -107,5 +90,5 @@ pub fn undo_in(
     *feeds = later_feeds;
     let later_weights = later.weights;
     *step_weights = later_weights;
-    left(0, before.gates, later.count)
+    call_left(0, before.gates, later.count, 0)
 }

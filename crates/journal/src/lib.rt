@@ -1,9 +1,10 @@
 // The record: a network with the journal of its last 64 accepted steps, by value; and what a call of a list on it answers.
+pub mod unchecked;
+
 use call_theory::Figures;
 use network::Network;
 ghost use mathlib.Core.Path.{_≡_};
 ghost use Rattle.journal.specs.Journals.{emptyJournal};
-ghost use Rattle.journal.specs.Parts.{leaving};
 ghost use Rattle.journal.specs.Records.{justRead, soundWhole};
 
 // A journal: the number of steps, and for each of 64 places its kind (0 a merge, else a drop), its signal, and the gate that stood there: feed
@@ -91,23 +92,6 @@ pub fn refusal(code: u8, held: Record) -> CallAnswer
     CallAnswer {
         code,
         after: held,
-        figures,
-    }
-}
-
-// What a call leaves: its code, the numbers of gates and of steps, and the number of collapses of a sweep.
-pub fn call_left(code: u8, gates: usize, count: usize, collapses: usize) -> CallLeft
-    ensures { λ r. ⌜ r ≡ leaving code gates count collapses ⌝ }
-{
-    let figures = Figures {
-        first: collapses as u64,
-        second: 0,
-        third: 0,
-    };
-    CallLeft {
-        code,
-        gates,
-        count,
         figures,
     }
 }

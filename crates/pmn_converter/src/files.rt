@@ -1,8 +1,8 @@
 // Converting a whole file, with a place for the length of the new one.
 use pmn_files::unchecked::put_file;
 use pmn_opening::unchecked::refusal;
-use pmn_versions::in_other_version;
-use pmn_versions::is_convertible;
+use pmn_versions::unchecked::in_other_version;
+use pmn_versions::unchecked::is_convertible;
 ghost use mathlib.Core.Path.{_≡_};
 ghost use lib.ListN.{length};
 ghost use Rattle.basics.specs.Refusals.{codeOf, stored};

@@ -1,8 +1,8 @@
 // Converting a record. The function asks for what its caller has tested.
 use crate::Converted;
 use network::Network;
-use pmn_versions::in_other_version;
-use pmn_versions::is_convertible;
+use pmn_versions::unchecked::in_other_version;
+use pmn_versions::unchecked::is_convertible;
 use pmn_writer::unchecked::write_sound;
 ghost use mathlib.Core.Path.{_≡_};
 ghost use mathlib.Core.Bool.{true};

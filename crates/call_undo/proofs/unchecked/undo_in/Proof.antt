@@ -26,7 +26,7 @@ returns : tie.Need-returns
 unfolding noFigures
 returns c =
     let s = c .before .before in
-    refused-parts (s .args .head) (c .left .ensures) ∙ sym (undone-empty (held s) (s .pre .whole) (c .before .if1 .taken))
+    refused-parts (s .args .head) (c .call-left .ensures) ∙ sym (undone-empty (held s) (s .pre .whole) (c .before .if1 .taken))
 
 -- past the first test, from where the arrays are copied
 abbrev at-else : tie.After-t43 → tie.Else1
@@ -44,7 +44,7 @@ returns-2 c =
     let else = at-else (at-restored .before) in
     let s = else .before in
     let stuck = sym (back-ok (held s .network) _) ∙ sym (ap (λ (b : Back). b .ok) (at-restored .restored .ensures)) ∙ not-true _ (c .before .if2 .taken) in
-    refused-parts (s .args .head) (c .left2 .ensures) ∙ sym (undone-stuck (held s) (s .pre .whole) (omega (arith, else .if1 .left)) stuck)
+    refused-parts (s .args .head) (c .call-left2 .ensures) ∙ sym (undone-stuck (held s) (s .pre .whole) (omega (arith, else .if1 .left)) stuck)
 
 returns-3 : tie.Need-returns-3
 unfolding noFigures
@@ -60,7 +60,7 @@ returns-3 c =
     let back = at-restored .restored .ensures in
     let can = sym (back-ok (held s .network) _) ∙ sym (ap (λ (b : Back). b .ok) back) ∙ not-false _ (at-else2 .if2 .left) in
     let network = back-parts (a .head) _ _ _ _ _ (stepAt (held s .journal) 0) _ (ap (λ (b : Back). b .network) back ∙ back-network (held s .network) _ can) in
-    answered-parts (a .head) (c .left3 .ensures) network (at-newest .without-newest .ensures)
+    answered-parts (a .head) (c .call-left3 .ensures) network (at-newest .without-newest .ensures)
     ∙ sym (undone-back (held s) (s .pre .whole) (omega (arith, else .if1 .left)) can)
 
 pub undo-in-spec : {M : Type 1} → statement M

@@ -1,8 +1,8 @@
 -- The board is the other one, and nothing else changes.
 use borrow.Author.Needs.{needs}
 use Rattle.pmn_versions.specs.OtherRecord.{otherRecord}
-use Rattle.pmn_versions.proofs.in_other_version.Statement.{statement}
-use Rattle.pmn_versions.proofs.in_other_version.Tie as tie
+use Rattle.pmn_versions.proofs.unchecked.in_other_version.Statement.{statement}
+use Rattle.pmn_versions.proofs.unchecked.in_other_version.Tie as tie
 
 returns : tie.Need-returns
 unfolding otherRecord

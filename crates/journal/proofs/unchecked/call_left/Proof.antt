@@ -1,7 +1,7 @@
 -- The numbers as they are given. Assumes nothing.
 use mathlib.Core.Path.{refl}
-use Rattle.journal.proofs.call_left.Statement.{statement}
-use Rattle.journal.proofs.call_left.Tie as tie
+use Rattle.journal.proofs.unchecked.call_left.Statement.{statement}
+use Rattle.journal.proofs.unchecked.call_left.Tie as tie
 
 returns : tie.Need-returns
 returns c = refl

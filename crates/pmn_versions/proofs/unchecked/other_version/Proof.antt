@@ -4,8 +4,8 @@ use mathlib.Core.Path.{sym, ap}
 use mathlib.Core.Bool.{Bool, cond}
 use Rattle.network.specs.declared.Board.{Board}
 use Rattle.pmn_versions.specs.Versions.{otherVersion}
-use Rattle.pmn_versions.proofs.other_version.Statement.{statement}
-use Rattle.pmn_versions.proofs.other_version.Tie as tie
+use Rattle.pmn_versions.proofs.unchecked.other_version.Statement.{statement}
+use Rattle.pmn_versions.proofs.unchecked.other_version.Tie as tie
 
 -- by what the test says
 abbrev made : Board → Bool → Board
