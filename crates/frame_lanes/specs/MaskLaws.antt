@@ -19,11 +19,6 @@ pub on-mask : (b : Bool) → isOn (maskOf b) ≡ b
 on-mask true = refl
 on-mask false = refl
 
--- a mask fits 32 bits
-pub mask-fits : (b : Bool) → SFits w32 (maskOf b)
-mask-fits true = record { sfits = omega arith }
-mask-fits false = record { sfits = omega arith }
-
 -- the sign is the bit
 pub on-sign : (m : ℤ) → ltZ m (pos 0) ≡ isOn m
 on-sign (pos n) = is-false (ltb n 0) (not-below n 0 (omega arith))
