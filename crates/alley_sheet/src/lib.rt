@@ -5,6 +5,9 @@ use alley_line::unchecked::put_total;
 use alley_theory::LineWritten;
 use alley_theory::Listed;
 use alley_theory::Totals;
+use alley_totals::unchecked::is_sound;
+use alley_totals::unchecked::none_listed;
+use alley_totals::unchecked::write_lane;
 ghost use mathlib.Core.Path.{_≡_};
 ghost use mathlib.Core.List.{List};
 ghost use Prim.Native.Nat.{ℕ};
@@ -33,19 +36,19 @@ pub fn list_lane(bytes: &[u8], last: bool, totals: Totals, out: &mut [u8]) -> Li
     ensures { λ r. ⌜ r ≡ asListed totals (listing totals last (now (bytes .entry)) (length (now (out .entry)))) ⌝ }
     ensures { λ _. ⌜ now (out .exit) ≡ stored (textOf (listing totals last (now (bytes .entry)) (length (now (out .entry))))) (now (out .entry)) ⌝ }
 {
-    if !unchecked::is_sound(totals) {
-        return unchecked::none_listed(20, totals);
+    if !is_sound(totals) {
+        return none_listed(20, totals);
     }
     if 65535 <= totals.lanes {
-        return unchecked::none_listed(0, totals);
+        return none_listed(0, totals);
     }
     let found = find_lane(bytes, last);
     let taken = found.taken;
     if taken == 0 {
-        return unchecked::none_listed(0, totals);
+        return none_listed(0, totals);
     }
     let entry = lane_entry(bytes, found);
-    unchecked::write_lane(taken, entry, totals, out)
+    write_lane(taken, entry, totals, out)
 }
 
 // Writes the last line, `total` and both sums, at the front of the lent bytes. Refusal: 18 where it is longer than the lent bytes.
@@ -79,5 +82,3 @@ pub fn total_of_lines()
 pub fn lane_by_lane()
     ensures { λ _. ⌜ LaneByLane ⌝ }
 {}
-
-mod unchecked;

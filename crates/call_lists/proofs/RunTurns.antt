@@ -17,9 +17,9 @@ use Rattle.journal.specs.declared.Record.{Record}
 use Rattle.call_numbers.specs.Numbers.{wellFormed, callsIn, fourOf}
 use Rattle.call_numbers.specs.CallPlaces.{callAt}
 use Rattle.call_numbers.specs.NumberLaws.{count-calls}
-use Rattle.call_lists.specs.Runs.{answersOf}
-use Rattle.call_lists.specs.Running.{FromRead, Stepped}
-use Rattle.call_lists.specs.RunLaws.{just-came, just-state, next-came, next-calls, next-answers, store-more}
+use Rattle.call_runs.specs.Runs.{answersOf}
+use Rattle.call_runs.specs.Running.{FromRead, Stepped}
+use Rattle.call_runs.specs.RunLaws.{just-came, just-state, next-came, next-calls, next-answers, store-more}
 
 -- r is the record before call i of a list that began at the state q
 pub record Reached (q : State) (ns : List ℕ) (i : ℕ) (r : Record) : Type 0 where

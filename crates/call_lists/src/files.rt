@@ -6,7 +6,7 @@ use pmn_files::unchecked::put_file;
 use pmn_opening::unchecked::refusal;
 ghost use mathlib.Core.Path.{_≡_};
 ghost use Rattle.basics.specs.Refusals.{codeOf, stored};
-ghost use Rattle.call_lists.specs.Files.{runAnswer, ranFile, ranNumbers};
+ghost use Rattle.call_runs.specs.Files.{runAnswer, ranFile, ranNumbers};
 
 // The list is run on the network of a file: each call's code and three numbers go into the answers from place 1 on, the file of the network
 // after the list into `out`, and its length into place 0 of the answers. Refusals: as read, 14 for a list that is not well formed, 18 for too

@@ -21,8 +21,8 @@ ghost use Rattle.journal.specs.Records.{stateOf};
 ghost use Rattle.journal.specs.Parts.{recordParts, answerParts};
 ghost use Rattle.call_numbers.specs.Numbers.{wellFormed, callsIn};
 ghost use Rattle.call_numbers.specs.CallPlaces.{callAt};
-ghost use Rattle.call_lists.specs.Runs.{answersOf, netAfter};
-ghost use Rattle.call_lists.specs.Running.{FromRead, Stepped};
+ghost use Rattle.call_runs.specs.Runs.{answersOf, netAfter};
+ghost use Rattle.call_runs.specs.Running.{FromRead, Stepped};
 
 // Call i, in the arrays of the record of a state that a read and calls lead to.
 fn step_in(

@@ -12,8 +12,8 @@ ghost use Rattle.fold_preview.specs.Files.{previewPlaces};
 ghost use Rattle.fold_witness.specs.Files.{WitnessLeft};
 ghost use Rattle.fold_feeds.specs.Files.{distinctPlaces};
 ghost use Rattle.cut_files.specs.Answers.{cutPlaces};
-ghost use Rattle.question_text.specs.Files.{lineOut};
-ghost use Rattle.call_lists.specs.Files.{runAnswer, ranFile, ranNumbers};
+ghost use Rattle.question_files.specs.Files.{lineOut};
+ghost use Rattle.call_runs.specs.Files.{runAnswer, ranFile, ranNumbers};
 ghost use Rattle.scorer.specs.Answers.{scorePlaces};
 ghost use Rattle.three_feeds_places.specs.Places.{entryPlaces};
 
@@ -159,7 +159,7 @@ pub extern "C" fn pmn_line(
     ensures { λ _. ⌜ now (answer .exit)
         ≡ stored (lengthOf (lineOut (now (first .entry)) (now (second .entry)) n (now (out .entry)) (now (answer .entry)))) (now (answer .entry)) ⌝ }
 {
-    question_text::files::line_of_files(first, second, n, out, answer)
+    question_files::line_of_files(first, second, n, out, answer)
 }
 
 // The list of calls is run: each call's code and three numbers go into the answers from place 1 on, the file of the network after the list

@@ -1,7 +1,7 @@
 // The marked gates copied with their new signals.
 use basics::wide;
-use cut_marking::Marks;
-use cut_marking::unchecked::is_marked;
+use cut_marks::Marks;
+use cut_marks::unchecked::is_marked;
 use cut_signals::unchecked::new_signals;
 use cut_signals::unchecked::renamed_row;
 use network::Network;
@@ -12,7 +12,7 @@ ghost use lib.ListN.{take};
 ghost use Rattle.network.specs.Record.{netOf, layout};
 ghost use Rattle.network.specs.Places.{SoundGate};
 ghost use Rattle.cut_theory.specs.Cut.{cutBy};
-ghost use Rattle.cut_marking.specs.Marking.{marksOf};
+ghost use Rattle.cut_marks.specs.Marks.{marksOf};
 
 // The marked gates of a sound record, in their order with new signals, and one output, which names the gate with signal d.
 pub fn marked_gates(network: Network, marks: Marks, d: u8) -> Network

@@ -2,20 +2,12 @@
 -- goes to its feeds, and from each feed to the gate behind it". Gates go by their numbers here, and a mark is a bit for each gate.
 -- Nothing is proved here.
 use mathlib.Core.Path.{_≡_}
-use mathlib.Core.Bool.{Bool, true, false, cond}
+use mathlib.Core.Bool.{Bool, true, false}
 use mathlib.Core.List.{List}
 use mathlib.Core.Logic.{_⊎_, _↔_}
-use Prim.Native.Nat.{ℕ, _+_, _*_, _-_, _≤_, _<_}
-use lib.Dec.{ltb}
+use Prim.Native.Nat.{ℕ, _+_, _*_, _≤_, _<_}
 use lib.ListN.{getD}
-use Rattle.basics.specs.Lists.{tab}
-use Rattle.network.specs.Threshold.{frame}
 use Rattle.cut_theory.specs.Cut.{Reached}
-use Rattle.cut_marking.specs.declared.Marks.{Marks}
-
--- a mark for each of 128 gates, by the bits of two words
-unfoldable pub marksOf : Marks → List Bool
-marksOf m = tab 128 (λ g. cond (ltb g 64) (frame (m .low) g) (frame (m .high) (g - 64)))
 
 -- gate g is marked
 abbrev pub IsMarked : List Bool → ℕ → Type 0

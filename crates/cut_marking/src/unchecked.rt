@@ -1,41 +1,14 @@
 // From a gate one goes to its feeds, and from each feed to the gate behind it. The marks go by value, one for each gate, and the
 // record's arrays are lent. A gate that is marked is not gone into again, and a gate's highest feed is tried first, so that at most
 // about two calls for each gate are under way at a time.
-use crate::Marks;
 use basics::wide;
-ghost use mathlib.Core.Path.{_≡_};
-ghost use mathlib.Core.Bool.{true, false};
+use cut_marks::Marks;
+use cut_marks::unchecked::is_marked;
+use cut_marks::unchecked::with_mark;
 ghost use Prim.Native.Nat.{_+_, _≤_, _<_};
-ghost use lib.ListN.{getD, set};
-ghost use Rattle.cut_marking.specs.Marking.{marksOf, Wired, Closed, GateMarked, FeedsMarked, Needed};
-
-// Whether gate g is marked.
-pub fn is_marked(marks: Marks, g: usize) -> bool
-    requires { ⌜ g < 128 ⌝ }
-    ensures { λ r. ⌜ r ≡ getD (marksOf marks) g false ⌝ }
-{
-    if g < 64 {
-        return (marks.low >> g) % 2 == 1;
-    }
-    (marks.high >> (g - 64)) % 2 == 1
-}
-
-// The marks with that of gate g.
-fn with_mark(marks: Marks, g: usize) -> Marks
-    requires { ⌜ g < 128 ⌝ }
-    ensures { λ r. ⌜ marksOf r ≡ set (marksOf marks) g true ⌝ }
-{
-    if g < 64 {
-        return Marks {
-            low: marks.low | (1u64 << g),
-            high: marks.high,
-        };
-    }
-    Marks {
-        low: marks.low,
-        high: marks.high | (1u64 << (g - 64)),
-    }
-}
+ghost use lib.ListN.{getD};
+ghost use Rattle.cut_marks.specs.Marks.{marksOf};
+ghost use Rattle.cut_marking.specs.Marking.{Wired, Closed, GateMarked, FeedsMarked, Needed};
 
 // The marks with gate g and every gate that it needs.
 pub fn mark_gate<'a>(

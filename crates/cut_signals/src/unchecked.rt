@@ -1,12 +1,12 @@
 // The new signals of those that stay, and a row of signals with them.
 use basics::wide;
-use cut_marking::Marks;
-use cut_marking::unchecked::is_marked;
+use cut_marks::Marks;
+use cut_marks::unchecked::is_marked;
 ghost use mathlib.Core.Path.{_≡_};
 ghost use mathlib.Core.List.{map};
 ghost use Prim.Native.Nat.{_+_, _≤_, _<_};
 ghost use lib.ListN.{getD};
-ghost use Rattle.cut_marking.specs.Marking.{marksOf};
+ghost use Rattle.cut_marks.specs.Marks.{marksOf};
 ghost use Rattle.cut_signals.specs.Signals.{signalStays, NewSignals};
 
 // Whether the signal s stays: an input's, or that of a marked gate.

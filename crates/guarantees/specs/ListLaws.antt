@@ -31,8 +31,8 @@ use Rattle.journal.specs.declared.Record.{Record}
 use Rattle.question_theory.specs.Question.{Solves, question, alike}
 use Rattle.question_theory.specs.AlikeLaws.{alike-of}
 use Rattle.question_theory.specs.Demand.{Differ, SolvesWritten}
-use Rattle.call_apply.specs.Answers.{answerOn}
-use Rattle.call_apply.specs.StateLaws.{state-record, record-sound, applied-record, record-left}
+use Rattle.journal_states.specs.Answers.{answerOn}
+use Rattle.journal_states.specs.StateLaws.{state-record, record-sound, applied-record, record-left}
 use Rattle.pmn_format.specs.Format.{Bytes}
 use Rattle.pmn_reader.specs.Answers.{loaded}
 use Rattle.pmn_reader.specs.OpenLaws as files

@@ -1,4 +1,2 @@
 pub mod Answers
-pub mod Files
 pub mod AnswerLaws
-pub mod FileLaws

@@ -1,6 +1,4 @@
 // The question for two networks, a line at a time, as text for a pseudo-Boolean solver.
-pub mod files;
-
 use network::Network;
 ghost use mathlib.Core.Path.{_≡_};
 ghost use Prim.Native.Nat.{_≤_};

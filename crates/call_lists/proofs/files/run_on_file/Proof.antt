@@ -9,9 +9,9 @@ use Rattle.basics.specs.Refusals.{Answer, codeOf, stored}
 use Rattle.pmn_opening.specs.Opening.{FileOpen}
 use Rattle.pmn_opening.specs.OpeningLaws.{read-refused}
 use Rattle.call_numbers.specs.Numbers.{wellFormed, callsIn}
-use Rattle.call_lists.specs.Runs.{ListRan}
-use Rattle.call_lists.specs.Files.{runAnswer, ranFile, ranNumbers}
-use Rattle.call_lists.specs.FileLaws.{RunLeft, run-refused, read-holds, run-unformed, enough, run-few, run-long, after-list-sound, run-left}
+use Rattle.call_runs.specs.Runs.{ListRan}
+use Rattle.call_runs.specs.Files.{runAnswer, ranFile, ranNumbers}
+use Rattle.call_runs.specs.FileLaws.{RunLeft, run-refused, read-holds, run-unformed, enough, run-few, run-long, after-list-sound, run-left}
 use Rattle.call_lists.proofs.files.run_on_file.Statement.{statement}
 use Rattle.call_lists.proofs.files.run_on_file.Tie as tie
 

@@ -14,8 +14,8 @@ use Rattle.network.specs.declared.Network.{Network}
 use Rattle.pmn_format.specs.Format.{fileBytes}
 use Rattle.pmn_format.specs.LengthLaws.{longest}
 use Rattle.call_numbers.specs.Numbers.{callsIn}
-use Rattle.call_lists.specs.Runs.{netAfter}
-use Rattle.call_lists.specs.RunLaws.{after-sound}
+use Rattle.call_runs.specs.Runs.{netAfter}
+use Rattle.call_runs.specs.RunLaws.{after-sound}
 use Rattle.call_lists.proofs.unchecked.has_room.Statement.{statement}
 use Rattle.call_lists.proofs.unchecked.has_room.Tie as tie
 

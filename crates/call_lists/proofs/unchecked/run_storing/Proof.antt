@@ -15,7 +15,7 @@ use Rattle.journal.specs.Records.{stateOf, justRead}
 use Rattle.journal.specs.Parts.{recordParts}
 use Rattle.call_numbers.specs.Numbers.{callsIn}
 use Rattle.call_numbers.specs.NumberLaws.{count-calls}
-use Rattle.call_lists.specs.Runs.{answersOf}
+use Rattle.call_runs.specs.Runs.{answersOf}
 use Rattle.call_lists.proofs.RunTurns.{Reached, Answered, began-came, began-state, reached-none, reached-end}
 use Rattle.call_lists.proofs.RunTurns.{answered-none, answered-next, answered-end}
 use Rattle.call_lists.proofs.unchecked.run_storing.Statement.{statement}

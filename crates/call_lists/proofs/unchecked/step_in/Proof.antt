@@ -6,7 +6,7 @@ use Rattle.network_places.specs.PartsLaws.{lengths}
 use Rattle.journal.specs.Answers.{applied}
 use Rattle.journal.specs.Parts.{recordParts}
 use Rattle.journal.specs.declared.Record.{Record}
-use Rattle.call_lists.specs.RunLaws.{came-whole, came-shaped, step-done}
+use Rattle.call_runs.specs.RunLaws.{came-whole, came-shaped, step-done}
 use Rattle.call_lists.proofs.unchecked.step_in.Statement.{statement}
 use Rattle.call_lists.proofs.unchecked.step_in.Tie as tie
 

@@ -12,8 +12,8 @@ use Rattle.network.specs.Record.{gateOf, netOf, gateRecord, rowAt}
 use Rattle.network.specs.RecordLaws.{count-gates, gate-within, gate-number, row-gate}
 use Rattle.network.specs.SoundLaws.{sized-of}
 use Rattle.network.specs.declared.GateRecord.{GateRecord}
-use Rattle.cut_marking.specs.Marking.{marksOf}
-use Rattle.cut_marking.specs.WordLaws.{length-marks}
+use Rattle.cut_marks.specs.Marks.{marksOf}
+use Rattle.cut_marks.specs.WordLaws.{length-marks}
 use Rattle.cut_copying.specs.CopyingLaws.{marks-long}
 use Rattle.cut_copying.proofs.GateLaws.{renamed-record, Copied, copied-none, copied-gone, copied-more, copied-all, copied-row}
 use Rattle.cut_copying.proofs.unchecked.marked_gates.Statement.{statement}

@@ -6,8 +6,9 @@ use Prim.Native.Nat.{ℕ, _+_, _*_, _-_, _≤_, _<_}
 use native.Mathlib.Omega.{arith}
 use lib.ListN.{getD, length}
 use denote.Ref.{now}
-use Rattle.cut_marking.specs.Marking.{marksOf, Closed}
-use Rattle.cut_marking.specs.WordLaws.{length-marks}
+use Rattle.cut_marks.specs.Marks.{marksOf}
+use Rattle.cut_marks.specs.WordLaws.{length-marks}
+use Rattle.cut_marking.specs.Marking.{Closed}
 use Rattle.cut_marking.specs.MarkingLaws.{wired-less, closed-less, marked-already, closed-entered, gate-marked}
 use Rattle.cut_marking.specs.MarkingLaws.{no-feeds, input-passed, closed-after, gate-entered}
 use borrow.Fn.Kinds.{In}

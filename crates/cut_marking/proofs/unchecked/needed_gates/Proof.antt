@@ -1,7 +1,7 @@
 -- No gate is marked at first; what stands marked after the call is what the gate needs. Assumes nothing.
 use mathlib.Core.Path.{sym, subst}
 use Rattle.cut_marking.specs.Marking.{Closed}
-use Rattle.cut_marking.specs.WordLaws.{blank-marks}
+use Rattle.cut_marks.specs.WordLaws.{blank-marks}
 use Rattle.cut_marking.specs.MarkingLaws.{closed-blank, needed-marked}
 use Rattle.cut_marking.proofs.unchecked.needed_gates.Statement.{statement}
 use Rattle.cut_marking.proofs.unchecked.needed_gates.Tie as tie

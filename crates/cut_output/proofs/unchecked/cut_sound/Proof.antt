@@ -6,8 +6,8 @@ use native.Mathlib.Omega.{arith}
 use lib.ListN.{getD}
 use Rattle.network.specs.RecordLaws.{gate-number}
 use Rattle.network.specs.SoundLaws.{sized-of}
-use Rattle.cut_marking.specs.Marking.{marksOf}
-use Rattle.cut_marking.specs.WordLaws.{length-marks}
+use Rattle.cut_marks.specs.Marks.{marksOf}
+use Rattle.cut_marks.specs.WordLaws.{length-marks}
 use Rattle.cut_marking.specs.MarkingLaws.{wired-less}
 use Rattle.cut_marking.specs.RecordLaws.{wired-sound}
 use Rattle.cut_output.proofs.NameLaws.{driver-gate, marked-cut}

@@ -5,8 +5,8 @@ use Prim.Native.Nat.{_+_, _-_, _≤_}
 use native.Mathlib.Omega.{arith}
 use lib.ListN.{length}
 use Rattle.basics.specs.TestLaws.{byte-below}
-use Rattle.cut_marking.specs.Marking.{marksOf}
-use Rattle.cut_marking.specs.WordLaws.{length-marks}
+use Rattle.cut_marks.specs.Marks.{marksOf}
+use Rattle.cut_marks.specs.WordLaws.{length-marks}
 use Rattle.cut_signals.proofs.SignalLaws.{Numbered, numbered-none, numbered-more, numbered-all}
 use Rattle.cut_signals.proofs.unchecked.new_signals.Statement.{statement}
 use Rattle.cut_signals.proofs.unchecked.new_signals.Tie as tie
