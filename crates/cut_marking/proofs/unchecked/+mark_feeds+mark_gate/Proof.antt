@@ -20,8 +20,8 @@ use Rattle.cut_marking.proofs.unchecked.mark_gate.Reads as mark-gate
 use Rattle.cut_marking.proofs.unchecked.mark_gate.Kinds as mark-gate-kinds
 use Rattle.cut_marking.proofs.unchecked.+mark_feeds+mark_gate.Lts-mark_gate as mark-gate-lts
 use Rattle.basics.proofs.wide.Reads as wide-reads
-use Rattle.cut_marking.proofs.unchecked.is_marked.Reads as is-marked-reads
-use Rattle.cut_marking.proofs.unchecked.with_mark.Reads as with-mark-reads
+use Rattle.cut_marks.proofs.unchecked.is_marked.Reads as is-marked-reads
+use Rattle.cut_marks.proofs.unchecked.with_mark.Reads as with-mark-reads
 use Rattle.cut_marking.proofs.unchecked.+mark_feeds+mark_gate.{statement}
 use Rattle.cut_marking.proofs.unchecked.+mark_feeds+mark_gate.Tie.{close}
 
