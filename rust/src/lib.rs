@@ -2,6 +2,7 @@
 pub mod direct;
 pub mod exact;
 pub mod generate;
+pub mod processor;
 pub mod reference;
 
 pub use pmn::slices::*;

@@ -2,6 +2,7 @@
 //! room of every kind; and by itself, against what the cut is for: which gates it has, its bit on frames, cuts of cuts, and cuts before and
 //! after lists of calls. Each test counts what it came to, and asks for so much of it.
 use std::collections::BTreeMap;
+use std::sync::mpsc::RecvTimeoutError;
 use std::sync::{mpsc, OnceLock};
 use std::thread;
 use std::time::Duration;
@@ -192,21 +193,33 @@ fn every_cut_agrees(reached: &mut Reached, net: &Net) {
     }
 }
 
-/// What a piece of work gives, if it gives it in time.
-fn in_time<T: Send + 'static>(limit: Duration, work: impl FnOnce() -> T + Send + 'static) -> Option<T> {
+/// What a piece of work gives, if it gives it within so many seconds of processor time.
+fn in_time<T: Send + 'static>(limit: f64, work: impl FnOnce() -> T + Send + 'static) -> Option<T> {
     let (send, receive) = mpsc::channel();
-    thread::spawn(move || send.send(work()));
-    receive.recv_timeout(limit).ok()
+    let (tell, told) = mpsc::channel();
+    thread::spawn(move || {
+        tell.send(processor::this_thread()).unwrap();
+        send.send(work())
+    });
+    let worker = told.recv().unwrap();
+    loop {
+        match receive.recv_timeout(Duration::from_millis(20)) {
+            Ok(given) => return Some(given),
+            Err(RecvTimeoutError::Disconnected) => return None,
+            Err(RecvTimeoutError::Timeout) if processor::seconds(&worker).is_some_and(|taken| taken > limit) => return None,
+            Err(RecvTimeoutError::Timeout) => (),
+        }
+    }
 }
 
-/// A thousand cuts of the lattice, in both versions, end within ten seconds: a search that goes every way down from its last gate would not
+/// A thousand cuts of the lattice, in both versions, end within ten seconds of processor time: a search that goes every way down from its last gate would not
 /// end. It is asked once, before any large network is cut.
 fn cuts_end() {
     static ANSWER: OnceLock<bool> = OnceLock::new();
     let asked = || {
         let net = lattice(&mut Random::new(133), 128);
         let files = [Board::VERSION_1, Board::version_2(0, 1)].map(|board| paper::write(&Net { board, ..net.clone() }));
-        in_time(Duration::from_secs(10), move || (0..1_000).all(|i| alone(&files[i % 2], 0) == files[i % 2])) == Some(true)
+        in_time(10.0, move || (0..1_000).all(|i| alone(&files[i % 2], 0) == files[i % 2])) == Some(true)
     };
     assert!(*ANSWER.get_or_init(asked), "a cut of the lattice takes too long, or is wrong");
 }
