@@ -14,7 +14,7 @@ ghost use Prim.Native.Nat.{ℕ};
 ghost use lib.ListN.{length};
 ghost use Rattle.basics.specs.Refusals.{stored};
 ghost use Rattle.pmn_format.specs.Format.{Bytes};
-ghost use Rattle.alley_theory.specs.Claims.{TotalOfRecords, TotalOfLines, LaneByLane};
+ghost use Rattle.alley_theory.specs.Claims.{FirstLanes, TotalOfRecords, TotalOfLines, LaneByLane};
 ghost use Rattle.alley_theory.specs.Answers.{noLanes, listing, asListed, textOf, totalAnswer, asSheetLine};
 
 // The totals before the first lane.
@@ -67,6 +67,11 @@ pub fn total_line(totals: Totals, out: &mut [u8]) -> LineWritten
     texts::unchecked::put_bytes(out, &text[..length]);
     LineWritten { code: 0, length }
 }
+
+// The lanes of an alley of files are the first 65,535 of them, each by its length, the lower byte first; no alley has more.
+pub fn at_most_65535_lanes()
+    ensures { λ _. ⌜ FirstLanes ⌝ }
+{}
 
 // Every alley file's total is the sum over the records read, as the size report counts them.
 pub fn total_of_records()

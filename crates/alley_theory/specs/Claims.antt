@@ -1,5 +1,6 @@
 -- What is claimed of every alley file. Nothing is proved here.
-use Rattle.basics.specs.Library.{_≡_, Bool, true, cond, List, [], _∷_, _++_, map, some, ℕ, _+_, _-_, _≤_, _<_, eqb, length, drop}
+use Rattle.basics.specs.Library.{_≡_, Bool, true, cond, List, [], _∷_, _++_, map, some, ℕ, _+_, _-_, _%_, _/_, _≤_, _<_, eqb, length, take, drop}
+use Rattle.basics.specs.Lists.{Each}
 use Rattle.basics.specs.Refusals.{Answer}
 use Rattle.network.specs.declared.Network.{Network}
 use Rattle.pmn_format.specs.Format.{Bytes}
@@ -10,6 +11,19 @@ use Rattle.alley_theory.specs.Alley.{totalText, sheet}
 use Rattle.alley_theory.specs.Answers.{noLanes, sums, soundTotals, LaneStep, step}
 use Rattle.alley_theory.specs.ReadBack.{SheetRead, readBack, saidGates, saidCost, linesFor}
 use Rattle.alley_theory.specs.declared.Totals.{Totals}
+
+-- ---- "a run of lanes, each a 16-bit little-endian length and a PMN file of that length", written
+
+-- the alley file of some files
+unfoldable pub alleyOf : List (List ℕ) → List ℕ
+alleyOf [] = []
+alleyOf (file ∷ files) = length file % 256 ∷ length file / 256 ∷ (file ++ alleyOf files)
+
+-- "At most 65,535 lanes are listed; bytes after the last of them are passed over": of an alley of files that a length can count the first 65,535,
+-- and of no bytes more
+pub record FirstLanes : Type 0 where
+  pub of-files : (files : List (List ℕ)) → Each (λ file. length file < 65536) files → lanes (alleyOf files) ≡ map whole (take 65535 files)
+  pub at-most : (s : List ℕ) → length (lanes s) ≤ 65535
 
 unfoldable pub sumOf : List ℕ → ℕ
 sumOf [] = 0

@@ -10,7 +10,7 @@ use Rattle.cut_theory.specs.Cut.{picked, leftOut, newSignal}
 use Rattle.cut_theory.specs.PickLaws.{upTo, left-few}
 
 -- ---- how many are left out of the first
-left-most : (a : ℕ) (ms : List Bool) → leftOut (take a ms) ≤ a
+pub left-most : (a : ℕ) (ms : List Bool) → leftOut (take a ms) ≤ a
 unfolding upTo
 left-most a ms = let r = left-few 0 a ms in omega (arith, r)
 

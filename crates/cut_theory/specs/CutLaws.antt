@@ -2,7 +2,7 @@
 use mathlib.Core.Path.{_≡_, refl, sym, ap, _∙_, subst}
 use mathlib.Core.Bool.{Bool, true, false}
 use mathlib.Core.List.{List, [], _∷_}
-use Prim.Native.Nat.{ℕ, _+_, _≤_, _<_}
+use Prim.Native.Nat.{ℕ, _+_, _^_, _≤_, _<_}
 use native.Mathlib.Omega.{arith}
 use borrow.Author.Tests.{le-ltb}
 use lib.Dec.{ltb, ltb→lt, lt→ltb}
@@ -27,7 +27,8 @@ use Rattle.cut_theory.specs.BelongLaws.{belongs-exact}
 use Rattle.cut_theory.specs.PickLaws.{upTo-all}
 use Rattle.cut_theory.specs.RemoveLaws.{alone, cut-all, long-marks, alone-sound, cut-sound, cut-sim}
 use Rattle.cut_theory.specs.NeedLaws.{cut-needed}
-use Rattle.cut_theory.specs.Claims.{CutOut, EitherOrder, CutClaim}
+use Rattle.cut_theory.specs.OrderLaws.{in-order}
+use Rattle.cut_theory.specs.Claims.{CutOut}
 
 -- ---- refusals
 pub named-has : (N : Net) (j : ℕ) → Sound N → j < length (N .outputs) → Has N (named N j)
@@ -113,6 +114,7 @@ module _ (N : Net) (j : ℕ) (s : Sound N) (h : j < length (N .outputs)) where
       record {
         marked = belongs-exact N (named N j) s g;
         network = by-marks;
+        keeps-order = in-order N (named N j) s g;
         sound-after = of-sound M s′;
         same-board = board-kept;
         same-inputs = inputs-kept;
@@ -128,7 +130,14 @@ after-calls : (N : Net) (cs : List Call) → Sound N → Traced N (calls (justOp
 after-calls N cs s = calls-traced N (justOpened N) cs (opened-traced N s)
 
 module _ (N : Net) (j : ℕ) (s : Sound N) where
-  either-order : (cs ds : List Call) → EitherOrder N j cs ds
+  -- what an accepted cut is
+  pub cut-only : (M : Net) → cut N j ≡ accepted M → (j < length (N .outputs)) × CutOut N j M
+  cut-only M e = let a = cut-accepted N j M e in (a .0, subst (CutOut N j) (a .1) (cut-out N j s (a .0)))
+
+  -- N folded by the calls cs since its read and then cut to L, or cut to M and then folded by the calls ds
+  pub either-order : (cs ds : List Call) (M : Net) → cut N j ≡ accepted M →
+      (L : Net) × (cut (calls (justOpened N) cs .net) j ≡ accepted L)
+      × ((n : ℕ) → n < 2 ^ N .inputs → outputBits L (frame n) ≡ outputBits (calls (justOpened M) ds .net) (frame n))
   either-order cs ds M e =
       let a = cut-accepted N j M e in
       let h = a .0 in
@@ -144,12 +153,3 @@ module _ (N : Net) (j : ℕ) (s : Sound N) where
         λ n k. cut-bit folded j s′ h′ (frame n) ∙ ap (λ (bs : List Bool). getD bs j false ∷ []) (same (frame n)) ∙ sym (cut-bit N j s h (frame n))
             ∙ ap (λ (L : Net). outputBits L (frame n)) (a .1) ∙ sym (traced-agree M (calls (justOpened M) ds) sM (after-calls M ds sM) (frame n)),
       )
-
-  -- ---- all that is claimed
-  pub cut-claim : CutClaim N j
-  cut-claim = record {
-    accepts = λ h. (cutNet N (named N j), cut-accepts N j s h);
-    stray = cut-stray N j s;
-    only = λ M e. let a = cut-accepted N j M e in (a .0, subst (CutOut N j) (a .1) (cut-out N j s (a .0)));
-    either-order = either-order;
-  }

@@ -1,12 +1,12 @@
 -- What is claimed of merges, pairs, collapses and sweeps. Nothing is proved here.
 use Rattle.basics.specs.Library.{_≡_, _≢_, _⊎_, ℕ, _+_, _^_, _≤_, _<_, T, length}
 use Rattle.basics.specs.Lists.{Each}
-use Rattle.basics.specs.Refusals.{accepted, refused, Passed}
+use Rattle.basics.specs.Refusals.{Passed}
 use Rattle.network.specs.Threshold.{Net, Assignment, bit}
-use Rattle.network.specs.Changes.{gateAt, withGate}
+use Rattle.network.specs.Changes.{gateAt}
 use Rattle.network.specs.Limits.{isGate, Keeps}
-use Rattle.fold_theory.specs.Merge.{Edge, edge, reads, distinct, merged, composed, setting, limits, merge}
-use Rattle.fold_theory.specs.Pair.{Pair, pair}
+use Rattle.fold_theory.specs.Merge.{Edge, edge, reads, distinct, merged, composed, setting, limits}
+use Rattle.fold_theory.specs.Pair.{Pair}
 use Rattle.fold_theory.specs.Sweep.{readers}
 
 -- ---- merges
@@ -41,14 +41,6 @@ HasPair N u v = (p : Pair) × Qualifying N u v p
 pub record LeastPair (N : Net) (u v : ℕ) (p : Pair) : Type 0 where
   pub qualified : Qualifying N u v p
   pub least : (q : Pair) → Qualifying N u v q → NotAfter p q
-
--- "the k and l with the least k + l, then the least k, that qualify", whose merge is accepted; "16 only if none of the 1,024 qualifies",
--- only those with k and l from 1 to 32 being within the limits; and where one qualifies, a pair is given
-pub record PairClaim (N : Net) (u v : ℕ) : Type 0 where
-  pub least : (p : Pair) → pair N u v ≡ accepted p → LeastPair N u v p
-  pub merges : (p : Pair) → pair N u v ≡ accepted p → merge N u v (p .k) (p .l) ≡ accepted (withGate N v (merged (edge N u v) (p .k) (p .l)))
-  pub none : pair N u v ≡ refused 16 → HasPair N u v → ⊥
-  pub given : HasPair N u v → (p : Pair) × (pair N u v ≡ accepted p)
 
 -- ---- collapses and sweeps
 

@@ -45,7 +45,7 @@ use Rattle.guarantees.specs.QuestionLaws.{questions}
 -- ---- every list
 
 -- what a list leaves is the record of the state of the definitions
-list-record : (R : Net) (q : State) (cs : List Call) → Traced R q → callsOn (recordOf q) cs ≡ recordOf (calls q cs)
+pub list-record : (R : Net) (q : State) (cs : List Call) → Traced R q → callsOn (recordOf q) cs ≡ recordOf (calls q cs)
 unfolding callsOn calls
 list-record R q [] t = refl
 list-record R q (c ∷ cs) t =

@@ -1,4 +1,4 @@
--- By the law of previews; a record's arrays have their lengths. Assumes nothing.
+-- By the law of the same matter; a record's arrays have their lengths. Assumes nothing.
 use borrow.Author.Needs.{needs}
 use Rattle.network.specs.RecordLaws.{ArrayLengths}
 use Rattle.guarantees.specs.PreviewLaws.{preview-claim}

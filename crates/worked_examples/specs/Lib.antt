@@ -1,0 +1,13 @@
+pub mod Literal
+pub mod Files
+pub mod Alleys
+pub mod Games
+pub mod Networks
+pub mod Folds
+pub mod Runs
+pub mod FileLaws
+pub mod AlleyLaws
+pub mod GameLaws
+pub mod NetworkLaws
+pub mod FoldLaws
+pub mod RunLaws
