@@ -121,8 +121,7 @@ module _ (N : Net) (d : ℕ) (o : Sound N) (h : Has N d) where
       let at = picked-at noGate ms (N .gates) g (omega (arith, p .0)) (p .1) in
       let z : new s ≡ I + (g - leftOut (take g ms)) = sym (ap new e) ∙ new-place g in
       let y : new s - I ≡ g - leftOut (take g ms) = omega (arith, z) in
-      let long = length-map (picked ms (N .gates)) (renamedGate new) in
-      (
+      let long = length-map (picked ms (N .gates)) (renamedGate new) in (
         of-has (cutNet N d) (new s) (omega (arith, z, at .inside, long)),
         ap (λ (i : ℕ). getD (map (renamedGate new) (picked ms (N .gates))) i noGate) y
             ∙ getD-map (renamedGate new) (picked ms (N .gates)) (g - leftOut (take g ms)) noGate noGate (at .inside)
@@ -135,8 +134,7 @@ module _ (N : Net) (d : ℕ) (o : Sound N) (h : Has N d) where
       let has = has-of (cutNet N d) t k in
       let long = length-map (picked ms (N .gates)) (renamedGate new) in
       let from = picked-from ms (N .gates) (t - I) (omega (arith, has, long)) in
-      let g = from .place in
-      (
+      let g = from .place in (
         I + g,
         belongs-exact N d o h g (from .within) .0 (T-is (getD (cutMarks N d) g false) (from .marked)),
         new-place g ∙ (let e : I + (g - leftOut (take g ms)) ≡ t = omega (arith, has, from .moved) in e),

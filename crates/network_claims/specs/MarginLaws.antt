@@ -120,8 +120,7 @@ module _ (N : Net) where
   pub keeps-exact : (o : OtherLimits N) → T (all (keeps (N .board)) (N .gates)) ↔ AllClear N
   keeps-exact o =
       let at : (i : ℕ) → i < length (N .gates) → GateOk (N .inputs + i) (getD (N .gates) i noGate) = λ i k.
-      gates-at (N .inputs) i (N .gates) noGate (gates-within o) k in
-      (
+      gates-at (N .inputs) i (N .gates) noGate (gates-within o) k in (
         λ t. at-signal N (λ s g. Clear (N .board) g) (λ i k.
             gate-clear (o .board-ok) (N .inputs + i) (getD (N .gates) i noGate) (at i k) .0
             (each-getD (λ (g : Gate). T (keeps (N .board) g)) (N .gates) noGate
