@@ -1,9 +1,12 @@
 /* Threshold networks in PMN files, folded: the functions for C (libcapi.a).
  *
  * Every function takes whole files, of version 1 or 2, and numbers, and answers 0 or the number of a refusal (the table of codes in
- * document 01; 22 and 24 to 29 are from document 02). The numbers 13 and 23 are never given.
+ * document 01; 22 and 24 to 29 are from document 02). The numbers 13, 20 and 23 are never given: 20 is for records, and these functions
+ * take files.
  * A slice is a pointer and then a length, in bytes for uint8_t and in numbers for uint64_t and int64_t. A slice that is written overlaps
- * no other slice of the same call. A pointer is not null, even where the length is 0.
+ * no other slice of the same call. A pointer is not null, even where the length is 0, and is aligned as C aligns its type: bytes anywhere,
+ * numbers at a multiple of eight. The functions keep nothing from one call to the next, so threads may call them at the same time, each
+ * with slices of its own to write.
  *
  * Every function but pmn_three_feeds, which is given no file, reads its file first: the refusal is the read's ("as read", 1 to 9 or 24),
  * before any other. On a refusal everything that was lent is left as it was; where the answer is 0, places and bytes after those named

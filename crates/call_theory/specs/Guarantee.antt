@@ -56,5 +56,3 @@ Claim q (Collapse u) = CollapseExact q u × StepsEntered q (Collapse u)
 Claim q (Sweep B) = ((g : Given) → answer q (Sweep B) ≡ accepted g → SweepDone (q .net) B (g .state .net) (g .figures .first)) × StepsEntered q (Sweep B)
 Claim q (Preview u) = PreviewExact q u
 Claim q Undo = UndoExact q
-
--- ---- a list

@@ -58,5 +58,3 @@ Settled N B = (u : ℕ) → Collapsible N u → readers N u ≤ B → ⊥
 pub record SweepDone (N : Net) (B : ℕ) (M : Net) (collapses : ℕ) : Type 0 where
   pub settled : Settled M B
   pub counted : collapses + length (M .gates) ≡ length (N .gates)
-
--- ---- what stays

@@ -4,7 +4,7 @@ use Rattle.basics.specs.Library.{cond, List, [], _∷_, ℕ, suc, max, eqb}
 use Rattle.network.specs.Threshold.{Feed, Gate}
 
 -- ---- "Levels: an input has level 0, a gate one more than its highest feed"; document 02: "A gate without feeds now has level 0. A gate
--- ---- whose feeds all have level 0 has level 1"
+-- whose feeds all have level 0 has level 1"
 
 -- the highest level among the feeds
 unfoldable pub highest : (ℕ → ℕ) → List Feed → ℕ

@@ -40,5 +40,3 @@ DecidesWritten N M = ((ρ : Assignment) × SolvesWritten ρ N M) ↔ Differ N M
 -- every term's variable is one of the first n
 abbrev pub Named : ℕ → Line → Type 0
 Named n line = Each (λ t. t .signal < n) (line .terms)
-
--- ---- what its solutions are

@@ -65,8 +65,6 @@ abbrev pub EntryRule : ℕ → TableEntry → Type 0
 EntryRule table (HasGate a b c t) = GateRule table a b c t
 EntryRule table (NoGate x y u v) = WitnessRule table x y u v
 
--- ---- the rule as a test that can be computed
-
 -- ---- an entry as numbers
 
 -- the entry has a gate
