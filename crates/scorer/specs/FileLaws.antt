@@ -4,19 +4,20 @@ use mathlib.Core.List.{List, [], _∷_}
 use Prim.Native.Nat.{ℕ, zero, suc}
 use native.Mathlib.Omega.{arith}
 use Rattle.basics.specs.Refusals.{Answer, accepted, refused, bind}
+use Rattle.basics.specs.RefusalLaws.{checks-next, checks-none}
 use Rattle.network.specs.Threshold.{Net}
-use Rattle.network.specs.Record.{netOf}
-use Rattle.network.specs.RecordLaws.{netOf-layout}
+use Rattle.network.specs.Record.{soundRecord}
 use Rattle.network.specs.declared.Network.{Network}
 use Rattle.fold_theory.specs.RefusalLaws.{Numbered, checks-never, bind-never}
 use Rattle.pmn_opening.specs.Places.{answerOf}
 use Rattle.pmn_opening.specs.Opening.{FileOpen}
-use Rattle.pmn_opening.specs.OpeningLaws.{open-on}
+use Rattle.pmn_opening.specs.OpeningLaws.{file-sound, open-record, open-on}
 use Rattle.scorer_theory.specs.Rules.{Pins, Game, firstFrame, nextGame, ball, felledFrom}
 use Rattle.scorer_theory.specs.NetworkGames.{pinsOn, game}
 use Rattle.scorer_tally.specs.Sheets.{asSheet}
 use Rattle.scorer.specs.Answers.{sheetPlaces, scorePlaces}
 use Rattle.scorer_places.specs.Numbers.{sheetNumbers}
+use Rattle.scorer_play.specs.Play.{networkSheet}
 use Rattle.scorer_tally.specs.declared.Sheet.{Sheet}
 
 -- ---- the number of a refusal is not 0
@@ -49,12 +50,12 @@ sheet-places (accepted felled) n = refl
 sheet-places (refused zero) n = absurd (n refl)
 sheet-places (refused (suc c)) n = refl
 
-pub score-answer : {file : List ℕ} {r : Network} {lent : ℕ} → FileOpen file lent 33 r → (frames : List ℕ) {s : Sheet} → s ≡ asSheet (game (netOf r) frames)
+pub score-answer : {file : List ℕ} {r : Network} {lent : ℕ} → FileOpen file lent 33 r → (frames : List ℕ) {s : Sheet} → s ≡ networkSheet r frames
     → scorePlaces file frames lent ≡ answerOf (s .code) (sheetNumbers s)
-unfolding scorePlaces
-score-answer f frames e =
+unfolding scorePlaces networkSheet
+score-answer {r = r} f frames e =
     let N = f .net in
-    let net = ap netOf (f .laid) ∙ netOf-layout N (f .sound) in
+    let sheet = e ∙ ap asSheet (checks-next (soundRecord r) 20 [] _ (file-sound f) ∙ checks-none _) in
     open-on f _
     ∙ sheet-places (game N frames) (game-numbered N frames)
-    ∙ sym (ap (λ (x : Sheet). answerOf (x .code) (sheetNumbers x)) (e ∙ ap (λ (M : Net). asSheet (game M frames)) net))
+    ∙ sym (ap (λ (x : Sheet). answerOf (x .code) (sheetNumbers x)) (sheet ∙ ap (λ (M : Net). asSheet (game M frames)) (sym (open-record f))))

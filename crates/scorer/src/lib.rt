@@ -2,8 +2,7 @@
 pub mod files;
 
 use journal::Record;
-use journal::is_sound;
-use scorer_play::unchecked::score_sound;
+use scorer_play::score_network;
 use scorer_tally::Sheet;
 use scorer_tally::unchecked::refused;
 ghost use mathlib.Core.Path.{_≡_};
@@ -14,8 +13,8 @@ ghost use Rattle.scorer.specs.Answers.{scoring};
 pub fn score(held: Record, frames: &[u64]) -> Sheet
     ensures { λ r. ⌜ r ≡ scoring held (now (frames .entry)) ⌝ }
 {
-    if !is_sound(held) {
+    if 64 < held.journal.count {
         return refused(20);
     }
-    score_sound(held.network, frames)
+    score_network(held.network, frames)
 }

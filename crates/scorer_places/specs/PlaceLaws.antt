@@ -1,7 +1,6 @@
 -- Numbers copied to the front of lent places, and a sheet put into them. Assumes nothing.
 use mathlib.Core.Path.{_≡_, refl, sym, ap, _∙_}
 use mathlib.Core.List.{List, [], _∷_, _++_}
-use mathlib.Core.Logic.{_≢_}
 use Prim.Native.Nat.{ℕ, _+_, _-_, _≤_, _<_}
 use native.Mathlib.Numerals.{add-one}
 use native.Mathlib.Omega.{arith}
@@ -11,7 +10,6 @@ use borrow.Rule.Slice.PartMut.{putMid}
 use Rattle.basics.specs.Refusals.{stored}
 use Rattle.basics.specs.WriteLaws.{store-on, write-on}
 use Rattle.pmn_opening.specs.Places.{answerOf}
-use Rattle.pmn_opening.specs.AnswerLaws.{keep-places}
 use Rattle.scorer_tally.specs.declared.Sheet.{Sheet}
 use Rattle.scorer_places.specs.Numbers.{sheetNumbers, CopiedToFront}
 
@@ -40,15 +38,14 @@ module _ {numbers before after : List ℕ} {n : ℕ} (c : CopiedToFront numbers 
 
 -- two numbers at the front, then the pins felled in the part from the third place on, then the scores in the part after these
 pub sheet-put : (s : Sheet) (lent two pins scores : List ℕ) → length (s .felled) ≡ 21 → length (s .scores) ≡ 10 → 33 ≤ length lent → s .code ≡ 0
-    → two ≡ stored (answerOf (s .code) (s .balls ∷ s .scored ∷ [])) lent
+    → two ≡ (s .balls ∷ s .scored ∷ []) ++ drop 2 lent
     → pins ≡ s .felled ++ drop (length (s .felled)) (take (length two - 2) (drop 2 two))
     → let with-pins = putMid 2 (length two - 2) two pins in
     scores ≡ s .scores ++ drop (length (s .scores)) (take (length with-pins - 23) (drop 23 with-pins))
     → putMid 23 (length with-pins - 23) with-pins scores ≡ stored (answerOf (s .code) (sheetNumbers s)) lent
 unfolding stored answerOf sheetNumbers
-sheet-put s lent two pins scores p q h z d e f =
+sheet-put s lent two pins scores p q h z first e f =
     let head = s .balls ∷ s .scored ∷ [] in
-    let first : two ≡ head ++ drop 2 lent = d ∙ ap (λ (n : ℕ). stored (answerOf n head) lent) z in
     let with-pins = putMid 2 (length two - 2) two pins in
     let second : with-pins ≡ (head ++ s .felled) ++ drop 23 lent =
     write-on lent two pins head (s .felled) 2 21 first refl p (omega arith) (e ∙ ap (λ (n : ℕ). s .felled ++ drop n (take (length two - 2) (drop 2 two))) p) in
@@ -57,8 +54,3 @@ sheet-put s lent two pins scores p q h z d e f =
     (f ∙ ap (λ (n : ℕ). s .scores ++ drop n (take (length with-pins - 23) (drop 23 with-pins))) q) in
     let many : 33 ≡ length (sheetNumbers s) = omega (arith, length-append (s .felled) (s .scores)) in
     third ∙ ap (λ (n : ℕ). (head ++ (s .felled ++ s .scores)) ++ drop n lent) many ∙ sym (ap (λ (n : ℕ). stored (answerOf n (sheetNumbers s)) lent) z)
-
--- a refusal puts nothing
-pub sheet-kept : (s : Sheet) (lent two : List ℕ) → s .code ≢ 0 → two ≡ stored (answerOf (s .code) (s .balls ∷ s .scored ∷ [])) lent
-    → two ≡ stored (answerOf (s .code) (sheetNumbers s)) lent
-sheet-kept s lent two n e = e ∙ sym (keep-places (s .code) _ lent n) ∙ keep-places (s .code) (sheetNumbers s) lent n

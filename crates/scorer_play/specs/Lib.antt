@@ -1,2 +1,4 @@
 pub mod Play
+pub mod BallLaws
 pub mod PlayLaws
+pub mod WordLaws

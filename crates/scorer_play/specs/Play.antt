@@ -1,26 +1,50 @@
--- Internal: what one throw holds, and what the loop over the balls keeps. Nothing is proved here.
+-- Internal: a game on the output words of its frames, and what the loops over frames and balls keep. Nothing is proved here.
 use mathlib.Core.Path.{_≡_}
-use mathlib.Core.List.{List, _++_}
-use mathlib.Core.Logic.{_≢_}
-use Prim.Native.Nat.{ℕ, _+_, _*_, _/_, _≤_}
-use lib.ListN.{length, drop}
-use Rattle.basics.specs.Lists.{places}
-use Rattle.basics.specs.Refusals.{Answer, accepted, refused, bind}
+use mathlib.Core.Bool.{true, false}
+use mathlib.Core.List.{List, [], _∷_, _++_}
+use Prim.Native.Nat.{ℕ, _+_, _*_, _/_, _%_, _≤_, _<_}
+use lib.Dec.{leb}
+use lib.ListN.{length, getD, take, drop}
+use Rattle.basics.specs.Lists.{all, places}
+use Rattle.basics.specs.Refusals.{Answer, accepted, _else_, checks, bind}
+use Rattle.network.specs.Threshold.{fitsFrame}
+use Rattle.network.specs.Record.{netOf, soundRecord}
+use Rattle.network.specs.declared.Network.{Network}
 use Rattle.scorer_theory.specs.Rules.{Pins, firstFrame, felledFrom}
-use Rattle.scorer_ball.specs.Words.{pinsIn, gameOf, OnLane, SameRack}
+use Rattle.scorer_theory.specs.NetworkGames.{game}
+use Rattle.scorer_tally.specs.Sheets.{asSheet}
+use Rattle.scorer_tally.specs.declared.Sheet.{Sheet}
+use Rattle.scorer_ball.specs.Words.{pinsIn, gameOf, OnLane}
 use Rattle.scorer_ball.specs.declared.Lane.{Lane}
-use Rattle.scorer_play.specs.declared.Throw.{Throw}
 
--- a ball that is not refused: the pins that it left, within the game and its rack
-pub record PinsLeft (l : Lane) (answer : Answer Pins) (after : ℕ) : Type 0 where
-  pub pins : answer ≡ accepted (pinsIn after)
-  pub in-game : l .frame ≤ 10
-  pub fair : SameRack (l .rack) after
+-- the sheet of a game on a network
+unfoldable pub networkSheet : Network → List ℕ → Sheet
+networkSheet r frames = asSheet (checks ((soundRecord r else 20) ∷ []) (game (netOf r) frames))
 
--- r is what a ball on a lane answers
-pub record ThrowAnswers (l : Lane) (answer : Answer Pins) (r : Throw) : Type 0 where
-  pub left : r .code ≡ 0 → PinsLeft l answer (r .after)
-  pub refusal : r .code ≢ 0 → answer ≡ refused (r .code)
+-- ---- frames
+
+-- the first n frames are read: they are not long, and the next one is, or they are 22
+pub record ShortFrames (inputs : ℕ) (frames : List ℕ) (n : ℕ) : Type 0 where
+  pub within : n ≤ length frames
+  pub few : n ≤ 22
+  pub fit : all (fitsFrame inputs) (take n frames) ≡ true
+  pub next : n < length frames → n < 22 → fitsFrame inputs (getD frames n 0) ≡ false
+
+-- ---- words
+
+-- the pins that an output word shows
+unfoldable pub wordPins : ℕ → Answer Pins
+wordPins w = accepted (pinsIn (w % 1024))
+
+-- after the last word: 10 where the game has more frames
+unfoldable pub afterWords : List ℕ → ℕ → List ℕ → Answer (List ℕ)
+afterWords words frames felled = checks ((leb frames (length words) else 10) ∷ []) (accepted felled)
+
+-- the game of so many frames, on the words of those that are read
+unfoldable pub wordGame : List ℕ → ℕ → Answer (List ℕ)
+wordGame words frames = bind (felledFrom wordPins firstFrame words) (afterWords words frames)
+
+-- ---- balls
 
 -- pins felled so far, before those that are still to come
 unfoldable pub joined : List ℕ → Answer (List ℕ) → Answer (List ℕ)
@@ -28,13 +52,13 @@ joined done more = bind more (λ rest. accepted (done ++ rest))
 
 -- so many balls of a game are thrown, the pins that they felled stand in 21 places, and the lane is before the next; there is room for it,
 -- since the nine frames before the tenth have two balls each at most, and the tenth three
-pub record Playing (pins : ℕ → Answer Pins) (frames : List ℕ) (l : Lane) (felled : List ℕ) (balls : ℕ) : Type 0 where
+pub record Playing (words : List ℕ) (l : Lane) (felled : List ℕ) (balls : ℕ) : Type 0 where
   pub done : List ℕ
   pub many : balls ≡ length done
-  pub within : balls ≤ length frames
+  pub within : balls ≤ length words
   pub few : balls ≤ 21
   pub on-lane : OnLane l
   pub room : balls + 2 ≤ 2 * l .frame + l .balls + l .frame / 11
   pub in-game : l .frame ≤ 11
   pub stored : felled ≡ places 21 0 done
-  pub left : joined done (felledFrom pins (gameOf l) (drop balls frames)) ≡ felledFrom pins firstFrame frames
+  pub left : joined done (felledFrom wordPins (gameOf l) (drop balls words)) ≡ felledFrom wordPins firstFrame words

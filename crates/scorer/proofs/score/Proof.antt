@@ -1,32 +1,36 @@
--- The record's test, then the game. Assumes nothing.
+-- The journal's steps, then the network's sheet. Assumes nothing.
 use mathlib.Core.Path.{ap, sym, _∙_}
-use mathlib.Core.List.{[]}
+use mathlib.Core.Bool.{Bool, _&&_}
+use mathlib.Core.List.{[], _∷_}
+use native.Mathlib.Omega.{arith}
 use borrow.Author.Needs.{needs}
-use borrow.Author.Tests.{not-true, not-false}
-use Rattle.basics.specs.RefusalLaws.{checks-first, checks-next, checks-none}
-use Rattle.journal.specs.AnswerLaws.{whole-network}
+use borrow.Author.Tests.{le-leb, lt-leb}
+use Rattle.basics.specs.Refusals.{_else_, checks}
+use Rattle.basics.specs.RefusalLaws.{checks-first}
+use Rattle.basics.specs.TestLaws.{and-true, and-false-right}
+use Rattle.network.specs.Record.{netOf, soundRecord}
+use Rattle.journal.specs.Records.{soundWhole}
+use Rattle.scorer_theory.specs.NetworkGames.{game}
 use Rattle.scorer_tally.specs.Sheets.{asSheet}
+use Rattle.scorer_play.specs.Play.{networkSheet}
 use Rattle.scorer.specs.Answers.{scoring}
 use Rattle.scorer.proofs.score.Statement.{statement}
 use Rattle.scorer.proofs.score.Tie as tie
 
 returns : tie.Need-returns
-unfolding scoring
+unfolding scoring soundWhole
 returns c =
-    let broken = sym (c .before .before .is-sound .ensures) ∙ not-true _ (c .before .if1 .taken) in
-    c .refused .ensures ∙ ap asSheet (sym (checks-first _ 20 [] _ broken))
-
-score-sound-requires : tie.Need-score-sound-requires
-score-sound-requires c κs =
-    let s = c .before in
-    whole-network _ (sym (s .is-sound .ensures) ∙ not-false _ (c .if1 .left))
+    let held = c .before .before .before .before .args .held in
+    let broken = and-false-right (soundRecord (held .network)) _ (lt-leb (held .journal .count) 64 (omega (arith, c .before .if1 .taken))) in
+    c .refused .ensures ∙ ap asSheet (sym (checks-first (soundWhole held) 20 [] _ broken))
 
 returns-2 : tie.Need-returns-2
-unfolding scoring
+unfolding scoring networkSheet soundWhole
 returns-2 c =
-    let sound = sym (c .before .before .is-sound .ensures) ∙ not-false _ (c .before .if1 .left) in
-    c .score-sound .ensures ∙ ap asSheet (sym (checks-next _ 20 [] _ sound ∙ checks-none _))
+    let a = c .before .before .before .before .args in
+    let n = a .held .network in
+    let few = ap (λ (b : Bool). soundRecord n && b) (le-leb _ 64 (c .before .if1 .left)) ∙ and-true (soundRecord n) in
+    c .score-network .ensures ∙ ap (λ (b : Bool). asSheet (checks ((b else 20) ∷ []) (game (netOf n) (a .frames .now)))) (sym few)
 
 pub score-spec : {M : Type 1} → statement M
-score-spec =
-    tie.close (tie.spec (λ c κs. search needs) (λ c κs. search needs) returns score-sound-requires returns-2)
+score-spec = tie.close (tie.spec (λ c κs. search needs) returns (λ c κs. search needs) returns-2)
