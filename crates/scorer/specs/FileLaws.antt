@@ -17,7 +17,7 @@ use Rattle.scorer_theory.specs.NetworkGames.{pinsOn, game}
 use Rattle.scorer_tally.specs.Sheets.{asSheet}
 use Rattle.scorer.specs.Answers.{sheetPlaces, scorePlaces}
 use Rattle.scorer_places.specs.Numbers.{sheetNumbers}
-use Rattle.scorer_play.specs.Play.{networkSheet}
+use Rattle.scorer_play.specs.Sheets.{networkSheet}
 use Rattle.scorer_tally.specs.declared.Sheet.{Sheet}
 
 -- ---- the number of a refusal is not 0

@@ -1,3 +1,4 @@
+pub mod Sheets
 pub mod Play
 pub mod BallLaws
 pub mod PlayLaws

@@ -8,18 +8,9 @@ use lib.ListN.{length, getD, take, drop}
 use Rattle.basics.specs.Lists.{all, places}
 use Rattle.basics.specs.Refusals.{Answer, accepted, _else_, checks, bind}
 use Rattle.network.specs.Threshold.{fitsFrame}
-use Rattle.network.specs.Record.{netOf, soundRecord}
-use Rattle.network.specs.declared.Network.{Network}
 use Rattle.scorer_theory.specs.Rules.{Pins, firstFrame, felledFrom}
-use Rattle.scorer_theory.specs.NetworkGames.{game}
-use Rattle.scorer_tally.specs.Sheets.{asSheet}
-use Rattle.scorer_tally.specs.declared.Sheet.{Sheet}
 use Rattle.scorer_ball.specs.Words.{pinsIn, gameOf, OnLane}
 use Rattle.scorer_ball.specs.declared.Lane.{Lane}
-
--- the sheet of a game on a network
-unfoldable pub networkSheet : Network → List ℕ → Sheet
-networkSheet r frames = asSheet (checks ((soundRecord r else 20) ∷ []) (game (netOf r) frames))
 
 -- ---- frames
 

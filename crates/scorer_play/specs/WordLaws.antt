@@ -28,7 +28,8 @@ use Rattle.scorer_theory.specs.RuleLaws.{bits-many}
 use Rattle.scorer_tally.specs.Sheets.{asSheet}
 use Rattle.scorer_ball.specs.Words.{pinsIn}
 use Rattle.scorer_ball.specs.PinLaws.{pins-word}
-use Rattle.scorer_play.specs.Play.{networkSheet, ShortFrames, wordPins, afterWords, wordGame, joined}
+use Rattle.scorer_play.specs.Play.{ShortFrames, wordPins, afterWords, wordGame, joined}
+use Rattle.scorer_play.specs.Sheets.{networkSheet}
 use Rattle.scorer_play.specs.BallLaws.{ball-cases, felled-next, felled-refused, felled-long, felled-none, felled-few}
 use Rattle.scorer_play.specs.PlayLaws.{joined-none, joined-twice}
 

@@ -1,4 +1,4 @@
-// Internal: the play of a game on a network. The frames are read in one pass, and the balls played on the output words.
+// The play of a game on a network. The frames are read in one pass, and the balls played on the output words.
 mod unchecked;
 
 use frame_batch::read_frames;
@@ -8,7 +8,7 @@ use scorer_tally::unchecked::refused;
 use unchecked::play;
 use unchecked::short_frames;
 ghost use mathlib.Core.Path.{_≡_};
-ghost use Rattle.scorer_play.specs.Play.{networkSheet};
+ghost use Rattle.scorer_play.specs.Sheets.{networkSheet};
 
 // The sheet of a game, from the frames after each ball. Refusals: 20 broken network, 27 fewer than ten outputs; then ball by ball.
 pub fn score_network(network: Network, frames: &[u64]) -> Sheet

@@ -12,7 +12,7 @@ use Rattle.network.specs.Record.{netOf, soundRecord}
 use Rattle.journal.specs.Records.{soundWhole}
 use Rattle.scorer_theory.specs.NetworkGames.{game}
 use Rattle.scorer_tally.specs.Sheets.{asSheet}
-use Rattle.scorer_play.specs.Play.{networkSheet}
+use Rattle.scorer_play.specs.Sheets.{networkSheet}
 use Rattle.scorer.specs.Answers.{scoring}
 use Rattle.scorer.proofs.score.Statement.{statement}
 use Rattle.scorer.proofs.score.Tie as tie
