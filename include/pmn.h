@@ -35,7 +35,7 @@ uint8_t pmn_frame(const uint8_t *file, size_t file_length, uint64_t frame,
 
 /* Reads up to 64 frames in one pass. answers[i]: the output bits on frames[i], as pmn_frame gives them.
  * Codes in order: as read, 26 for more than 64 frames or where answers has fewer places than frames, 10 where any frame is refused.
- * Stack: 127 KB. */
+ * Stack: 90 KB. */
 uint8_t pmn_frames(const uint8_t *file, size_t file_length,
                    const uint64_t *frames, size_t frames_length,
                    uint64_t *answers, size_t answers_length);
@@ -48,7 +48,7 @@ uint8_t pmn_frames(const uint8_t *file, size_t file_length,
  * Codes in order: as read, 18 where answer has under 33 places, 27 where the network has fewer than ten outputs, also for a game without
  * balls; then ball by ball: 10, 28 for a ball after the game's end, 29 for a pin that stands after a ball without having stood before it
  * in the same rack. So an earlier ball's 29 comes before a later ball's 10.
- * Stack: 57 KB. */
+ * Stack: 100 KB. */
 uint8_t pmn_score(const uint8_t *file, size_t file_length,
                   const uint64_t *frames, size_t frames_length,
                   uint64_t *answer, size_t answer_length);
