@@ -5,7 +5,7 @@ ghost use mathlib.Core.Path.{_≡_};
 ghost use Prim.Native.Nat.{_<_};
 ghost use lib.ListN.{length};
 ghost use Rattle.network.specs.Changes.{lowered, raised};
-ghost use Rattle.fold_memory.specs.Keeping.{RefuserKept, RefusersKept};
+ghost use Rattle.fold_memory.specs.Keeping.{loweredHints, RefuserKept, RefusersKept};
 
 // A gate's number after gate g is gone.
 fn lowered_number(number: u8, g: usize) -> u8
@@ -23,7 +23,9 @@ fn former_number(i: usize, g: usize) -> usize
 }
 
 // The hints after gate g is gone: those of the higher gates move down by one, and each hint to a higher gate falls by one.
-pub fn lower_hints(hints: &mut [u8; 128], g: usize) {
+pub fn lower_hints(hints: &mut [u8; 128], g: usize)
+    ensures { λ _. ⌜ now (hints .exit) ≡ loweredHints (now (hints .entry)) g ⌝ }
+{
     for i in 0..127 {
         let from = former_number(i, g);
         let hint = lowered_number(hints[from], g);
