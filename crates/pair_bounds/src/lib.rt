@@ -7,31 +7,28 @@ pub struct Remembered {
     pub earlier: usize,
 }
 
-// Bounds of k / l, in 32nds, with the settings that give them: k / l is at most `most` by setting `above`, and at least `least` by setting
-// `below`.
-pub struct Bounds {
-    pub most: f64,
-    pub above: usize,
-    pub least: f64,
-    pub below: usize,
-}
-
-// A fraction k / l.
+// A fraction k / l with terms on the dial; 1 / 0 is above all others.
 pub struct Fraction {
-    pub k: usize,
-    pub l: usize,
+    pub k: u32,
+    pub l: u32,
 }
 
-// Two fractions, with no other between them that has smaller terms than both together; 1 / 0 is above all others.
+// The least and the greatest k / l on the dial that no setting seen rules out, and the settings that rule out what is below the one and what is
+// above the other.
+pub struct Bounds {
+    pub least: Fraction,
+    pub below: usize,
+    pub most: Fraction,
+    pub above: usize,
+}
+
+// Two fractions, with no other between them that has smaller terms than both together, and k * a + l * c at each: `low`
+// and `high`.
 pub struct Neighbours {
     pub below: Fraction,
     pub above: Fraction,
-}
-
-// The least and the greatest k / l on the dial within bounds.
-pub struct Ends {
-    pub least: Fraction,
-    pub most: Fraction,
+    pub low: i32,
+    pub high: i32,
 }
 
 pub mod unchecked;

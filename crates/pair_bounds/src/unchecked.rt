@@ -1,8 +1,8 @@
 // Settings that rule out many candidates. What is tried first needs no promise but that it is a setting: nothing here decides an answer.
 // With the margins 0 and 1 a setting bounds k / l from one side, or says nothing of it: it asks for k * a + l * c < 0 where the composed
-// pair is 0, and for k * a + l * c >= 0 where it is 1, with a = su - own and c = sv - on. Other margins are left out here.
+// pair is 0, and for k * a + l * c >= 0 where it is 1, with a = su - own and c = sv - on. Other margins are left out here. What is added or
+// multiplied has 32 bits.
 use crate::Bounds;
-use crate::Ends;
 use crate::Fraction;
 use crate::Neighbours;
 use crate::Remembered;
@@ -16,10 +16,12 @@ use pair_clearing::unchecked::merged_threshold;
 use pair_spans::Span;
 use pair_spans::unchecked::mixed_sums;
 use pair_spans::unchecked::span;
+ghost use mathlib.Core.Path.{_≡_};
 ghost use Prim.Native.Nat.{ℕ, _+_, _*_, _^_, _≤_, _<_};
+ghost use lib.IntN.{natAbs};
 ghost use Rattle.pair_theory.specs.Alignments.{ThresholdsWithin, DialLimits};
 ghost use Rattle.pair_clearing.specs.Clearing.{SumTables};
-ghost use Rattle.pair_bounds.specs.Ranges.{RememberedWithin, BoundsWithin, NeighboursOnDial, EndsOnDial};
+ghost use Rattle.pair_bounds.specs.Ranges.{RememberedWithin, BoundsWithin, BoundsOnDial, NeighboursOnDial};
 
 // Whether a setting can only rule out a k too small for its l: neither the gate that votes nor the composed pair is 1 on it. Every other
 // setting can only rule out a k too large.
@@ -65,59 +67,137 @@ pub fn remembered(
     }
 }
 
-// How far a number is above another.
-fn gap(x: i32, y: i32) -> f64 {
-    (x as f64) - (y as f64)
+// The fraction between two neighbours that has the smallest terms.
+fn between(pair: Neighbours) -> Fraction
+    requires { ⌜ NeighboursOnDial pair ⌝ }
+    ensures { λ r. ⌜ (r .k ≡ pair .below .k + pair .above .k) × (r .l ≡ pair .below .l + pair .above .l) ⌝ }
+{
+    let below = pair.below;
+    let above = pair.above;
+    Fraction {
+        k: below.k + above.k,
+        l: below.l + above.l,
+    }
 }
 
-// The bounds with one more from above.
-fn at_most(bounds: Bounds, most: f64, setting: usize) -> Bounds
-    ensures { λ r. ⌜ ((n : ℕ) → BoundsWithin n bounds → setting < n → BoundsWithin n r) ⌝ }
+// The neighbours with that fraction in the place of the one with the same sign of k * a + l * c.
+fn nearer(pair: Neighbours, middle: Fraction) -> Neighbours
+    requires { ⌜ NeighboursOnDial pair ⌝ }
+    requires { ⌜ DialLimits (middle .k) (middle .l) ⌝ }
+    requires { ⌜ (middle .k ≡ pair .below .k + pair .above .k) × (middle .l ≡ pair .below .l + pair .above .l) ⌝ }
+    ensures { λ r. ⌜ NeighboursOnDial r ⌝ }
 {
-    if most < bounds.most {
-        return Bounds {
-            most,
-            above: setting,
-            least: bounds.least,
-            below: bounds.below,
+    let below = pair.below;
+    let above = pair.above;
+    let low = pair.low;
+    let high = pair.high;
+    let here = low + high;
+    if (here < 0) == (low < 0) {
+        return Neighbours {
+            below: middle,
+            above,
+            low: here,
+            high,
         };
     }
-    bounds
-}
-
-// The bounds with one more from below.
-fn at_least(bounds: Bounds, least: f64, setting: usize) -> Bounds
-    ensures { λ r. ⌜ ((n : ℕ) → BoundsWithin n bounds → setting < n → BoundsWithin n r) ⌝ }
-{
-    if bounds.least < least {
-        return Bounds {
-            most: bounds.most,
-            above: bounds.above,
-            least,
-            below: setting,
-        };
+    Neighbours {
+        below,
+        above: middle,
+        low,
+        high: here,
     }
-    bounds
 }
 
-// The bounds with that of one setting more, from its two sums. As l is at most 32, k * a + l * c < 0 is k / l <= -(32 * c + 1) / (32 * a)
-// where a is positive, and k / l >= -(32 * c + 1) / (32 * a) where it is negative.
-fn bounded(bounds: Bounds, thresholds: Thresholds, su: i32, sv: i32, setting: usize) -> Bounds
-    ensures { λ r. ⌜ ((n : ℕ) → BoundsWithin n bounds → setting < n → BoundsWithin n r) ⌝ }
+// The fractions on the dial between which k * a + l * c changes its sign.
+fn neighbours(a: i32, c: i32) -> Neighbours
+    requires { ⌜ (natAbs a ≤ 18000000) × (natAbs c ≤ 18000000) ⌝ }
+    ensures { λ r. ⌜ NeighboursOnDial r ⌝ }
 {
-    if su >= thresholds.own {
-        if sv >= thresholds.on {
-            return bounds;
+    let below = Fraction { k: 0, l: 1 };
+    let above = Fraction { k: 1, l: 0 };
+    let mut pair = Neighbours {
+        below,
+        above,
+        low: c,
+        high: a,
+    };
+    for _ in 0..64u32 {
+        let middle = between(pair);
+        if 32 < middle.k {
+            return pair;
         }
-        let most = (32.0 * gap(thresholds.on, sv) - 1.0) / gap(su, thresholds.own);
-        return at_most(bounds, most, setting);
+        if 32 < middle.l {
+            return pair;
+        }
+        pair = nearer(pair, middle);
     }
-    let a = gap(thresholds.own, su);
-    let c = 32.0 * gap(sv, thresholds.on);
-    if sv >= thresholds.off {
-        return at_most(bounds, c / a, setting);
+    pair
+}
+
+// k * a + l * c, with a fraction's terms.
+fn value(fraction: Fraction, a: i32, c: i32) -> i32
+    requires { ⌜ DialLimits (fraction .k) (fraction .l) ⌝ }
+    requires { ⌜ (natAbs a ≤ 18000000) × (natAbs c ≤ 18000000) ⌝ }
+{
+    (fraction.k as i32) * a + (fraction.l as i32) * c
+}
+
+// The bounds with one more from below, by a setting that asks for k * a + l * c < 0.
+fn at_least(bounds: Bounds, a: i32, c: i32, setting: usize) -> Bounds
+    requires { ⌜ BoundsOnDial bounds ⌝ }
+    requires { ⌜ (natAbs a ≤ 18000000) × (natAbs c ≤ 18000000) ⌝ }
+    ensures { λ r. ⌜ BoundsOnDial r ⌝ }
+    ensures { λ r. ⌜ ((n : ℕ) → BoundsWithin n bounds → setting < n → BoundsWithin n r) ⌝ }
+{
+    if value(bounds.least, a, c) < 0 {
+        return bounds;
     }
-    at_least(bounds, (c + 1.0) / a, setting)
+    let pair = neighbours(a, c);
+    let least = pair.above;
+    let most = bounds.most;
+    Bounds {
+        least,
+        below: setting,
+        most,
+        above: bounds.above,
+    }
+}
+
+// The bounds with one more from above, by a setting that asks for the sign of c.
+fn at_most(bounds: Bounds, a: i32, c: i32, setting: usize) -> Bounds
+    requires { ⌜ BoundsOnDial bounds ⌝ }
+    requires { ⌜ (natAbs a ≤ 18000000) × (natAbs c ≤ 18000000) ⌝ }
+    ensures { λ r. ⌜ BoundsOnDial r ⌝ }
+    ensures { λ r. ⌜ ((n : ℕ) → BoundsWithin n bounds → setting < n → BoundsWithin n r) ⌝ }
+{
+    if (value(bounds.most, a, c) < 0) == (c < 0) {
+        return bounds;
+    }
+    let pair = neighbours(a, c);
+    let least = bounds.least;
+    let most = pair.below;
+    Bounds {
+        least,
+        below: bounds.below,
+        most,
+        above: setting,
+    }
+}
+
+// The bounds with that of one setting more, from its two sums.
+fn bounded(bounds: Bounds, reach: Thresholds, su: i32, sv: i32, setting: usize) -> Bounds
+    requires { ⌜ BoundsOnDial bounds ⌝ }
+    requires { ⌜ ThresholdsWithin 10000000 reach ⌝ }
+    requires { ⌜ (natAbs su ≤ 8000000) × (natAbs sv ≤ 8000000) ⌝ }
+    ensures { λ r. ⌜ BoundsOnDial r ⌝ }
+    ensures { λ r. ⌜ ((n : ℕ) → BoundsWithin n bounds → setting < n → BoundsWithin n r) ⌝ }
+{
+    let a = su - reach.own;
+    let c = sv - reach.on;
+    if (a < 0) & (sv < reach.off) {
+        return at_least(bounds, a, c, setting);
+    }
+    at_most(bounds, a, c, setting)
 }
 
 // The bounds with those of the settings with one setting of the high half.
@@ -129,8 +209,12 @@ fn bounded_by_block(
     high: usize,
     lows: usize,
 ) -> Bounds
+    requires { ⌜ SumTables (now «sums_u») (now «sums_v») ⌝ }
+    requires { ⌜ ThresholdsWithin 10000000 reach ⌝ }
+    requires { ⌜ BoundsOnDial known ⌝ }
     requires { ⌜ high < 256 ⌝ }
     requires { ⌜ lows ≤ 256 ⌝ }
+    ensures { λ r. ⌜ BoundsOnDial r ⌝ }
     ensures { λ r. ⌜ ((n : ℕ) → BoundsWithin n known → ((j : ℕ) → j < lows → 256 * high + j < n) → BoundsWithin n r) ⌝ }
 {
     let mut bounds = known;
@@ -140,83 +224,12 @@ fn bounded_by_block(
     bounds
 }
 
-// A number of at most 64.
-fn number(n: usize) -> f64
-    requires { ⌜ n ≤ 64 ⌝ }
+// Whether no more than one k / l is left.
+fn closed(bounds: Bounds) -> bool
+    requires { ⌜ BoundsOnDial bounds ⌝ }
 {
-    (n as u32) as f64
-}
-
-// The fraction between two neighbours that has the smallest terms.
-fn between(pair: Neighbours) -> Fraction
-    requires { ⌜ NeighboursOnDial pair ⌝ }
-    ensures { λ r. ⌜ (r .k ≤ 64) × (r .l ≤ 64) ⌝ }
-{
-    let below = pair.below;
-    let above = pair.above;
-    Fraction {
-        k: below.k + above.k,
-        l: below.l + above.l,
-    }
-}
-
-// The neighbours with that fraction in the place of one, so that x / 32 stays between them.
-fn nearer(pair: Neighbours, middle: Fraction, x: f64) -> Neighbours
-    requires { ⌜ NeighboursOnDial pair ⌝ }
-    requires { ⌜ DialLimits (middle .k) (middle .l) ⌝ }
-    ensures { λ r. ⌜ NeighboursOnDial r ⌝ }
-{
-    let below = pair.below;
-    let above = pair.above;
-    if 32.0 * number(middle.k) < x * number(middle.l) {
-        return Neighbours {
-            below: middle,
-            above,
-        };
-    }
-    Neighbours {
-        below,
-        above: middle,
-    }
-}
-
-// The fractions with terms on the dial beside x / 32: the greatest below it, and the least that is not.
-fn neighbours(x: f64) -> Neighbours
-    ensures { λ r. ⌜ NeighboursOnDial r ⌝ }
-{
-    let below = Fraction { k: 0, l: 1 };
-    let above = Fraction { k: 1, l: 0 };
-    let mut pair = Neighbours { below, above };
-    for _ in 0..64usize {
-        let middle = between(pair);
-        if 32 < middle.k {
-            return pair;
-        }
-        if 32 < middle.l {
-            return pair;
-        }
-        pair = nearer(pair, middle, x);
-    }
-    pair
-}
-
-// The ends of what the bounds leave of the dial. A bound that is a fraction on the dial is one of them, whatever was rounded.
-fn ends_within(bounds: Bounds) -> Ends
-    ensures { λ r. ⌜ EndsOnDial r ⌝ }
-{
-    let low = neighbours(bounds.least - 0.0000000001);
-    let high = neighbours(bounds.most + 0.0000000001);
-    let least = low.above;
-    let most = high.below;
-    Ends { least, most }
-}
-
-// Whether no more than one k / l is left between the ends.
-fn closed(ends: Ends) -> bool
-    requires { ⌜ EndsOnDial ends ⌝ }
-{
-    let least = ends.least;
-    let most = ends.most;
+    let least = bounds.least;
+    let most = bounds.most;
     most.k * least.l <= least.k * most.l
 }
 
@@ -226,7 +239,13 @@ fn mixed_by(sums_u: &[i32; 512], sums_v: &[i32; 512], fraction: Fraction, lows: 
     requires { ⌜ DialLimits (fraction .k) (fraction .l) ⌝ }
     requires { ⌜ lows ≤ 256 ⌝ }
 {
-    mixed_sums(sums_u, sums_v, fraction.k, fraction.l, lows)
+    mixed_sums(
+        sums_u,
+        sums_v,
+        fraction.k as usize,
+        fraction.l as usize,
+        lows,
+    )
 }
 
 // Its threshold.
@@ -234,7 +253,7 @@ fn threshold_by(reach: Thresholds, fraction: Fraction) -> i32
     requires { ⌜ ThresholdsWithin 10000000 reach ⌝ }
     requires { ⌜ DialLimits (fraction .k) (fraction .l) ⌝ }
 {
-    merged_threshold(reach, fraction.k, fraction.l)
+    merged_threshold(reach, fraction.k as usize, fraction.l as usize)
 }
 
 // Whether some setting with one setting of the high half can rule out an end, by the ends between which sums lie.
@@ -294,14 +313,14 @@ fn next_step(
     sums_u: &[i32; 512],
     sums_v: &[i32; 512],
     thresholds: Thresholds,
-    ends: Ends,
+    bounds: Bounds,
     from: usize,
     highs: usize,
     lows: usize,
 ) -> usize
     requires { ⌜ SumTables (now «sums_u») (now «sums_v») ⌝ }
     requires { ⌜ ThresholdsWithin 2000000 thresholds ⌝ }
-    requires { ⌜ EndsOnDial ends ⌝ }
+    requires { ⌜ BoundsOnDial bounds ⌝ }
     requires { ⌜ highs ≤ 256 ⌝ }
     requires { ⌜ (0 < lows) × (lows ≤ 256) ⌝ }
     ensures { λ r. ⌜ (from ≤ r) ⌝ }
@@ -309,16 +328,16 @@ fn next_step(
     if highs <= from {
         return from;
     }
-    let mixes_least = mixed_by(sums_u, sums_v, ends.least, lows);
-    let mixes_most = mixed_by(sums_u, sums_v, ends.most, lows);
+    let mixes_least = mixed_by(sums_u, sums_v, bounds.least, lows);
+    let mixes_most = mixed_by(sums_u, sums_v, bounds.most, lows);
     let span_u = span(sums_u, lows);
     let span_v = span(sums_v, lows);
     let span_least = span(&mixes_least, lows);
     let span_most = span(&mixes_most, lows);
     for step in from..highs {
         let reach = low_thresholds(sums_u, sums_v, thresholds, high_at(step, highs));
-        let least = threshold_by(reach, ends.least);
-        let most = threshold_by(reach, ends.most);
+        let least = threshold_by(reach, bounds.least);
+        let most = threshold_by(reach, bounds.most);
         if !may_differ(reach, least, most, span_u, span_v, span_least, span_most) {
             continue;
         }
@@ -364,22 +383,23 @@ pub fn tightest(
     let high_count = high_feeds(count);
     let highs = settings(high_count);
     let lows = settings(count - high_count);
+    let least = Fraction { k: 1, l: 32 };
+    let most = Fraction { k: 32, l: 1 };
     let mut bounds = Bounds {
-        most: 1024.0,
-        above: 0,
-        least: 1.0,
+        least,
         below: 0,
+        most,
+        above: 0,
     };
     let mut step: usize = 0;
     while step < highs {
         let high = high_at(step, highs);
         let reach = low_thresholds(sums_u, sums_v, thresholds, high);
         bounds = bounded_by_block(sums_u, sums_v, reach, bounds, high, lows);
-        let ends = ends_within(bounds);
-        if closed(ends) {
+        if closed(bounds) {
             return settings_of(bounds);
         }
-        step = next_step(sums_u, sums_v, thresholds, ends, step + 1, highs, lows);
+        step = next_step(sums_u, sums_v, thresholds, bounds, step + 1, highs, lows);
     }
     settings_of(bounds)
 }

@@ -1,4 +1,4 @@
--- No product of two terms on the dial leaves 64 bits. Assumes nothing.
+-- No product of two terms on the dial leaves 32 bits. Assumes nothing.
 use native.Mathlib.Nat.{mul-le-mul}
 use native.Mathlib.Omega.{arith}
 use borrow.Author.Needs.{needs}

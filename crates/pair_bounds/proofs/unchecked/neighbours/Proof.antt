@@ -6,10 +6,10 @@ use Rattle.pair_bounds.proofs.unchecked.neighbours.Statement.{statement
 use Rattle.pair_bounds.proofs.unchecked.neighbours.Tie as tie
 
 abbrev Inv-loop : tie.InvT-loop
-Inv-loop x pair₀ counter₀ pair counter = (counter ≤ 64) × NeighboursOnDial pair
+Inv-loop a c pair₀ counter₀ pair counter = (counter ≤ 64) × NeighboursOnDial pair
 
 abbrev μ-loop : tie.MeasureT-loop
-μ-loop x pair₀ counter₀ pair counter = 64 - counter
+μ-loop a c pair₀ counter₀ pair counter = 64 - counter
 
 pub neighbours-spec : {M : Type 1} → statement M
 neighbours-spec =

@@ -9,10 +9,10 @@ use Rattle.pair_bounds.proofs.unchecked.next_step.Statement.{statement}
 use Rattle.pair_bounds.proofs.unchecked.next_step.Tie as tie
 
 abbrev Inv-loop : tie.InvT-loop
-Inv-loop sums-u sums-v thresholds ends from highs lows mixes-least mixes-most span-u span-v span-least span-most step₀ step = from ≤ step
+Inv-loop sums-u sums-v thresholds bounds from highs lows mixes-least mixes-most span-u span-v span-least span-most step₀ step = from ≤ step
 
 abbrev μ-loop : tie.MeasureT-loop
-μ-loop sums-u sums-v thresholds ends from highs lows mixes-least mixes-most span-u span-v span-least span-most step₀ step = highs - step
+μ-loop sums-u sums-v thresholds bounds from highs lows mixes-least mixes-most span-u span-v span-least span-most step₀ step = highs - step
 
 -- where the sums' ends are known, and a turn
 abbrev Measured : Type 0
