@@ -4,6 +4,7 @@ use mathlib.Core.Path.{_≡_, refl, _∙_}
 use mathlib.Core.Bool.{Bool, true, false}
 use mathlib.Core.List.{List, [], _∷_, _++_, map}
 use Prim.Native.Nat.{ℕ, zero, suc, _+_, _-_, _≤_, _<_}
+use native.Mathlib.Decide.{decLt}
 use native.Mathlib.Numerals.{add-one}
 use native.Mathlib.Omega.{arith}
 use Rattle.basics.specs.Lists.{range}
@@ -61,13 +62,30 @@ module _ (q : Pair → Bool) (c : ℕ) where
   unfolding first
   first-miss s k h e = rw (left-step s k h, e)
 
-  pub first-past : (s k : ℕ) → s ≤ k → first q (left s (k + 1)) c ≡ first q (left s k) c
+  first-past : (s k : ℕ) → s ≤ k → first q (left s (k + 1)) c ≡ first q (left s k) c
   first-past s k h = rw (left-over s k h, left-over s (k + 1) (omega arith))
 
-  -- no k from here on is taken
-  first-skip : (n s k : ℕ) → s - k ≡ n → ((j : ℕ) → k ≤ j → q (pairAt s j) ≡ false) → first q (later (s + 1)) c ≡ first q (left s k) c
-  first-skip zero s k e none = rw (add-one, left-over s k (omega arith))
-  first-skip (suc n) s k e none = first-skip n s (k + 1) (omega arith) (λ j h. none j (omega arith)) ∙ first-miss s k (omega arith) (none k (omega arith))
+  -- the k up to m are not taken
+  first-rest : (n s k m : ℕ) → m - k ≡ n → k ≤ m → ((j : ℕ) → k ≤ j → j < m → j < s → q (pairAt s j) ≡ false) → first q (left s m) c ≡ first q (left s k) c
+  first-rest zero s k m e h none = let same : m ≡ k = omega arith in rw same
+  first-rest (suc n) s k m e h none =
+      let more = first-rest n s (k + 1) m (omega arith) (omega arith) (λ j a b. none j (omega arith) b) in
+      elim (decLt k s) as (λ d. first q (left s m) c ≡ first q (left s k) c) [
+        | yes l ↦ more ∙ first-miss s k l (none k (omega arith) (omega arith) l)
+        | no l ↦ more ∙ first-past s k (omega arith)
+      ]
 
-  pub first-next : (s k : ℕ) → ((j : ℕ) → k ≤ j → q (pairAt s j) ≡ false) → first q (later (s + 1)) c ≡ first q (left s k) c
+  pub first-from : (s k m : ℕ) → k ≤ m → ((j : ℕ) → k ≤ j → j < m → j < s → q (pairAt s j) ≡ false) → first q (left s m) c ≡ first q (left s k) c
+  first-from s k m = first-rest (m - k) s k m refl
+
+  -- no k from here on is taken
+  pub first-over : (s k : ℕ) → s ≤ k → first q (later (s + 1)) c ≡ first q (left s k) c
+  first-over s k h = rw (add-one, left-over s k h)
+
+  first-skip : (n s k : ℕ) → s - k ≡ n → ((j : ℕ) → k ≤ j → j < s → q (pairAt s j) ≡ false) → first q (later (s + 1)) c ≡ first q (left s k) c
+  first-skip zero s k e none = first-over s k (omega arith)
+  first-skip (suc n) s k e none =
+      first-skip n s (k + 1) (omega arith) (λ j h l. none j (omega arith) l) ∙ first-miss s k (omega arith) (none k (omega arith) (omega arith))
+
+  pub first-next : (s k : ℕ) → ((j : ℕ) → k ≤ j → j < s → q (pairAt s j) ≡ false) → first q (later (s + 1)) c ≡ first q (left s k) c
   first-next s k = first-skip (s - k) s k refl
