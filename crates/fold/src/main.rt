@@ -1,22 +1,23 @@
 // fold: reads a PMN file on standard input, sweeps its network with B = 128, and prints gates, cost and levels before and after, the
 // number of collapses, and the question for before and after. A refused file prints only its number. The work is done by proved
 // libraries; this program reads, calls and writes.
+mod output;
+
 use journal::Record;
 use libc::STDIN_FILENO;
+use output::number;
+use output::text;
 use pmn_format::LONGEST_FILE;
-use program_output::end;
-use program_output::first;
-use program_output::labelled;
-use program_output::number;
 
 // One byte more than the longest file has is enough to see that a file is longer.
 const INPUT_LENGTH: usize = LONGEST_FILE + 1;
 
 // A line of the report: a figure before and after.
 fn figures(name: &[u8], before: u64, after: u64) {
-    labelled(name, before);
+    text(name);
+    number(before);
     number(after);
-    end();
+    text(b"\n");
 }
 
 // The size of a network before and after.
@@ -28,6 +29,15 @@ fn sizes(before: Record, after: Record) {
     figures(b"levels", was.levels as u64, is.levels as u64);
 }
 
+// The first bytes of a line, or false where it has fewer.
+fn print_first(line: &[u8], length: usize) -> bool {
+    if line.len() < length {
+        return false;
+    }
+    text(&line[0..length]);
+    true
+}
+
 // Line n of the question, or false past the last.
 fn question_line(before: Record, after: Record, n: usize) -> bool {
     let mut line = [0u8; 254];
@@ -35,9 +45,7 @@ fn question_line(before: Record, after: Record, n: usize) -> bool {
     if written.code != 0 {
         return false;
     }
-    let length = written.length;
-    first(&line, length);
-    true
+    print_first(&line, written.length)
 }
 
 // Every line of the question: two networks have at most 545.
@@ -53,8 +61,9 @@ fn whole_question(before: Record, after: Record) {
 
 // A word and a number on a line.
 fn told(word: &[u8], n: u64) {
-    labelled(word, n);
-    end();
+    text(word);
+    number(n);
+    text(b"\n");
 }
 
 // The whole report for a file.

@@ -1,4 +1,4 @@
-// Internal: the PMN file, versions 1 and 2, as a list of bytes: definitions and their laws, in specs/. The only code is lengths.
+// The PMN file, versions 1 and 2, as a list of bytes: definitions and their laws, in specs/. The only code is lengths.
 ghost use mathlib.Core.Path.{_≡_};
 ghost use mathlib.Core.Bool.{cond};
 ghost use lib.Dec.{eqb};

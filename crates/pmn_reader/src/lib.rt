@@ -2,7 +2,7 @@
 use basics::wide;
 use network::Network;
 use pmn_format::header_length;
-use pmn_header::read_head;
+use pmn_header::unchecked::read_head;
 use pmn_part::unchecked::gate_bytes;
 use unchecked::read_body;
 use unchecked::refuse;

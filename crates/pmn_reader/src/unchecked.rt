@@ -7,7 +7,7 @@ use network::Network;
 use network::blank;
 use network_limits::is_gate;
 use network_places::unchecked::store_gate;
-use pmn_gate::read_gate;
+use pmn_gate::unchecked::read_gate;
 use pmn_header::HeadRead;
 ghost use mathlib.Core.Path.{_≡_};
 ghost use mathlib.Core.List.{[]};
