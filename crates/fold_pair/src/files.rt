@@ -1,4 +1,5 @@
-// The pair on a whole file.
+// The pair on a whole file. The record that was read is sound, and not tested again.
+use crate::unchecked::pair_sound;
 use pmn_opening::unchecked::places::put_two;
 use pmn_opening::unchecked::refusal;
 ghost use mathlib.Core.Path.{_≡_};
@@ -16,6 +17,6 @@ pub fn pair_of_file(file: &[u8], u: u64, v: u64, answer: &mut [u64]) -> u8
     if code != 0 {
         return code;
     }
-    let found = crate::pair(loaded.network, u as usize, v as usize);
+    let found = pair_sound(loaded.network, u as usize, v as usize);
     put_two(answer, found.code, found.k as u64, found.l as u64)
 }

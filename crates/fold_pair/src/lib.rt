@@ -2,12 +2,10 @@
 pub mod files;
 pub mod unchecked;
 
-use fold_edges::unchecked::aligned_at;
-use fold_edges::unchecked::edge_code;
 use network::Network;
 use network_soundness::is_sound;
 use unchecked::no_pair;
-use unchecked::pair_of;
+use unchecked::pair_sound;
 ghost use mathlib.Core.Path.{_≡_};
 ghost use Rattle.fold_pair.specs.Answers.{pairFound};
 
@@ -26,32 +24,5 @@ pub fn pair(network: Network, u: usize, v: usize) -> PairFound
     if !is_sound(network) {
         return no_pair(20);
     }
-    let inputs = network.inputs;
-    let gates = network.gates;
-    let code = edge_code(
-        &network.fanins,
-        &network.thresholds,
-        &network.signals,
-        &network.weights,
-        inputs,
-        gates,
-        u,
-        v,
-    );
-    if code != 0 {
-        return no_pair(code);
-    }
-    let board = network.board;
-    let a = aligned_at(
-        board,
-        &network.fanins,
-        &network.thresholds,
-        &network.signals,
-        &network.weights,
-        inputs,
-        gates,
-        u,
-        v,
-    );
-    pair_of(a)
+    pair_sound(network, u, v)
 }

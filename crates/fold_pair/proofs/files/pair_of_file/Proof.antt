@@ -3,7 +3,7 @@ use borrow.Author.Needs.{needs}
 use mathlib.Core.List.{[], _∷_}
 use Rattle.basics.specs.RefusalLaws.{refused-one}
 use Rattle.pmn_opening.specs.AnswerLaws.{placed}
-use Rattle.pmn_opening.specs.OpeningLaws.{open-refused}
+use Rattle.pmn_opening.specs.OpeningLaws.{open-refused, file-sound}
 use Rattle.fold_pair.specs.Files.{pairPlaces}
 use Rattle.fold_pair.specs.FileLaws.{pair-answer}
 use Rattle.fold_pair.proofs.files.pair_of_file.Statement.{statement}
@@ -16,12 +16,15 @@ returns : tie.Need-returns
 unfolding pairPlaces
 returns c = refused-one (c .before .before .before .before .before .args .answer .now) (open-refused (c .before .refusal .ensures) _ (c .if1 .taken))
 
+pair-sound-requires : tie.Need-pair-sound-requires
+pair-sound-requires c κs = file-sound (c .before .refusal .ensures .gives (c .if1 .left))
+
 put-two-requires : tie.Need-put-two-requires
 put-two-requires c κs = let s = c .before .before in s .before .refusal .ensures .gives (s .if1 .left) .room
 
 returns-2 : tie.Need-returns-2
 returns-2 c =
-    let p = c .before .before .before .before .pair in
+    let p = c .before .before .before .before .pair-sound in
     let s = c .before .before .before .before .before in
     let a = s .before .before .before .before .before .args in
     placed (p .result .code) (p .result .k ∷ p .result .l ∷ []) (a .answer .now)
@@ -34,7 +37,7 @@ pair-of-file-spec =
     (λ c κs. search needs)
     refusal-requires
     returns
-    (λ c κs. search needs)
+    pair-sound-requires
     put-two-requires
     (λ c. search needs)
     returns-2)
