@@ -8,7 +8,7 @@ use libc::{STDIN_FILENO, STDOUT_FILENO};
 
 // Where the work stands: the totals so far, the bytes of the input from `from` to `end` that are not listed yet, whether the file's last
 // byte is among them, the first `used` bytes of the output that are not written yet, and whether no lane is left.
-#[derive(Drop)]
+#[derive(Clone, Copy)]
 struct Place {
     totals: Totals,
     from: usize,

@@ -1,7 +1,7 @@
 // The sheet of an alley: definitions, claims and laws, in specs/. The only code is the types of what is listed.
 
 // What is listed of a lane: 0 and its gates and cost, or the number of its refusal and 0.
-#[derive(Drop)]
+#[derive(Clone, Copy)]
 pub struct Entry {
     pub code: u8,
     pub gates: u64,
@@ -9,7 +9,7 @@ pub struct Entry {
 }
 
 // The sheet so far: the number of lanes listed, refused ones too, and both sums.
-#[derive(Drop)]
+#[derive(Clone, Copy)]
 pub struct Totals {
     pub lanes: usize,
     pub gates: u64,
@@ -18,7 +18,7 @@ pub struct Totals {
 
 // What `list_lane` answers: 0 or the refusal, how many bytes the lane takes (0 for no lane), the length of its line with the line feed, what
 // is listed of it, and the totals after it.
-#[derive(Drop)]
+#[derive(Clone, Copy)]
 pub struct Listed {
     pub code: u8,
     pub taken: usize,
@@ -28,14 +28,14 @@ pub struct Listed {
 }
 
 // What `total_line` answers: 0 or the refusal, and the line's length with its line feed.
-#[derive(Drop)]
+#[derive(Clone, Copy)]
 pub struct LineWritten {
     pub code: u8,
     pub length: usize,
 }
 
 // How many bytes a lane takes with its length, 0 for no lane; and whether it is whole or cut short.
-#[derive(Drop)]
+#[derive(Clone, Copy)]
 pub struct Found {
     pub taken: usize,
     pub complete: bool,

@@ -3,7 +3,7 @@
 
 // One call of a list: a merge (u, v, k, l), a drop or a collapse (a signal), a sweep (B), a preview (the signal of the gate to collapse), or an
 // undo.
-#[derive(Drop)]
+#[derive(Clone, Copy)]
 pub enum Call {
     Merge {
         u: usize,
@@ -28,7 +28,7 @@ pub enum Call {
 
 // The three numbers that a call of a list gives beside its code: a sweep gives the number of its collapses, 0 and 0; a preview gives gates,
 // cost and levels; every other call gives 0, 0 and 0.
-#[derive(Drop)]
+#[derive(Clone, Copy)]
 pub struct Figures {
     pub first: u64,
     pub second: u64,

@@ -27,7 +27,7 @@ fn frame_of(ball: u8) -> u64 {
 }
 
 // The frames after the balls of a game: how many, and each.
-#[derive(Drop)]
+#[derive(Clone, Copy)]
 struct Balls {
     balls: usize,
     frames: [u64; 32],

@@ -40,7 +40,7 @@ fn with_digit(number: usize, byte: u8) -> usize {
 }
 
 // A number of the script, and the place after it.
-#[derive(Drop)]
+#[derive(Clone, Copy)]
 pub(crate) struct Number {
     pub(crate) value: usize,
     pub(crate) end: usize,

@@ -2,7 +2,7 @@
 pub mod unchecked;
 
 // What reading frames met: whether some output's two signals are apart on a frame, and that frame.
-#[derive(Drop)]
+#[derive(Clone, Copy)]
 pub struct Met {
     pub found: bool,
     pub frame: u64,

@@ -4,7 +4,7 @@ pub mod unchecked;
 
 // What came of it: whether both signals of each output are shown to have one bit; if they are not, a frame worth reading; and what is left of the
 // budget.
-#[derive(Drop)]
+#[derive(Clone, Copy)]
 pub struct Outcome {
     pub matched: bool,
     pub frame: u64,
@@ -12,7 +12,7 @@ pub struct Outcome {
 }
 
 // A pair of signals tried: whether what reads the one reads the other now, and what is left of the budget.
-#[derive(Drop)]
+#[derive(Clone, Copy)]
 pub(crate) struct Tried {
     pub merged: bool,
     pub left: u64,

@@ -10,7 +10,7 @@ use unchecked::{compare_sound, refusal};
 
 // What `compare` answers: 0 or the refusal; the verdict, 0 alike, 1 apart and 2 undecided; a frame on which the output bits differ, if they are
 // apart; and the steps used. With a refusal the other numbers are 0.
-#[derive(Drop)]
+#[derive(Clone, Copy)]
 pub struct Compared {
     pub code: u8,
     pub verdict: u8,
@@ -20,7 +20,7 @@ pub struct Compared {
 
 // What is settled of the outputs' signals: the verdict, a frame on which some output's two signals are apart if it is 1, and what is left of the
 // budget.
-#[derive(Drop)]
+#[derive(Clone, Copy)]
 pub struct Found {
     pub verdict: u8,
     pub frame: u64,

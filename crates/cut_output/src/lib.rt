@@ -8,7 +8,7 @@ use journal::Record;
 use unchecked::cut_sound;
 
 // What `cut` answers: 0 or the refusal, and the record of the cut, whose journal is empty; the record that came in on refusal.
-#[derive(Drop)]
+#[derive(Clone, Copy)]
 pub struct CutAnswer {
     pub code: u8,
     pub after: Record,

@@ -11,7 +11,7 @@ use network_soundness::is_sound;
 use unchecked::{listed, no_feeds};
 
 // What `distinct_feeds` answers: 0 or the refusal, the number of distinct feeds, and their signals, rising. Spare places hold 0.
-#[derive(Drop)]
+#[derive(Clone, Copy)]
 pub struct DistinctFeeds {
     pub code: u8,
     pub count: usize,

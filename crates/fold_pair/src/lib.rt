@@ -10,7 +10,7 @@ use network_soundness::is_sound;
 use unchecked::{no_pair, pair_sound};
 
 // What `pair` answers: 0 or the refusal, and the two multipliers.
-#[derive(Drop)]
+#[derive(Clone, Copy)]
 pub struct PairFound {
     pub code: u8,
     pub k: usize,

@@ -4,7 +4,7 @@ pub mod unchecked;
 use fold_reader_pairs::Pairs;
 
 // The gate that a sweep folds next, by its signal, and the pairs of its readers; found is false where no gate is left to fold.
-#[derive(Drop)]
+#[derive(Clone, Copy)]
 pub struct Choice {
     pub found: bool,
     pub u: usize,

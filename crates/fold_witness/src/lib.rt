@@ -10,7 +10,7 @@ use network_soundness::is_sound;
 use unchecked::{none, witness_of};
 
 // What `witness` answers: the merge's own number, and the setting where that is 15; else there is none, and `setting` is 0.
-#[derive(Drop)]
+#[derive(Clone, Copy)]
 pub struct Witnessed {
     pub code: u8,
     pub setting: usize,

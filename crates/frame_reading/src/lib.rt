@@ -9,7 +9,7 @@ use network_soundness::is_sound;
 use unchecked::{read_sound, refused};
 
 // What reading a frame answers: 0 or the refusal, the output bits (output j in bit j), and how many of them are 1.
-#[derive(Drop)]
+#[derive(Clone, Copy)]
 pub struct Reading {
     pub code: u8,
     pub bits: u64,

@@ -36,7 +36,7 @@ use three_feeds::TableEntry;
 use three_feeds_part::MaskPart;
 
 // What `read` answers: 0 or the refusal, and the record; that of the blank network on refusal.
-#[derive(Drop)]
+#[derive(Clone, Copy)]
 pub struct Opened {
     pub code: u8,
     pub held: Record,

@@ -10,7 +10,7 @@ use network::Network;
 
 // A journal: the number of steps, and for each of 64 places its kind (0 a merge, else a drop), its signal, and the gate that stood there: feed
 // count, threshold, and 16 feed places. The newest step stands at place 0, step i's feed f at place 16 i + f; spare places hold 0.
-#[derive(Drop)]
+#[derive(Clone, Copy)]
 pub struct Journal {
     pub count: usize,
     pub kinds: [u8; 64],
@@ -22,14 +22,14 @@ pub struct Journal {
 }
 
 // A record: a network, and the journal of the steps that led to it.
-#[derive(Drop)]
+#[derive(Clone, Copy)]
 pub struct Record {
     pub network: Network,
     pub journal: Journal,
 }
 
 // What a call of a list answers: 0 or the refusal, the record that it leaves, and its three numbers.
-#[derive(Drop)]
+#[derive(Clone, Copy)]
 pub struct CallAnswer {
     pub code: u8,
     pub after: Record,
@@ -38,7 +38,7 @@ pub struct CallAnswer {
 
 // What a call of a list answers where the arrays of its record are lent: 0 or the refusal, the numbers of gates and of steps that it leaves, and its
 // three numbers.
-#[derive(Drop)]
+#[derive(Clone, Copy)]
 pub struct CallLeft {
     pub code: u8,
     pub gates: usize,

@@ -5,7 +5,7 @@ ghost use Rattle.network_report.specs.Size.{reported};
 use network::Network;
 
 // What `report` answers: 0 or the refusal, the number of gates, the cost and the levels.
-#[derive(Drop)]
+#[derive(Clone, Copy)]
 pub struct SizeReport {
     pub code: u8,
     pub gates: usize,

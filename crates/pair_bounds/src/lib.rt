@@ -2,14 +2,14 @@
 // for what `unchecked` says.
 
 // Two settings that rule candidates out, which are tried before all others.
-#[derive(Drop)]
+#[derive(Clone, Copy)]
 pub struct Remembered {
     pub last: usize,
     pub earlier: usize,
 }
 
 // A fraction k / l with terms on the dial; 1 / 0 is above all others.
-#[derive(Drop)]
+#[derive(Clone, Copy)]
 pub struct Fraction {
     pub k: u32,
     pub l: u32,
@@ -17,7 +17,7 @@ pub struct Fraction {
 
 // The least and the greatest k / l on the dial that no setting seen rules out, and the settings that rule out what is below the one and what is
 // above the other.
-#[derive(Drop)]
+#[derive(Clone, Copy)]
 pub struct Bounds {
     pub least: Fraction,
     pub below: usize,
@@ -27,7 +27,7 @@ pub struct Bounds {
 
 // Two fractions, with no other between them that has smaller terms than both together, and k * a + l * c at each: `low`
 // and `high`.
-#[derive(Drop)]
+#[derive(Clone, Copy)]
 pub struct Neighbours {
     pub below: Fraction,
     pub above: Fraction,

@@ -1,7 +1,7 @@
 // The pair search on two gates by their distinct feeds. Document 01, "Pair". Its calls ask for what `unchecked` says.
 
 // The pair that a search found, k and l, or that there is none.
-#[derive(Drop)]
+#[derive(Clone, Copy)]
 pub enum Found {
     At(usize, usize),
     Nothing,

@@ -1,7 +1,7 @@
 // The least and the greatest sum of a block of settings, on two gates by their distinct feeds. Its calls ask for what `unchecked` says.
 
 // The least and the greatest of some sums.
-#[derive(Drop)]
+#[derive(Clone, Copy)]
 pub struct Span {
     pub least: i32,
     pub most: i32,

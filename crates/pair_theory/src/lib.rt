@@ -3,7 +3,7 @@ use fold_theory::Thresholds;
 
 // The number of distinct feeds, the first 16 of them, the weights on each of the gate that votes (u, or its complement) and of v, and the
 // two gates' thresholds with the board. Spare places hold 0.
-#[derive(Drop)]
+#[derive(Clone, Copy)]
 pub struct Alignment {
     pub count: usize,
     pub signals: [u8; 16],

@@ -2,7 +2,7 @@
 // says.
 
 // The setting that a pass found, or that there is none.
-#[derive(Drop)]
+#[derive(Clone, Copy)]
 pub enum Unclear {
     At(usize),
     Nowhere,

@@ -10,7 +10,7 @@ use pmn_opening::unchecked::refusal;
 use unchecked::convert_sound;
 
 // What `convert` answers: 0 or the refusal, and the length of the new file.
-#[derive(Drop)]
+#[derive(Clone, Copy)]
 pub struct Converted {
     pub code: u8,
     pub length: usize,

@@ -4,14 +4,14 @@ use network::GateRecord;
 pub mod unchecked;
 
 // A feed, or the refusal.
-#[derive(Drop)]
+#[derive(Clone, Copy)]
 pub enum FeedRead {
     Bad(u8),
     Got { signal: u8, weight: i32 },
 }
 
 // A gate, in the form of its 16 places.
-#[derive(Drop)]
+#[derive(Clone, Copy)]
 pub struct GateRead {
     pub code: u8,
     pub next: usize,

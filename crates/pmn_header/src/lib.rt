@@ -5,7 +5,7 @@ use network::Board;
 pub mod unchecked;
 
 // The header: the board and the counts.
-#[derive(Drop)]
+#[derive(Clone, Copy)]
 pub struct HeadRead {
     pub code: u8,
     pub next: usize,
@@ -16,7 +16,7 @@ pub struct HeadRead {
 }
 
 // The board.
-#[derive(Drop)]
+#[derive(Clone, Copy)]
 pub struct BoardRead {
     pub code: u8,
     pub next: usize,
@@ -24,7 +24,7 @@ pub struct BoardRead {
 }
 
 // One count.
-#[derive(Drop)]
+#[derive(Clone, Copy)]
 pub struct CountRead {
     pub code: u8,
     pub next: usize,

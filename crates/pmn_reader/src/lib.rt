@@ -12,7 +12,7 @@ use pmn_part::unchecked::gate_bytes;
 use unchecked::{read_body, refuse};
 
 // What `read` answers: 0 or the refusal, and the network; the blank record on refusal.
-#[derive(Drop)]
+#[derive(Clone, Copy)]
 pub struct Loaded {
     pub code: u8,
     pub network: Network,

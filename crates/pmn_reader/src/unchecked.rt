@@ -16,7 +16,7 @@ use pmn_gate::unchecked::read_gate;
 use pmn_header::HeadRead;
 
 // The gates, as the record of a network that has no outputs.
-#[derive(Drop)]
+#[derive(Clone, Copy)]
 pub struct GatesRead {
     pub code: u8,
     pub next: usize,
@@ -24,7 +24,7 @@ pub struct GatesRead {
 }
 
 // The signals of the outputs; spare places hold 0.
-#[derive(Drop)]
+#[derive(Clone, Copy)]
 pub struct OutputsRead {
     pub code: u8,
     pub next: usize,

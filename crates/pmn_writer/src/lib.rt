@@ -5,7 +5,7 @@ ghost use Rattle.pmn_writer.specs.Answers.{written, bytes_after};
 use network::Network;
 
 // What `write` answers: 0 or the refusal, and the file's length.
-#[derive(Drop)]
+#[derive(Clone, Copy)]
 pub struct Written {
     pub code: u8,
     pub length: usize,

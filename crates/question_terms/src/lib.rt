@@ -2,7 +2,7 @@
 pub mod unchecked;
 
 // A line: so many terms, each a coefficient on a variable (counted from 0), and the right side. Spare places hold 0.
-#[derive(Drop)]
+#[derive(Clone, Copy)]
 pub struct LineRecord {
     pub count: usize,
     pub variables: [usize; 17],

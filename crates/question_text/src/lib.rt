@@ -11,7 +11,7 @@ ghost use Rattle.question_lines.specs.Lines.{Comparable, LineInRange, lines_of};
 use network::Network;
 
 // What `line` answers: 0 or the refusal, and the line's length with its line feed.
-#[derive(Drop)]
+#[derive(Clone, Copy)]
 pub struct LineWritten {
     pub code: u8,
     pub length: usize,

@@ -3,7 +3,7 @@ pub mod unchecked;
 
 // What `score` answers: 0 or the refusal; how many balls, and the pins felled by each; how many frames have a score, and their running
 // scores. Spare places hold 0.
-#[derive(Drop)]
+#[derive(Clone, Copy)]
 pub struct Sheet {
     pub code: u8,
     pub balls: usize,
@@ -13,14 +13,14 @@ pub struct Sheet {
 }
 
 // Running scores: of how many frames, and each of them; spare places hold 0.
-#[derive(Drop)]
+#[derive(Clone, Copy)]
 pub struct Scored {
     pub frames: usize,
     pub scores: [u16; 10],
 }
 
 // A frame that counts: its balls before the bonus, its balls with the bonus, and the pins that these felled.
-#[derive(Drop)]
+#[derive(Clone, Copy)]
 pub struct FrameCount {
     pub own: usize,
     pub counted: usize,

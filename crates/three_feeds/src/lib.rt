@@ -11,7 +11,7 @@ use table::{HAS_GATE, NUMBERS};
 
 // What the table holds for a truth table: a gate with that function, of which a weight 0 leaves its feed out; or two settings that are 1
 // and two that are 0, whose feed-by-feed sums are equal.
-#[derive(Drop)]
+#[derive(Clone, Copy)]
 pub enum TableEntry {
     HasGate {
         weight_0: i32,

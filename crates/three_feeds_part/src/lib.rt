@@ -12,7 +12,7 @@ use network_limits::is_zero;
 use three_feeds::TableEntry;
 
 // What `put_part` answers: how many bytes were put, the settings that rule every gate out, or the number of a refusal.
-#[derive(Drop)]
+#[derive(Clone, Copy)]
 pub enum MaskPart {
     // So many bytes stand at the front of the lent bytes.
     Put(usize),
