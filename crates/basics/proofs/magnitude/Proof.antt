@@ -17,31 +17,31 @@ use Rattle.basics.proofs.magnitude.Tie as tie
 same_w : (c : tie.Start) → to_z w32 (of_z w32 c.args.w) ≡ c.args.w
 same_w c = to_z-of_z c.ranges.w
 
-up : (c : tie.Then1) → Plain c.before.args.w
-up c = plain _ c.before.ranges.w (subst (λ (z : ℤ). le_z (pos 0) z ≡ true) (same_w c.before) c.if1.true)
+up : (c : tie.Then-w-ge0) → Plain c.args.w
+up c = plain _ c.ranges.w (subst (λ (z : ℤ). le_z (pos 0) z ≡ true) (same_w c.before) c.if-w-ge0.true)
 
-down : (c : tie.Else1) → Below c.before.args.w
-down c = below _ c.before.ranges.w (subst (λ (z : ℤ). le_z (pos 0) z ≡ false) (same_w c.before) c.if1.false)
+down : (c : tie.Else-w-ge0) → Below c.args.w
+down c = below _ c.ranges.w (subst (λ (z : ℤ). le_z (pos 0) z ≡ false) (same_w c.before) c.if-w-ge0.false)
 
-cast_result : tie.Need-overflow-cast-result
+cast_result : tie.Need-overflow_cast-result
 cast_result c = subst (λ (z : ℤ). T (non_neg z) × Fits w32 (nat_abs z)) (sym (same_w c.before)) (up c).cast
 
-sub_result : tie.Need-overflow-sub-result
+sub_result : tie.Need-overflow_sub-result
 sub_result c = subst (λ (z : ℤ). SFits w32 (negsuc 0 -ℤ z)) (sym (same_w c.before)) (down c).sub
 
-same_down : (c : tie.Else1) → to_z w32 (of_z w32 (negsuc 0 -ℤ to_z w32 (of_z w32 c.before.args.w))) ≡ negsuc 0 -ℤ c.before.args.w
+same_down : (c : tie.Else-w-ge0) → to_z w32 (of_z w32 (negsuc 0 -ℤ to_z w32 (of_z w32 c.args.w))) ≡ negsuc 0 -ℤ c.args.w
 same_down c = to_z-of_z (sub_result c) ∙ ap (λ (z : ℤ). negsuc 0 -ℤ z) (same_w c.before)
 
-cast_result_2 : tie.Need-overflow-cast-result-2
+cast_result_2 : tie.Need-overflow_cast-result-else-w-ge0
 cast_result_2 c = subst (λ (z : ℤ). T (non_neg z) × Fits w32 (nat_abs z)) (sym (same_down c)) (down c).cast
 
-add_result : tie.Need-overflow-add-result
-add_result c = rw (same_down c) (record { fits = omega (arith, (down c).size, fits_size c.before.ranges.w) })
+add_result : tie.Need-overflow_add-result
+add_result c = rw (same_down c) (record { fits = omega (arith, (down c).size, fits_size c.ranges.w) })
 
-returns : tie.Need-returns
+returns : tie.Need-returns-then-w-ge0
 returns c = ap nat_abs (same_w c.before)
 
-returns_2 : tie.Need-returns-2
+returns_2 : tie.Need-returns-else-w-ge0
 returns_2 c = ap (λ (z : ℤ). nat_abs z + 1) (same_down c) ∙ (down c).size
 
 pub magnitude_spec : {M : Type 1} → statement M

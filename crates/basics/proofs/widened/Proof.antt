@@ -4,7 +4,7 @@ use Rattle.basics.specs.SizeLaws.{wider}
 use Rattle.basics.proofs.widened.Statement.{statement}
 use Rattle.basics.proofs.widened.Tie as tie
 
-cast_result : tie.Need-overflow-cast-result
+cast_result : tie.Need-overflow_cast-result
 cast_result c = search (rules, wider)
 
 returns : tie.Need-returns

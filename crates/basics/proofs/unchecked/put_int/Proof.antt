@@ -12,11 +12,8 @@ use Rattle.basics.proofs.unchecked.put_int.Tie as tie
 
 returns : tie.Need-returns
 returns c =
-    let at_word = c.before.before in
-    let at_unsigned = at_word.before in
-    let s = at_unsigned.before.before.before in
-    at_word.put_word.ensures
-    ∙ ap (λ (n : ℕ). word_bytes n ++ drop 4 s.args.out.now) (at_unsigned.Unsigned-of.ensures ∙ ap (of_z w32) (to_z-of_z s.ranges.z))
+    c.put_word.ensures
+    ∙ ap (λ (n : ℕ). word_bytes n ++ drop 4 c.args.out.now) (c.unsigned_of.ensures ∙ ap (of_z w32) (to_z-of_z c.ranges.z))
 
 pub put_int_spec : {M : Type 1} → statement M
 put_int_spec = tie.close (tie.spec (λ c κs. search rules) (λ c κs. search rules) (λ c. search rules) returns)

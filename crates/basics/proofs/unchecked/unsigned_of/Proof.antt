@@ -14,31 +14,31 @@ use Rattle.basics.proofs.unchecked.unsigned_of.Tie as tie
 same_z : (c : tie.Start) → to_z w32 (of_z w32 c.args.z) ≡ c.args.z
 same_z c = to_z-of_z c.ranges.z
 
-up : (c : tie.Then1) → Plain c.before.args.z
-up c = plain _ c.before.ranges.z (subst (λ (z : ℤ). le_z (pos 0) z ≡ true) (same_z c.before) c.if1.true)
+up : (c : tie.Then-z-ge0) → Plain c.args.z
+up c = plain _ c.ranges.z (subst (λ (z : ℤ). le_z (pos 0) z ≡ true) (same_z c.before) c.if-z-ge0.true)
 
-down : (c : tie.Else1) → Below c.before.args.z
-down c = below _ c.before.ranges.z (subst (λ (z : ℤ). le_z (pos 0) z ≡ false) (same_z c.before) c.if1.false)
+down : (c : tie.Else-z-ge0) → Below c.args.z
+down c = below _ c.ranges.z (subst (λ (z : ℤ). le_z (pos 0) z ≡ false) (same_z c.before) c.if-z-ge0.false)
 
-cast_result : tie.Need-overflow-cast-result
+cast_result : tie.Need-overflow_cast-result
 cast_result c = subst (λ (z : ℤ). T (non_neg z) × Fits w32 (nat_abs z)) (sym (same_z c.before)) (up c).cast
 
-sub_result : tie.Need-overflow-sub-result
+sub_result : tie.Need-overflow_sub-result
 sub_result c = subst (λ (z : ℤ). SFits w32 (negsuc 0 -ℤ z)) (sym (same_z c.before)) (down c).sub
 
-same_down : (c : tie.Else1) → to_z w32 (of_z w32 (negsuc 0 -ℤ to_z w32 (of_z w32 c.before.args.z))) ≡ negsuc 0 -ℤ c.before.args.z
+same_down : (c : tie.Else-z-ge0) → to_z w32 (of_z w32 (negsuc 0 -ℤ to_z w32 (of_z w32 c.args.z))) ≡ negsuc 0 -ℤ c.args.z
 same_down c = to_z-of_z (sub_result c) ∙ ap (λ (z : ℤ). negsuc 0 -ℤ z) (same_z c.before)
 
-cast_result_2 : tie.Need-overflow-cast-result-2
+cast_result_2 : tie.Need-overflow_cast-result-else-z-ge0
 cast_result_2 c = subst (λ (z : ℤ). T (non_neg z) × Fits w32 (nat_abs z)) (sym (same_down c)) (down c).cast
 
-sub_result_2 : tie.Need-overflow-sub-result-2
+sub_result_2 : tie.Need-overflow_sub-result-else-z-ge0
 sub_result_2 c = subst (λ (z : ℤ). nat_abs z ≤ 4294967295) (sym (same_down c)) (down c).le
 
-returns : tie.Need-returns
+returns : tie.Need-returns-then-z-ge0
 returns c = ap nat_abs (same_z c.before) ∙ (up c).same
 
-returns_2 : tie.Need-returns-2
+returns_2 : tie.Need-returns-else-z-ge0
 returns_2 c = ap (λ (z : ℤ). 4294967295 - nat_abs z) (same_down c) ∙ (down c).same
 
 pub unsigned_of_spec : {M : Type 1} → statement M

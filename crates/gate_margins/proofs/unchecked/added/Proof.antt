@@ -28,7 +28,7 @@ module _ (c : tie.Start) where
   sum_small : nat_abs (low +ℤ high) ≤ 16000000
   sum_small = omega (arith, size_add low high, c.requires.0.sums_small c.args.x c.requires.1.1.0, c.requires.1.0.sums_small c.args.y c.requires.1.1.1)
 
-add_result_3 : tie.Need-overflow-add-result-3
+add_result_3 : tie.Need-overflow_add-result-3
 add_result_3 c = let d = c.before.before in simp (low_held d, high_held d) (size_fits w32 (low d +ℤ high d) (omega (arith, sum_small d)))
 
 returns : tie.Need-returns

@@ -22,11 +22,11 @@ use borrow.Author.Rules.{rules}
 use Rattle.gate_margins.proofs.unchecked.keeps_margins.Statement.{statement}
 use Rattle.gate_margins.proofs.unchecked.keeps_margins.Tie as tie
 
-returns : tie.Need-returns
+returns : tie.Need-returns-then-on-off
 returns c =
-    let a = c.before.args in
-    let e0 : a.on ≡ 0 = eqb→eq a.on 0 (T_is (eqb a.on 0) (and_left (eqb a.on 0) (eqb a.off 1) c.if1.true)) in
-    let e1 : a.off ≡ 1 = eqb→eq a.off 1 (T_is (eqb a.off 1) (and_right (eqb a.on 0) (eqb a.off 1) c.if1.true)) in
+    let a = c.args in
+    let e0 : a.on ≡ 0 = eqb→eq a.on 0 (T_is (eqb a.on 0) (and_left (eqb a.on 0) (eqb a.off 1) c.if-on-off.true)) in
+    let e1 : a.off ≡ 1 = eqb→eq a.off 1 (T_is (eqb a.off 1) (and_right (eqb a.on 0) (eqb a.off 1) c.if-on-off.true)) in
     rw (e0, e1) (sym (margins_always a.threshold a.weights.now))
 
 -- the two halves, floor and ceiling
@@ -67,58 +67,58 @@ module _ (c : tie.Start) where
   ceiling_small : nat_abs (c.args.threshold +ℤ pos c.args.on) ≤ 2000000
   ceiling_small = omega (arith, size_add c.args.threshold (pos c.args.on), c.requires.threshold_small, c.ranges.on.fits)
 
-slice_aggregate_table : tie.Need-slice-aggregate-table
-slice_aggregate_table c = sym (parts c.before.before).lows_length
+slice_aggregate_table : tie.Need-slice_bounds-table-end
+slice_aggregate_table c = sym (parts c.before).lows_length
 
-table_requires : tie.Need-table-requires
-table_requires c κs = let d = c.before.before in (lows_few d, (parts d).lows_small)
+table_requires : tie.Need-table-lows-requires
+table_requires c κs = let d = c.before in (lows_few d, (parts d).lows_small)
 
-table_requires_2 : tie.Need-table-requires-2
-table_requires_2 c κs = let d = c.before.before.before.before in (highs_few d, (parts d).highs_small)
+table_requires_2 : tie.Need-table-highs-requires
+table_requires_2 c κs = let d = c.before.before.before in (highs_few d, (parts d).highs_small)
 
-sub_floor : tie.Need-overflow-sub-floor
+sub_floor : tie.Need-overflow_sub-floor
 sub_floor c =
-    let d = c.before.before.before.before.before in
+    let d = c.before.before.before.before in
     simp (threshold_held d, off_is d) (size_fits w32 (d.args.threshold -ℤ pos d.args.off) (omega (arith, floor_small d)))
 
-add_ceiling : tie.Need-overflow-add-ceiling
+add_ceiling : tie.Need-overflow_add-ceiling
 add_ceiling c =
-    let d = c.before.before.before.before.before in
+    let d = c.before.before.before.before in
     simp (threshold_held d, on_is d) (size_fits w32 (d.args.threshold +ℤ pos d.args.on) (omega (arith, ceiling_small d)))
 
 -- the two tables
-module _ (c : tie.After-settings2) where
-  abbrev at_lows : tie.After-table
+module _ (c : tie.After-settings-2) where
+  abbrev at_lows : tie.After-table-lows
   at_lows = c.before.before.before.before.before.before
 
-  abbrev at_highs : tie.After-table2
+  abbrev at_highs : tie.After-table-highs
   at_highs = c.before.before.before.before
 
   abbrev start : tie.Start
-  start = at_lows.before.before.before
+  start = at_lows.before.before
 
-  low_count : c.before.settings.result ≡ 2 ^ length (lows start)
-  low_count = c.before.settings.ensures ∙ ap (λ (k : ℕ). 2 ^ k) (sym (parts start).lows_length)
+  low_count : c.settings.result ≡ 2 ^ length (lows start)
+  low_count = c.settings.ensures ∙ ap (λ (k : ℕ). 2 ^ k) (sym (parts start).lows_length)
 
-  high_count : c.settings2.result ≡ 2 ^ length (highs start)
-  high_count = c.settings2.ensures ∙ ap (λ (k : ℕ). 2 ^ k) (sym (parts start).highs_length)
+  high_count : c.settings-2.result ≡ 2 ^ length (highs start)
+  high_count = c.settings-2.ensures ∙ ap (λ (k : ℕ). 2 ^ k) (sym (parts start).highs_length)
 
-  low_listed : Listed (lows start) c.before.settings.result at_lows.table.result
-  low_listed = listed_count (lows start) c.before.settings.result at_lows.table.result low_count at_lows.table.ensures
+  low_listed : Listed (lows start) c.settings.result at_lows.table-lows.result
+  low_listed = listed_count (lows start) c.settings.result at_lows.table-lows.result low_count at_lows.table-lows.ensures
 
-  high_listed : Listed (highs start) c.settings2.result at_highs.table2.result
-  high_listed = listed_count (highs start) c.settings2.result at_highs.table2.result high_count at_highs.table2.ensures
+  high_listed : Listed (highs start) c.settings-2.result at_highs.table-highs.result
+  high_listed = listed_count (highs start) c.settings-2.result at_highs.table-highs.result high_count at_highs.table-highs.ensures
 
-lists_apart_requires : tie.Need-lists-apart-requires
+lists_apart_requires : tie.Need-lists_apart-requires
 lists_apart_requires c κs =
     let s = start c in
-    let low = (at_lows c).table in
-    let high = (at_highs c).table2 in (
-      addable (lows s) c.before.settings.result low.result (lows_few s) (parts s).lows_small (low_count c) low.ensures,
-      addable (highs s) c.settings2.result high.result (highs_few s) (parts s).highs_small (high_count c) high.ensures,
+    let low = (at_lows c).table-lows in
+    let high = (at_highs c).table-highs in (
+      addable (lows s) c.settings.result low.result (lows_few s) (parts s).lows_small (low_count c) low.ensures,
+      addable (highs s) c.settings-2.result high.result (highs_few s) (parts s).highs_small (high_count c) high.ensures,
     )
 
-returns_2 : tie.Need-returns-2
+returns_2 : tie.Need-returns
 unfolding outside
 returns_2 c =
     let d = c.before in
@@ -129,8 +129,8 @@ returns_2 c =
       on_is s,
       held (s.args.threshold -ℤ pos s.args.off) (omega (arith, floor_small s)),
       held (s.args.threshold +ℤ pos s.args.on) (omega (arith, ceiling_small s)),
-    ) at c.lists-apart.ensures in
-    e ∙ apart_listed (lows s) (highs s) (at_lows d).table.result (at_highs d).table2.result d.before.settings.result d.settings2.result
+    ) at c.lists_apart.ensures in
+    e ∙ apart_listed (lows s) (highs s) (at_lows d).table-lows.result (at_highs d).table-highs.result d.settings.result d.settings-2.result
     (s.args.threshold -ℤ pos s.args.off) (s.args.threshold +ℤ pos s.args.on) (low_listed d) (high_listed d)
     ∙ ap (every_sum (apart (s.args.threshold -ℤ pos s.args.off) (s.args.threshold +ℤ pos s.args.on))) (parts s).joined
 

@@ -35,21 +35,21 @@ module _ (c : tie.Start) where
   weighted_held : to_z w32 (of_z w32 (c.args.weight +ℤ other)) ≡ c.args.weight +ℤ other
   weighted_held = held (c.args.weight +ℤ other) (omega (arith, weighted_small))
 
-add_y_2 : tie.Need-overflow-add-y-2
+add_y_2 : tie.Need-overflow_add-y-2
 add_y_2 c =
     let d = c.before.before in
     simp (weight_held d, other_held d) (size_fits w32 (d.args.weight +ℤ other d) (omega (arith, weighted_small d)))
 
-returns : tie.Need-returns
+returns : tie.Need-returns-then-x-y
 returns c =
     let d = c.before.before.before in
-    let e = simp (plain_held d, weight_held d, other_held d, weighted_held d) at c.if1.true in
+    let e = simp (plain_held d, weight_held d, other_held d, weighted_held d) at c.if-x-y.true in
     simp (weight_held d, other_held d, weighted_held d) (record { placed = rw e; told = rw e })
 
-returns_2 : tie.Need-returns-2
+returns_2 : tie.Need-returns-else-x-y
 returns_2 c =
     let d = c.before.before.before in
-    let e = simp (plain_held d, weight_held d, other_held d, weighted_held d) at c.if1.false in
+    let e = simp (plain_held d, weight_held d, other_held d, weighted_held d) at c.if-x-y.false in
     simp (plain_held d) (record { placed = rw e; told = rw e })
 
 pub put_back_spec : {M : Type 1} → statement M

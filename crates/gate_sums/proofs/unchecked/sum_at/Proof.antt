@@ -28,7 +28,7 @@ module _ (c : tie.Start) where
   sum_fits : SFits w32 (low +ℤ high)
   sum_fits = size_fits w32 (low +ℤ high) (omega (arith, size_add low high, c.requires.0 (c.args.setting % 256), c.requires.0 (256 + c.args.setting / 256)))
 
-add_result_2 : tie.Need-overflow-add-result-2
+add_result_2 : tie.Need-overflow_add-result-2
 add_result_2 c = let d = c.before.before in simp (to_z-of_z (low_fits d), to_z-of_z (high_fits d)) (sum_fits d)
 
 returns : tie.Need-returns

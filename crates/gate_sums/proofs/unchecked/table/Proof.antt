@@ -7,29 +7,29 @@ use Rattle.gate_sums.specs.SumLaws.{sums_one}
 use Rattle.gate_sums.proofs.unchecked.table.Statement.{statement}
 use Rattle.gate_sums.proofs.unchecked.table.Tie as tie
 
-abbrev invariant-loop : tie.invariant-loop
+abbrev invariant-loop : tie.invariant-loop-bit
 invariant-loop weights sums₀ bit₀ sums bit = (bit ≤ 8) × Sums weights (2 ^ bit) sums
 
-abbrev decreases-loop : tie.decreases-loop
+abbrev decreases-loop : tie.decreases-loop-bit
 decreases-loop weights sums₀ bit₀ sums bit = 8 - bit
 
-loop_holds : tie.Need-loop-init invariant-loop decreases-loop
+loop_holds : tie.Need-loop-bit-init invariant-loop decreases-loop
 loop_holds c = (omega arith, sums_one c.args.weights.now)
 
 extend_requires : tie.Need-extend-requires invariant-loop decreases-loop
-extend_requires c κs = (omega arith, (c.before.before.before.requires, c.before.before.loop.invariant.1))
+extend_requires c κs = (omega arith, (c.requires, c.loop-bit.invariant.1))
 
-add_bit : tie.Need-overflow-add-bit invariant-loop decreases-loop
+add_bit : tie.Need-overflow_step-bit invariant-loop decreases-loop
 add_bit c = omega arith
 
-loop_less : tie.Need-loop-smaller invariant-loop decreases-loop
+loop_less : tie.Need-loop-bit-smaller invariant-loop decreases-loop
 loop_less c = omega arith
 
-loop_again : tie.Need-loop-preserved invariant-loop decreases-loop
+loop_again : tie.Need-loop-bit-preserved invariant-loop decreases-loop
 loop_again c = (omega arith, c.extend.ensures)
 
 returns : tie.Need-returns invariant-loop decreases-loop
-returns c = let e : c.before.loop.bit ≡ 8 = omega arith in rw e at c.before.loop.invariant.1
+returns c = let e : c.before.loop-bit.bit ≡ 8 = omega arith in rw e at c.loop-bit.invariant.1
 
 pub table_spec : {M : Type 1} → statement M
 table_spec =

@@ -12,24 +12,24 @@ use Rattle.network.proofs.unchecked.first_keep.Statement.{statement}
 use Rattle.network.proofs.unchecked.first_keep.Tie as tie
 
 -- the part that is lent
-module _ (c : tie.After-all) where
+module _ (c : tie.After-all-1) where
   abbrev weights : List ℤ
-  weights = c.before.args.weights.now
+  weights = c.args.weights.now
 
   long : length weights ≡ 16
-  long = c.all.given.0
+  long = c.all-1.given
 
-  part : take c.before.args.count weights ≡ weights_from weights 0 c.before.args.count
-  part = sym (weights_part weights 0 c.before.args.count (omega (arith, long)))
+  part : take c.args.count weights ≡ weights_from weights 0 c.args.count
+  part = sym (weights_part weights 0 c.args.count (omega (arith, long)))
 
-slice_aggregate_keeps_margins : tie.Need-slice-aggregate-keeps-margins
-slice_aggregate_keeps_margins c = let d = c.before in sym (length-take-le d.before.args.count (weights d) (omega (arith, long d)))
+slice_aggregate_keeps_margins : tie.Need-slice_bounds-keeps_margins-end
+slice_aggregate_keeps_margins c = let d = c in sym (length-take-le d.args.count (weights d) (omega (arith, long d)))
 
-keeps_margins_requires : tie.Need-keeps-margins-requires
-keeps_margins_requires c κs = let d = c.before in rw (part d, to_z-of_z d.before.ranges.threshold) d.before.requires.1
+keeps_margins_requires : tie.Need-keeps_margins-requires
+keeps_margins_requires c κs = let d = c in rw (part d, to_z-of_z d.ranges.threshold) d.requires.1
 
 returns : tie.Need-returns
-returns c = let d = c.before.before in rw (part d, to_z-of_z d.before.ranges.threshold) at c.keeps-margins.ensures
+returns c = let d = c.before in rw (part d, to_z-of_z d.ranges.threshold) at c.keeps_margins.ensures
 
 pub first_keep_spec : {M : Type 1} → statement M
 first_keep_spec = tie.close (tie.spec slice_aggregate_keeps_margins keeps_margins_requires returns)

@@ -32,21 +32,19 @@ module _ (board : Board) (r : GateRecord) (n : ℕ) (t : ℤ) (count : n ≡ r.f
   unfolding keeps gate_in
   answered = rw (count, threshold) (sym (ap (every_sum (outside board.on board.off r.threshold)) (gate_weights r)))
 
-threshold_held : (c : tie.Start) → to_z w32 (of_z w32 c.args.t1.threshold) ≡ c.args.t1.threshold
-threshold_held c = to_z-of_z (size_fits w32 c.args.t1.threshold (omega (arith, c.requires.threshold_small)))
+threshold_held : (c : tie.Start) → to_z w32 (of_z w32 c.args.gate.threshold) ≡ c.args.gate.threshold
+threshold_held c = to_z-of_z (size_fits w32 c.args.gate.threshold (omega (arith, c.requires.threshold_small)))
 
-first_keep_requires : tie.Need-first-keep-requires
+first_keep_requires : tie.Need-first_keep-requires
 first_keep_requires c κs =
-    let d = c.before.before.before in
-    let s = d.before in
-    asked s.args.board s.args.t1 d.wide.result (to_z w32 (of_z w32 s.args.t1.threshold)) d.wide.ensures.0 (threshold_held s) s.requires
+    let s = c.before.before.before in
+    asked s.args.board s.args.gate c.wide-count.result (to_z w32 (of_z w32 s.args.gate.threshold)) c.wide-count.ensures.0 (threshold_held s) s.requires
 
 returns : tie.Need-returns
 returns c =
-    let d = c.before.before.before.before in
-    let s = d.before in
-    c.first-keep.ensures
-    ∙ answered s.args.board s.args.t1 d.wide.result (to_z w32 (of_z w32 s.args.t1.threshold)) d.wide.ensures.0 (threshold_held s)
+    let s = c.before.before.before.before in
+    c.first_keep.ensures
+    ∙ answered s.args.board s.args.gate c.wide-count.result (to_z w32 (of_z w32 s.args.gate.threshold)) c.wide-count.ensures.0 (threshold_held s)
 
 pub gate_keeps_spec : {M : Type 1} → statement M
 gate_keeps_spec = tie.close (tie.spec (λ c κs. search rules) first_keep_requires returns)

@@ -13,24 +13,24 @@ use Rattle.network.proofs.unchecked.places_keep.Statement.{statement}
 use Rattle.network.proofs.unchecked.places_keep.Tie as tie
 
 -- the part that is lent
-module _ (c : tie.After-all) where
+module _ (c : tie.After-all-1) where
   abbrev weights : List ℤ
-  weights = c.before.args.weights.now
+  weights = c.args.weights.now
 
   long : length weights ≡ 2048
-  long = c.all.given.0
+  long = c.all-1.given
 
-  part : take (c.before.args.base + c.before.args.count - c.before.args.base) (drop c.before.args.base weights)
-      ≡ weights_from weights c.before.args.base c.before.args.count
-  part = ap (λ (k : ℕ). take k (drop c.before.args.base weights))
-      (let e : c.before.args.base + c.before.args.count - c.before.args.base ≡ c.before.args.count = omega arith in e)
-      ∙ sym (weights_part weights c.before.args.base c.before.args.count (omega (arith, long)))
+  part : take (c.args.base + c.args.count - c.args.base) (drop c.args.base weights)
+      ≡ weights_from weights c.args.base c.args.count
+  part = ap (λ (k : ℕ). take k (drop c.args.base weights))
+      (let e : c.args.base + c.args.count - c.args.base ≡ c.args.count = omega arith in e)
+      ∙ sym (weights_part weights c.args.base c.args.count (omega (arith, long)))
 
-keeps_margins_requires : tie.Need-keeps-margins-requires
-keeps_margins_requires c κs = let d = c.before in rw (part d, to_z-of_z d.before.ranges.threshold) d.before.requires.1
+keeps_margins_requires : tie.Need-keeps_margins-requires
+keeps_margins_requires c κs = let d = c.before in rw (part d, to_z-of_z d.ranges.threshold) d.requires.1
 
 returns : tie.Need-returns
-returns c = let d = c.before.before in rw (part d, to_z-of_z d.before.ranges.threshold) at c.keeps-margins.ensures
+returns c = let d = c.before.before in rw (part d, to_z-of_z d.ranges.threshold) at c.keeps_margins.ensures
 
 pub places_keep_spec : {M : Type 1} → statement M
 places_keep_spec =
