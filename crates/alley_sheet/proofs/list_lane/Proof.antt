@@ -11,61 +11,53 @@ use Rattle.alley_theory.specs.AnswerLaws.{refused_gives, idle_gives, unsound, sh
 use Rattle.alley_sheet.proofs.list_lane.Statement.{statement}
 use Rattle.alley_sheet.proofs.list_lane.Tie as tie
 
-returns : tie.Need-returns
+returns : tie.Need-returns-then-not-is_sound
 returns c =
-    let asked = c.before.before in
-    let a = asked.before.before.before.args in
+    let a = c.args in
     let gives =
     refused_gives a.totals a.out.now
-    (unsound a.totals a.last a.bytes.now (length a.out.now) (sym asked.is_sound.ensures ∙ not-true _ c.before.if1.true)) in
-    (c.none-listed.ensures ∙ gives.0, gives.1)
+    (unsound a.totals a.last a.bytes.now (length a.out.now) (sym c.is_sound.ensures ∙ not-true _ c.if-not-is_sound.true-raw)) in
+    (c.none_listed.ensures ∙ gives.0, gives.1)
 
 -- past the first test the totals are sound
-sound : (c : tie.Else1) → sound_totals c.before.before.before.before.args.totals ≡ true
-sound c = sym c.before.is_sound.ensures ∙ not-false _ c.if1.false
+sound : (c : tie.Else-not-is_sound) → sound_totals c.args.totals ≡ true
+sound c = sym c.is_sound.ensures ∙ not-false _ c.if-not-is_sound.false-raw
 
-returns_2 : tie.Need-returns-2
+returns_2 : tie.Need-returns-then-totals-ge65535
 returns_2 c =
     let at_else = c.before.before.before in
-    let a = at_else.before.before.before.before.args in
+    let a = at_else.args in
     let gives =
-    idle_gives a.totals a.out.now (shut a.totals a.last a.bytes.now (length a.out.now) (sound at_else) c.before.if2.true) in
-    (c.none-listed2.ensures ∙ gives.0, gives.1)
+    idle_gives a.totals a.out.now (shut a.totals a.last a.bytes.now (length a.out.now) (sound at_else) c.if-totals-ge65535.true) in
+    (c.none_listed-then-totals-ge65535.ensures ∙ gives.0, gives.1)
 
-returns_3 : tie.Need-returns-3
+returns_3 : tie.Need-returns-then-taken-eq0
 returns_3 c =
-    let found = c.before.before in
-    let at_else = found.before.before.before in
-    let a = at_else.before.before.before.before.args in
+    let at_else = c.before.before.before.before.before in
+    let a = at_else.args in
     let gives = idle_gives a.totals a.out.now
-    (none_found a.totals a.last a.bytes.now (length a.out.now) (sound at_else) found.before.if2.false found.find-lane.result
-    found.find-lane.ensures c.before.if3.true) in
-    (c.none-listed3.ensures ∙ gives.0, gives.1)
+    (none_found a.totals a.last a.bytes.now (length a.out.now) (sound at_else) c.if-totals-ge65535.false c.find_lane-found.result
+    c.find_lane-found.ensures c.if-taken-eq0.true) in
+    (c.none_listed-then-taken-eq0.ensures ∙ gives.0, gives.1)
 
-lane_entry_requires : tie.Need-lane-entry-requires
-lane_entry_requires c κs = c.before.find-lane.ensures.inside
+lane_entry_requires : tie.Need-lane_entry-entry-requires
+lane_entry_requires c κs = c.find_lane-found.ensures.inside
 
-write_lane_requires : tie.Need-write-lane-requires
+write_lane_requires : tie.Need-write_lane-requires
 write_lane_requires c κs =
-    let read = c.before in
-    let found = read.before.before in
-    (record { sound = sound found.before.before.before; room = found.before.if2.false }, read.lane-entry.ensures.listable)
+    (record { sound = sound c.before.before.before.before.before.before; room = c.if-totals-ge65535.false }, c.lane_entry-entry.ensures.listable)
 
-returns_4 : tie.Need-returns-4
+returns_4 : tie.Need-returns
 returns_4 c =
-    let done = c.before.before in
-    let read = done.before.before in
-    let at_lane = read.before in
-    let found = at_lane.before in
-    let at_else = found.before.before.before in
-    let a = at_else.before.before.before.before.args in
+    let at_else = c.before.before.before.before.before.before.before.before.before in
+    let a = at_else.args in
     let room = length a.out.now in
-    let f = found.find-lane.result in
-    let e = ap (λ (x : Answer Size). room_tested room (listed a.totals f.taken x)) read.lane-entry.ensures.is
-    ∙ sym (lane_found a.totals a.last a.bytes.now room (sound at_else) found.before.if2.false f found.find-lane.ensures
-    at_lane.if3.false) in (
-      done.write-lane.ensures.0 ∙ ap (as_listed a.totals) e,
-      done.write-lane.ensures.1 ∙ ap (λ (x : Answer LaneStep). stored (text_of x) a.out.now) e,
+    let f = c.find_lane-found.result in
+    let e = ap (λ (x : Answer Size). room_tested room (listed a.totals f.taken x)) c.lane_entry-entry.ensures.is
+    ∙ sym (lane_found a.totals a.last a.bytes.now room (sound at_else) c.if-totals-ge65535.false f c.find_lane-found.ensures
+    c.if-taken-eq0.false) in (
+      c.write_lane.ensures.0 ∙ ap (as_listed a.totals) e,
+      c.write_lane.ensures.1 ∙ ap (λ (x : Answer LaneStep). stored (text_of x) a.out.now) e,
     )
 
 pub list_lane_spec : {M : Type 1} → statement M

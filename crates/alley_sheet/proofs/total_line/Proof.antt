@@ -17,43 +17,40 @@ abbrev text_in : tie.Start → List ℕ
 text_in c = total_text (sums c.args.totals)
 
 -- the line in the 48 bytes
-text_is : (c : tie.After-put-total) → take c.put-total.result c.put-total.new.0 ≡ text_in c.before.before.before
-text_is c = let p = c.put-total.ensures.0 in ap (take c.put-total.result) p.bytes ∙ take_at _ _ _ p.long
+text_is : (c : tie.After-put_total-length) → take c.put_total-length.result c.put_total-length.new.0 ≡ text_in c.before.before.before
+text_is c = let p = c.put_total-length.ensures.0 in ap (take c.put_total-length.result) p.bytes ∙ take_at _ _ _ p.long
 
-within : (c : tie.After-put-total) → c.put-total.result ≤ length c.put-total.new.0
-within c = omega (arith, put_length c.put-total.ensures.0 c.put-total.ensures.1, c.put-total.ensures.1)
+within : (c : tie.After-put_total-length) → c.put_total-length.result ≤ length c.put_total-length.new.0
+within c = omega (arith, put_length c.put_total-length.ensures.0 c.put_total-length.ensures.1, c.put_total-length.ensures.1)
 
-returns : tie.Need-returns
+returns : tie.Need-returns-then-out-length
 unfolding as_sheet_line
 returns c =
-    let done = c.before.before in
-    let a = done.before.before.before.args in
-    total_long a.totals a.out.now (omega (arith, done.put-total.ensures.0.long, c.if1.true))
+    let a = c.args in
+    total_long a.totals a.out.now (omega (arith, c.put_total-length.ensures.0.long, c.if-out-length.true))
 
-array_share_prefix_text : tie.Need-array-share-prefix-text
+array_share_prefix_text : tie.Need-slice_bounds-text-end
 array_share_prefix_text c = within c.before.before.before
 
-slice_aggregate_put_bytes : tie.Need-slice-aggregate-put-bytes
-slice_aggregate_put_bytes c = let done = c.before.before.before.before in sym (ap length (text_is done) ∙ done.put-total.ensures.0.long)
+slice_aggregate_put_bytes : tie.Need-slice_bounds-put_bytes-end
+slice_aggregate_put_bytes c = let done = c.before.before.before.before in sym (ap length (text_is done) ∙ done.put_total-length.ensures.0.long)
 
-put_bytes_requires : tie.Need-put-bytes-requires
+put_bytes_requires : tie.Need-put_bytes-requires
 put_bytes_requires c κs =
     let done = c.before.before.before.before in
-    omega (arith, ap length (text_is done), done.put-total.ensures.0.long, c.before.before.if1.false)
+    omega (arith, ap length (text_is done), done.put_total-length.ensures.0.long, c.if-out-length.false)
 
-returns_2 : tie.Need-returns-2
+returns_2 : tie.Need-returns
 unfolding as_sheet_line
 returns_2 c =
-    let copied = c.before.before in
-    let done = copied.before.before.before.before.before in
-    let start = done.before.before.before in
-    let a = start.args in
+    let done = c.before.before.before.before.before.before.before in
+    let a = c.args in
     let out = a.out.now in
-    let long = done.put-total.ensures.0.long in
-    let put = put_text copied.put-bytes.ensures (text_is done) in
-    let gives = total_given a.totals out (omega (arith, long, copied.before.before.before.if1.false)) in (
+    let long = done.put_total-length.ensures.0.long in
+    let put = put_text c.put_bytes.ensures (text_is done) in
+    let gives = total_given a.totals out (omega (arith, long, c.if-out-length.false)) in (
       ap (λ (n : ℕ). record { code = 0; length = n }) (sym long) ∙ gives.0,
-      put.bytes ∙ ap (λ (n : ℕ). text_in start ++ drop n out) (sym put.long) ∙ gives.1,
+      put.bytes ∙ ap (λ (n : ℕ). text_in c ++ drop n out) (sym put.long) ∙ gives.1,
     )
 
 pub total_line_spec : {M : Type 1} → statement M

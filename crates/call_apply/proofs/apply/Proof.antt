@@ -13,14 +13,14 @@ use Rattle.call_apply.proofs.apply.Tie as tie
 shaped : (c : tie.Start) → ArrayLengths c.args.held.network
 shaped c = record { fanins = search rules; signals = search rules; weights = search rules; thresholds = search rules; drivers = search rules }
 
-returns : tie.Need-returns
+returns : tie.Need-returns-then-not-is_sound
 unfolding no_figures
 returns c =
-    let a = c.before.before.before.args in
-    c.refusal.ensures ∙ sym (applied_broken a.held a.call (sym c.before.before.is_sound.ensures ∙ not-true _ c.before.if1.true))
+    let a = c.args in
+    c.refusal.ensures ∙ sym (applied_broken a.held a.call (sym c.is_sound.ensures ∙ not-true _ c.if-not-is_sound.true-raw))
 
 -- past the first test, from where the arrays are lent
-abbrev at_else : tie.After-step-weights2 → tie.Else1
+abbrev at_else : tie.After-step_weights-2-1 → tie.Else-not-is_sound
 at_else c =
     let at_drivers_lent = c.before.before.before.before.before.before in
     let at_copied = at_drivers_lent.before.before.before.before.before in
@@ -28,7 +28,7 @@ at_else c =
     let at_board = at_drivers.before.before.before.before.before in
     at_board.before.before.before
 
-apply_in_requires : tie.Need-apply-in-requires
+apply_in_requires : tie.Need-apply_in-left-requires
 apply_in_requires c κs =
     let else = at_else c in
     let at_sound = else.before in
@@ -37,8 +37,8 @@ apply_in_requires c κs =
       whole = sym at_sound.is_sound.ensures ∙ not-false _ else.if1.left;
     }
 
-returns_2 : tie.Need-returns-2
-returns_2 c = c.before.apply-in.ensures
+returns_2 : tie.Need-returns
+returns_2 c = c.apply_in-left.ensures
 
 pub apply_spec : {M : Type 1} → statement M
 apply_spec =

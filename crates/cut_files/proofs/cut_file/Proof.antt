@@ -8,41 +8,35 @@ use Rattle.cut_files.specs.FileLaws.{file_stray, pin_sound, pin_answer}
 use Rattle.cut_files.proofs.cut_file.Statement.{statement}
 use Rattle.cut_files.proofs.cut_file.Tie as tie
 
-refusal_requires : tie.Need-refusal-requires
-refusal_requires c κs = (λ i. (c.before.before.before.shared-slice-known.given i).fits, c.read.ensures)
+refusal_requires : tie.Need-refusal-code-requires
+refusal_requires c κs = (λ i. (c.shared_slice_known-1.given i).fits, c.read-read.ensures)
 
-returns : tie.Need-returns
+returns : tie.Need-returns-then-code-ne0
 unfolding cut_places
 returns c =
-    let a = c.before.before.before.before.before.before.args in
-    refused_two a.out.now a.answer.now (open_refused c.before.refusal.ensures _ c.if1.true)
+    let a = c.args in
+    refused_two a.out.now a.answer.now (open_refused c.refusal-code.ensures _ c.if-code-ne0.true)
 
-returns_2 : tie.Need-returns-2
+returns_2 : tie.Need-returns-then-outputs-output
 returns_2 c =
-    let s = c.before in
-    let a = s.before.before.before.before.before.before.args in
-    let o = s.before.refusal.ensures.gives s.if1.false in
-    refused_two a.out.now a.answer.now (file_stray o a.output (length a.out.now) c.if2.true)
+    let a = c.args in
+    let o = c.refusal-code.ensures.gives c.if-code-ne0.false in
+    refused_two a.out.now a.answer.now (file_stray o a.output (length a.out.now) c.if-outputs-output.true)
 
-cut_sound_requires : tie.Need-cut-sound-requires
-cut_sound_requires c κs = let s = c.before in (file_sound (s.before.refusal.ensures.gives s.if1.false), c.if2.false)
+cut_sound_requires : tie.Need-cut_sound-pin-requires
+cut_sound_requires c κs = (file_sound (c.refusal-code.ensures.gives c.if-code-ne0.false), c.if-outputs-output.false)
 
-put_file_requires : tie.Need-put-file-requires
+put_file_requires : tie.Need-put_file-requires
 put_file_requires c κs =
-    let v = c.before.before in
-    let s = v.before.before in
-    let o = s.before.refusal.ensures.gives s.if1.false in
-    (pin_sound o _ v.before.if2.false v.cut_sound.ensures, o.room)
+    let o = c.refusal-code.ensures.gives c.if-code-ne0.false in
+    (pin_sound o _ c.if-outputs-output.false c.cut_sound-pin.ensures, o.room)
 
-returns_3 : tie.Need-returns-3
+returns_3 : tie.Need-returns
 returns_3 c =
-    let at_put = c.before.before.before.before in
-    let v = at_put.before.before.before in
-    let s = v.before.before in
-    let a = s.before.before.before.before.before.before.args in
-    let o = s.before.refusal.ensures.gives s.if1.false in
-    let e = pin_answer o a.output v.before.if2.false v.cut_sound.ensures (length a.out.now) in
-    same_two a.out.now a.answer.now e at_put.put_file.ensures
+    let a = c.args in
+    let o = c.refusal-code.ensures.gives c.if-code-ne0.false in
+    let e = pin_answer o a.output c.if-outputs-output.false c.cut_sound-pin.ensures (length a.out.now) in
+    same_two a.out.now a.answer.now e c.put_file.ensures
 
 pub cut_file_spec : {M : Type 1} → statement M
 cut_file_spec =

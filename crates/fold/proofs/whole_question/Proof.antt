@@ -4,10 +4,10 @@ use borrow.Author.Rules.{rules}
 use Rattle.fold.proofs.whole_question.Statement.{statement}
 use Rattle.fold.proofs.whole_question.Tie as tie
 
-abbrev invariant-loop : tie.invariant-loop
+abbrev invariant-loop : tie.invariant-loop-n
 invariant-loop before after n₀ n = n ≤ 1000
 
-abbrev decreases-loop : tie.decreases-loop
+abbrev decreases-loop : tie.decreases-loop-n
 decreases-loop before after n₀ n = 1000 - n
 
 pub whole_question_spec : {M : Type 1} → statement M

@@ -6,17 +6,16 @@ use Rattle.fold_pair.specs.PairLaws.{pair_broken}
 use Rattle.fold_pair.proofs.pair.Statement.{statement}
 use Rattle.fold_pair.proofs.pair.Tie as tie
 
-returns : tie.Need-returns
+returns : tie.Need-returns-then-not-is_sound
 returns c =
-    let s = c.before.before in
-    let a = s.before.args in
-    c.no-pair.ensures ∙ sym (pair_broken a.network (sym s.is_sound.ensures ∙ not-true _ c.before.if1.true) a.u a.v)
+    let a = c.args in
+    c.no_pair.ensures ∙ sym (pair_broken a.network (sym c.is_sound.ensures ∙ not-true _ c.if-not-is_sound.true-raw) a.u a.v)
 
-pair_sound_requires : tie.Need-pair-sound-requires
-pair_sound_requires c κs = sym c.before.is_sound.ensures ∙ not-false _ c.if1.false
+pair_sound_requires : tie.Need-pair_sound-requires
+pair_sound_requires c κs = sym c.is_sound.ensures ∙ not-false _ c.if-not-is_sound.false-raw
 
-returns_2 : tie.Need-returns-2
-returns_2 c = c.pair-sound.ensures
+returns_2 : tie.Need-returns
+returns_2 c = c.pair_sound.ensures
 
 pub pair_spec : {M : Type 1} → statement M
 pair_spec =

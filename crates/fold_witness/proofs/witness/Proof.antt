@@ -21,67 +21,61 @@ use borrow.Author.Rules.{rules}
 use Rattle.fold_witness.proofs.witness.Statement.{statement}
 use Rattle.fold_witness.proofs.witness.Tie as tie
 
-returns : tie.Need-returns
+returns : tie.Need-returns-then-not-is_sound
 returns c =
-    let s = c.before.before in
-    let a = s.before.args in
-    witness_broken a.t1 (sym s.is_sound.ensures ∙ not-true _ c.before.if1.true) a.u a.v a.k a.l c.none.ensures
+    let a = c.args in
+    witness_broken a.t1 (sym c.is_sound.ensures ∙ not-true _ c.if-not-is_sound.true-raw) a.u a.v a.k a.l c.none.ensures
 
 -- past the first test the record is sound, and lends its arrays
-tested : (c : tie.Else1) → sound_record c.before.before.args.t1 ≡ true
-tested c = sym c.before.is_sound.ensures ∙ not-false _ c.if1.false
+tested : (c : tie.Else-not-is_sound) → sound_record c.args.network ≡ true
+tested c = sym c.is_sound.ensures ∙ not-false _ c.if-not-is_sound.false-raw
 
-lent : (c : tie.Else1) → let r = c.before.before.args.t1 in SoundArrays r.fanins r.thresholds r.signals r.weights r.inputs r.gates
+lent : (c : tie.Else-not-is_sound) → let r = c.args.network in SoundArrays r.fanins r.thresholds r.signals r.weights r.inputs r.gates
 lent c = lent_of _ (T_is _ (tested c))
 
-edge_code_requires : tie.Need-edge-code-requires
-edge_code_requires c κs = lent c.before.before.before.before.before
+edge_code_requires : tie.Need-edge_code-apart-requires
+edge_code_requires c κs = lent c.before.before.before.before
 
-returns_2 : tie.Need-returns-2
+returns_2 : tie.Need-returns-then-apart-ne0
 returns_2 c =
-    let t = c.before in
-    let at_code = t.before in
-    let s = at_code.before.before.before.before.before.before in
-    let a = s.before.before.args in
-    witness_apart a.t1 (tested s) a.u a.v _ t.before.edge-code.ensures t.if2.true a.k a.l c.none2.ensures
+    let s = c.before.before.before.before.before.before.before in
+    let a = s.args in
+    witness_apart a.t1 (tested s) a.u a.v _ c.edge_code-apart.ensures c.if-apart-ne0.true a.k a.l c.none-then-apart-ne0.ensures
 
 -- past the second test u feeds v
-abbrev sound : tie.Else2 → tie.Else1
+abbrev sound : tie.Else-apart-ne0 → tie.Else-not-is_sound
 sound c = let at_code = c.before in at_code.before.before.before.before.before.before
 
-joined : (c : tie.Else2) → let a = (sound c).before.before.args in
+joined : (c : tie.Else-apart-ne0) → let a = (sound c).args in
     GateReads a.t1.fanins a.t1.thresholds a.t1.signals a.t1.weights a.t1.inputs a.t1.gates a.u a.v
 joined c =
-    let a = (sound c).before.before.args in
-    apart_none a.t1 (tested (sound c)) a.u a.v _ c.before.edge-code.ensures c.if2.false
+    let a = (sound c).args in
+    apart_none a.t1 (tested (sound c)) a.u a.v _ c.edge_code-apart.ensures c.if-apart-ne0.false
 
-aligned_at_requires : tie.Need-aligned-at-requires
+aligned_at_requires : tie.Need-aligned_at-a-requires
 aligned_at_requires c κs =
-    let t = c.before.before.before.before.before.before in
+    let t = c.before.before.before.before.before in
     (lent (sound t), (joined t, sound_board _ (tested (sound t))))
 
-abbrev fed : tie.Else2 → Edge
+abbrev fed : tie.Else-apart-ne0 → Edge
 fed c =
-    let a = (sound c).before.before.args in
+    let a = (sound c).args in
     edge_in a.t1.board a.t1.fanins a.t1.thresholds a.t1.signals a.t1.weights a.t1.inputs a.u a.v
 
-edge_ok : (c : tie.Else2) → EdgeOk (fed c)
+edge_ok : (c : tie.Else-apart-ne0) → EdgeOk (fed c)
 edge_ok c = joined_ok (lent (sound c)) (joined c) (sound_board _ (tested (sound c)))
 
-witness_of_requires : tie.Need-witness-of-requires
+witness_of_requires : tie.Need-witness_of-requires
 witness_of_requires c κs =
-    let at_call = c.before in
-    let t = at_call.before.before.before.before.before.before in
-    subst AlignmentOnScale (sym c.aligned_at.ensures) (aligned_fair (fed t) (edge_ok t))
+    let t = c.before.before.before.before.before.before in
+    subst AlignmentOnScale (sym c.aligned_at-a.ensures) (aligned_fair (fed t) (edge_ok t))
 
-returns_3 : tie.Need-returns-3
+returns_3 : tie.Need-returns
 returns_3 c =
-    let at_Aligned = c.before in
-    let at_call = at_Aligned.before in
-    let t = at_call.before.before.before.before.before.before in
-    let a = (sound t).before.before.args in
-    witness_joined a.t1 (tested (sound t)) a.u a.v _ t.before.edge-code.ensures t.if2.false (edge_ok t) a.k a.l
-    (subst (λ (g : Alignment). WitnessOfAlignment g a.k a.l c.witness-of.result) at_Aligned.aligned_at.ensures c.witness-of.ensures)
+    let t = c.before.before.before.before.before.before.before in
+    let a = (sound t).args in
+    witness_joined a.t1 (tested (sound t)) a.u a.v _ t.edge_code-apart.ensures t.if-apart-ne0.false (edge_ok t) a.k a.l
+    (subst (λ (g : Alignment). WitnessOfAlignment g a.k a.l c.witness_of.result) c.aligned_at-a.ensures c.witness_of.ensures)
 
 pub witness_spec : {M : Type 1} → statement M
 witness_spec =

@@ -7,17 +7,16 @@ use Rattle.frame_batch.proofs.AnswerLaws.{answer_broken}
 use Rattle.frame_batch.proofs.read_frames.Statement.{statement}
 use Rattle.frame_batch.proofs.read_frames.Tie as tie
 
-returns : tie.Need-returns
+returns : tie.Need-returns-then-not-is_sound
 returns c =
-    let s = c.before.before.before.before in
-    let broken = sym c.before.is_sound.ensures ∙ not-true _ c.if1.true in
-    refused_one _ (answer_broken s.args.network s.args.frames.now s.args.answers.now broken)
+    let broken = sym c.is_sound.ensures ∙ not-true _ c.if-not-is_sound.true-raw in
+    refused_one _ (answer_broken c.args.network c.args.frames.now c.args.answers.now broken)
 
-read_sound_requires : tie.Need-read-sound-requires
-read_sound_requires c κs = sym c.before.before.is_sound.ensures ∙ not-false _ c.before.if1.false
+read_sound_requires : tie.Need-read_sound-requires
+read_sound_requires c κs = sym c.is_sound.ensures ∙ not-false _ c.if-not-is_sound.false-raw
 
-returns_2 : tie.Need-returns-2
-returns_2 c = c.before.before.read_sound.ensures
+returns_2 : tie.Need-returns
+returns_2 c = c.read_sound.ensures
 
 pub read_frames_spec : {M : Type 1} → statement M
 read_frames_spec =

@@ -9,27 +9,25 @@ use Rattle.frame_files.proofs.FileLaws.{frame_answer_lem}
 use Rattle.frame_files.proofs.read_file_frame.Statement.{statement}
 use Rattle.frame_files.proofs.read_file_frame.Tie as tie
 
-refusal_requires : tie.Need-refusal-requires
-refusal_requires c κs = (λ i. (c.before.before.shared-slice-known.given i).fits, c.read.ensures)
+refusal_requires : tie.Need-refusal-code-requires
+refusal_requires c κs = (λ i. (c.shared_slice_known-1.given i).fits, c.read-loaded.ensures)
 
-returns : tie.Need-returns
+returns : tie.Need-returns-then-code-ne0
 unfolding frame_places
-returns c = refused_one c.before.before.before.before.before.args.answer.now (open_refused c.before.refusal.ensures _ c.if1.true)
+returns c = refused_one c.args.answer.now (open_refused c.refusal-code.ensures _ c.if-code-ne0.true)
 
-read_sound_requires : tie.Need-read-sound-requires
-read_sound_requires c κs = file_sound (c.before.refusal.ensures.gives c.if1.false)
+read_sound_requires : tie.Need-read_sound-reading-requires
+read_sound_requires c κs = file_sound (c.refusal-code.ensures.gives c.if-code-ne0.false)
 
-put_two_requires : tie.Need-put-two-requires
-put_two_requires c κs = let s = c.before.before.before in (s.before.refusal.ensures.gives s.if1.false).room
+put_two_requires : tie.Need-put_two-requires
+put_two_requires c κs = (c.refusal-code.ensures.gives c.if-code-ne0.false).room
 
-returns_2 : tie.Need-returns-2
+returns_2 : tie.Need-returns
 returns_2 c =
-    let at_reading = c.before.before.before.before.before in
-    let g = at_reading.read_sound in
-    let s = at_reading.before in
-    let a = s.before.before.before.before.before.args in
+    let g = c.read_sound-reading in
+    let a = c.args in
     placed g.result.code (g.result.bits ∷ g.result.ones ∷ []) a.answer.now
-    (frame_answer_lem a.answer.now (s.before.refusal.ensures.gives s.if1.false) a.frame g.ensures) c.before.before.put_two.ensures
+    (frame_answer_lem a.answer.now (c.refusal-code.ensures.gives c.if-code-ne0.false) a.frame g.ensures) c.put_two.ensures
 
 pub read_file_frame_spec : {M : Type 1} → statement M
 read_file_frame_spec =

@@ -8,24 +8,22 @@ use Rattle.frame_files.proofs.FileLaws.{file_answer}
 use Rattle.frame_files.proofs.read_file_frames.Statement.{statement}
 use Rattle.frame_files.proofs.read_file_frames.Tie as tie
 
-refusal_requires : tie.Need-refusal-requires
-refusal_requires c κs = (λ i. (c.before.before.before.shared-slice-known.given i).fits, c.read.ensures)
+refusal_requires : tie.Need-refusal-code-requires
+refusal_requires c κs = (λ i. (c.shared_slice_known-1.given i).fits, c.read-loaded.ensures)
 
-returns : tie.Need-returns
+returns : tie.Need-returns-then-code-ne0
 unfolding file_frames
-returns c = refused_one _ (read_refused c.before.refusal.ensures _ c.if1.true)
+returns c = refused_one _ (read_refused c.refusal-code.ensures _ c.if-code-ne0.true)
 
-read_sound_requires : tie.Need-read-sound-requires
-read_sound_requires c κs = file_sound (c.before.before.refusal.ensures.gives c.before.if1.false)
+read_sound_requires : tie.Need-read_sound-requires
+read_sound_requires c κs = file_sound (c.refusal-code.ensures.gives c.if-code-ne0.false)
 
-returns_2 : tie.Need-returns-2
+returns_2 : tie.Need-returns
 returns_2 c =
-    let read = c.before.before in
-    let left = read.before.before in
-    let a = left.before.before.before.before.before.before.args in
-    let file = left.before.refusal.ensures.gives left.if1.false in
+    let a = c.args in
+    let file = c.refusal-code.ensures.gives c.if-code-ne0.false in
     let same = left_one (file_answer file a.frames.now a.answers.now) a.answers.now in
-    (read.read_sound.ensures.0 ∙ same.0, read.read_sound.ensures.1 ∙ same.1)
+    (c.read_sound.ensures.0 ∙ same.0, c.read_sound.ensures.1 ∙ same.1)
 
 pub read_file_frames_spec : {M : Type 1} → statement M
 read_file_frames_spec =

@@ -7,16 +7,16 @@ use Rattle.frame_reading.specs.Reading.{frame_answer, as_reading, reading}
 use Rattle.frame_reading.proofs.read_frame.Statement.{statement}
 use Rattle.frame_reading.proofs.read_frame.Tie as tie
 
-returns : tie.Need-returns
+returns : tie.Need-returns-then-not-is_sound
 unfolding reading frame_answer as_reading checks
 returns c =
-    let broken = sym c.before.before.is_sound.ensures ∙ not-true _ c.before.if1.true in
+    let broken = sym c.is_sound.ensures ∙ not-true _ c.if-not-is_sound.true-raw in
     c.refused.ensures ∙ rw broken
 
-read_sound_requires : tie.Need-read-sound-requires
-read_sound_requires c κs = sym c.before.is_sound.ensures ∙ not-false _ c.if1.false
+read_sound_requires : tie.Need-read_sound-requires
+read_sound_requires c κs = sym c.is_sound.ensures ∙ not-false _ c.if-not-is_sound.false-raw
 
-returns_2 : tie.Need-returns-2
+returns_2 : tie.Need-returns
 returns_2 c = c.read_sound.ensures
 
 pub read_frame_spec : {M : Type 1} → statement M

@@ -9,8 +9,8 @@ use Rattle.front.proofs.read.Tie as tie
 returns : tie.Need-returns
 unfolding opened_file
 returns c =
-    let e = c.before.read.ensures in
-    λ x. record { code = (e x).code; held = (c.just-read.ensures ∙ ap just_read (λ y. (e y).network)) x }
+    let e = c.read-loaded.ensures in
+    λ x. record { code = (e x).code; held = (c.just_read-held.ensures ∙ ap just_read (λ y. (e y).network)) x }
 
 pub read_spec : {M : Type 1} → statement M
 read_spec = tie.close (tie.spec (λ c κs. search rules) (λ c κs. search rules) returns)

@@ -9,7 +9,7 @@ use Rattle.journal.proofs.is_sound.Tie as tie
 
 returns : tie.Need-returns
 unfolding sound_whole
-returns c = ap (λ (b : Bool). b && leb c.before.before.before.args.held.journal.count 64) c.is_sound.ensures
+returns c = ap (λ (b : Bool). b && leb c.args.held.journal.count 64) c.is_sound.ensures
 
 pub is_sound_spec : {M : Type 1} → statement M
 is_sound_spec = tie.close (tie.spec (λ c κs. search rules) returns)

@@ -6,7 +6,7 @@ use Rattle.journal.proofs.just_read.Tie as tie
 
 returns : tie.Need-returns
 unfolding just_read
-returns c = λ x. record { network = c.before.args.network; journal = c.empty.ensures x }
+returns c = λ x. record { network = c.args.network; journal = c.empty-journal.ensures x }
 
 pub just_read_spec : {M : Type 1} → statement M
 just_read_spec = tie.close (tie.spec (λ c κs. search rules) returns)

@@ -8,27 +8,26 @@ use Rattle.journal_calls.specs.AnswerLaws.{tested_many, tested_few}
 use Rattle.journal_calls.proofs.compare.Statement.{statement}
 use Rattle.journal_calls.proofs.compare.Tie as tie
 
-returns : tie.Need-returns
+returns : tie.Need-returns-then-one-gt64
 unfolding compared_on
 returns c =
-    let a = c.before.before.args in
-    rw (tested_many a.first (tested a.second (compare_answer a.first.network a.second.network)) c.before.if1.true) c.refusal.ensures
+    let a = c.args in
+    rw (tested_many a.first (tested a.second (compare_answer a.first.network a.second.network)) c.if-one-gt64.true) c.refusal.ensures
 
-returns_2 : tie.Need-returns-2
+returns_2 : tie.Need-returns-then-other-gt64
 unfolding compared_on
 returns_2 c =
-    let a = c.before.before.before.args in
+    let a = c.args in
     let given = compare_answer a.first.network a.second.network in
-    let e = tested_few a.first (tested a.second given) c.before.before.if1.false ∙ tested_many a.second given c.before.if2.true in
-    rw e c.refusal2.ensures
+    let e = tested_few a.first (tested a.second given) c.if-one-gt64.false ∙ tested_many a.second given c.if-other-gt64.true in
+    rw e c.refusal-then-other-gt64.ensures
 
-returns_3 : tie.Need-returns-3
+returns_3 : tie.Need-returns
 unfolding compared_on
 returns_3 c =
-    let tested_both = c.before in
-    let a = tested_both.before.before.args in
+    let a = c.args in
     let given = compare_answer a.first.network a.second.network in
-    let e = tested_few a.first (tested a.second given) tested_both.before.if1.false ∙ tested_few a.second given tested_both.if2.false in
+    let e = tested_few a.first (tested a.second given) c.if-one-gt64.false ∙ tested_few a.second given c.if-other-gt64.false in
     rw e c.compare.ensures
 
 pub compare_spec : {M : Type 1} → statement M

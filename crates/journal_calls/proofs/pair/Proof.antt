@@ -9,17 +9,17 @@ use Rattle.journal_calls.specs.AnswerLaws.{tested_many, tested_few}
 use Rattle.journal_calls.proofs.pair.Statement.{statement}
 use Rattle.journal_calls.proofs.pair.Tie as tie
 
-returns : tie.Need-returns
+returns : tie.Need-returns-then-count-gt64
 unfolding pair_on pair_found as_pair
 returns c =
-    let a = c.before.args in
-    sym (ap as_pair (tested_many a.held (on_record a.held.network (λ N. pair N a.u a.v)) c.if1.true))
+    let a = c.args in
+    sym (ap as_pair (tested_many a.held (on_record a.held.network (λ N. pair N a.u a.v)) c.if-count-gt64.true))
 
-returns_2 : tie.Need-returns-2
+returns_2 : tie.Need-returns
 unfolding pair_on pair_found as_pair
 returns_2 c =
-    let a = c.before.before.args in
-    c.pair.ensures ∙ sym (ap as_pair (tested_few a.held (on_record a.held.network (λ N. pair N a.u a.v)) c.before.if1.false))
+    let a = c.args in
+    c.pair.ensures ∙ sym (ap as_pair (tested_few a.held (on_record a.held.network (λ N. pair N a.u a.v)) c.if-count-gt64.false))
 
 pub pair_spec : {M : Type 1} → statement M
 pair_spec = tie.close (tie.spec returns (λ c κs. search rules) returns_2)

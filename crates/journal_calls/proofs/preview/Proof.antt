@@ -10,17 +10,17 @@ use Rattle.journal_calls.specs.AnswerLaws.{tested_many, tested_few}
 use Rattle.journal_calls.proofs.preview.Statement.{statement}
 use Rattle.journal_calls.proofs.preview.Tie as tie
 
-returns : tie.Need-returns
+returns : tie.Need-returns-then-count-gt64
 unfolding preview_on previewed report_of
 returns c =
-    let a = c.before.args in
-    sym (ap report_of (tested_many a.held (on_record a.held.network (λ N. collapse N a.s)) c.if1.true))
+    let a = c.args in
+    sym (ap report_of (tested_many a.held (on_record a.held.network (λ N. collapse N a.s)) c.if-count-gt64.true))
 
-returns_2 : tie.Need-returns-2
+returns_2 : tie.Need-returns
 unfolding preview_on previewed report_of
 returns_2 c =
-    let a = c.before.before.args in
-    c.preview.ensures ∙ sym (ap report_of (tested_few a.held (on_record a.held.network (λ N. collapse N a.s)) c.before.if1.false))
+    let a = c.args in
+    c.preview.ensures ∙ sym (ap report_of (tested_few a.held (on_record a.held.network (λ N. collapse N a.s)) c.if-count-gt64.false))
 
 pub preview_spec : {M : Type 1} → statement M
 preview_spec = tie.close (tie.spec returns (λ c κs. search rules) returns_2)

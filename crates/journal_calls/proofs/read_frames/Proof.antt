@@ -10,23 +10,21 @@ use Rattle.journal_calls.specs.AnswerLaws.{tested_many, tested_few}
 use Rattle.journal_calls.proofs.read_frames.Statement.{statement}
 use Rattle.journal_calls.proofs.read_frames.Tie as tie
 
-returns : tie.Need-returns
+returns : tie.Need-returns-then-count-gt64
 unfolding frames_on code_of stored
 returns c =
-    let a = c.before.before.before.args in
+    let a = c.args in
     let lent = a.answers.now in
-    let e = tested_many a.held (frames_answer a.held.network a.frames.now lent) c.if1.true in
+    let e = tested_many a.held (frames_answer a.held.network a.frames.now lent) c.if-count-gt64.true in
     (sym (ap code_of e), sym (ap (λ (x : Answer (List ℕ)). stored x lent) e))
 
-returns_2 : tie.Need-returns-2
+returns_2 : tie.Need-returns
 unfolding frames_on
 returns_2 c =
-    let w = c.before.before in
-    let s = w.before.before in
-    let a = s.before.before.before.args in
+    let a = c.args in
     let lent = a.answers.now in
-    let e = tested_few a.held (frames_answer a.held.network a.frames.now lent) s.if1.false in
-    (w.read-frames.ensures.0 ∙ sym (ap code_of e), w.read-frames.ensures.1 ∙ sym (ap (λ (x : Answer (List ℕ)). stored x lent) e))
+    let e = tested_few a.held (frames_answer a.held.network a.frames.now lent) c.if-count-gt64.false in
+    (c.read_frames.ensures.0 ∙ sym (ap code_of e), c.read_frames.ensures.1 ∙ sym (ap (λ (x : Answer (List ℕ)). stored x lent) e))
 
 pub read_frames_spec : {M : Type 1} → statement M
 read_frames_spec = tie.close (tie.spec returns (λ c κs. search rules) (λ c. search rules) returns_2)

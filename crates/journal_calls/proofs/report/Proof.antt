@@ -9,17 +9,17 @@ use Rattle.journal_calls.specs.AnswerLaws.{tested_many, tested_few}
 use Rattle.journal_calls.proofs.report.Statement.{statement}
 use Rattle.journal_calls.proofs.report.Tie as tie
 
-returns : tie.Need-returns
+returns : tie.Need-returns-then-count-gt64
 unfolding report_on reported report_of on_record
 returns c =
-    let a = c.before.args in
-    sym (ap report_of (tested_many a.held (on_record a.held.network accepted) c.if1.true))
+    let a = c.args in
+    sym (ap report_of (tested_many a.held (on_record a.held.network accepted) c.if-count-gt64.true))
 
-returns_2 : tie.Need-returns-2
+returns_2 : tie.Need-returns
 unfolding report_on reported report_of on_record
 returns_2 c =
-    let a = c.before.before.args in
-    c.report.ensures ∙ sym (ap report_of (tested_few a.held (on_record a.held.network accepted) c.before.if1.false))
+    let a = c.args in
+    c.report.ensures ∙ sym (ap report_of (tested_few a.held (on_record a.held.network accepted) c.if-count-gt64.false))
 
 pub report_spec : {M : Type 1} → statement M
 report_spec = tie.close (tie.spec returns (λ c κs. search rules) returns_2)

@@ -17,18 +17,18 @@ use Rattle.journal_calls.proofs.witness.Tie as tie
 abbrev With : Record → ℕ → ℕ → ℕ → ℕ → Witnessed → ℕ → Type 0
 With r u v k l w n = Shows n (2 ^ length (distinct (edge (net_of r.network) u v))) (agrees_at (edge (net_of r.network) u v) k l) w
 
-returns : tie.Need-returns
+returns : tie.Need-returns-then-count-gt64
 returns c =
-    let a = c.before.args in
+    let a = c.args in
     subst (With a.held a.u a.v a.k a.l (record { code = 20; setting = 0 }))
-    (sym (broken_number a.held a.u a.v a.k a.l c.if1.true))
+    (sym (broken_number a.held a.u a.v a.k a.l c.if-count-gt64.true))
     (record { number_is = refl; shown = λ q. absurd (omega (arith, q)); none = λ q. refl })
 
-returns_2 : tie.Need-returns-2
+returns_2 : tie.Need-returns
 returns_2 c =
-    let a = c.before.before.args in
+    let a = c.args in
     subst (With a.held a.u a.v a.k a.l c.witness.result)
-    (sym (merge_number_lem a.held a.u a.v a.k a.l c.before.if1.false)) c.witness.ensures
+    (sym (merge_number_lem a.held a.u a.v a.k a.l c.if-count-gt64.false)) c.witness.ensures
 
 pub witness_spec : {M : Type 1} → statement M
 witness_spec = tie.close (tie.spec returns (λ c κs. search rules) returns_2)

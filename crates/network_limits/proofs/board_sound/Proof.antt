@@ -5,7 +5,7 @@ use Rattle.network_limits.proofs.board_sound.Statement.{statement}
 use Rattle.network_limits.proofs.board_sound.Tie as tie
 
 returns : tie.Need-returns
-returns c = let b = c.before.before.before.before.before.args.board in board_tests b (search rules) (search rules)
+returns c = let b = c.args.board in board_tests b (search rules) (search rules)
 
 pub board_sound_spec : {M : Type 1} → statement M
 board_sound_spec = tie.close (tie.spec returns)

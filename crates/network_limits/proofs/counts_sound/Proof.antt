@@ -6,7 +6,7 @@ use Rattle.network_limits.proofs.counts_sound.Tie as tie
 
 returns : tie.Need-returns
 unfolding counts_ok
-returns c = rw (c.before.before.within.ensures, c.before.within2.ensures, c.within3.ensures)
+returns c = rw (c.within.ensures, c.within-2.ensures, c.within-3.ensures)
 
 pub counts_sound_spec : {M : Type 1} → statement M
 counts_sound_spec =

@@ -15,13 +15,13 @@ above inputs gates s h =
     (λ t. let l = ltb→lt (s - inputs) gates t in lt→ltb s (inputs + gates) (omega arith))
     (λ t. let l = ltb→lt s (inputs + gates) t in lt→ltb (s - inputs) gates (omega arith))
 
-returns : tie.Need-returns
+returns : tie.Need-returns-then-signal-inputs
 unfolding gate_signal
-returns c = rw (lt-leb _ _ c.if1.true)
+returns c = rw (lt-leb _ _ c.if-signal-inputs.true)
 
-returns_2 : tie.Need-returns-2
+returns_2 : tie.Need-returns
 unfolding gate_signal
-returns_2 c = rw (le-leb _ _ c.if1.false) (above _ _ _ c.if1.false)
+returns_2 c = rw (le-leb _ _ c.if-signal-inputs.false) (above _ _ _ c.if-signal-inputs.false)
 
 pub is_gate_spec : {M : Type 1} → statement M
 is_gate_spec = tie.close (tie.spec returns returns_2)

@@ -7,7 +7,7 @@ use Rattle.network_limits.proofs.is_zero.Tie as tie
 
 returns : tie.Need-returns
 unfolding is_zero
-returns c = rw (c.magnitude.ensures, to_z-of_z c.before.ranges.z)
+returns c = rw (c.magnitude.ensures, to_z-of_z c.ranges.z)
 
 pub is_zero_spec : {M : Type 1} → statement M
 is_zero_spec = tie.close (tie.spec (λ c κs. search rules) returns)

@@ -7,7 +7,7 @@ use Rattle.network_limits.proofs.weight_sound.Tie as tie
 
 returns : tie.Need-returns
 unfolding in_scale is_zero
-returns c = rw (c.magnitude.ensures, to_z-of_z c.before.ranges.z)
+returns c = rw (c.magnitude-size.ensures, to_z-of_z c.ranges.z)
 
 pub weight_sound_spec : {M : Type 1} → statement M
 weight_sound_spec = tie.close (tie.spec (λ c κs. search rules) returns)

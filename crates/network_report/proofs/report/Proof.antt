@@ -10,20 +10,20 @@ use Rattle.network_report.specs.Size.{report_of, reported}
 use Rattle.network_report.proofs.report.Statement.{statement}
 use Rattle.network_report.proofs.report.Tie as tie
 
-returns : tie.Need-returns
+returns : tie.Need-returns-then-not-is_sound
 unfolding reported report_of checks
 returns c =
-    let broken = sym c.before.is_sound.ensures ∙ not-true _ c.if1.true in
+    let broken = sym c.is_sound.ensures ∙ not-true _ c.if-not-is_sound.true-raw in
     rw broken
 
 -- past the test the record is sound
-tested : (c : tie.Else1) → sound_record c.before.before.args.network ≡ true
-tested c = sym c.before.is_sound.ensures ∙ not-false _ c.if1.false
+tested : (c : tie.Else-not-is_sound) → sound_record c.args.network ≡ true
+tested c = sym c.is_sound.ensures ∙ not-false _ c.if-not-is_sound.false-raw
 
-size_of_requires : tie.Need-size-of-requires
+size_of_requires : tie.Need-size_of-requires
 size_of_requires c κs = tested c
 
-returns_2 : tie.Need-returns-2
+returns_2 : tie.Need-returns
 returns_2 c = c.type_size.ensures
 
 pub report_spec : {M : Type 1} → statement M

@@ -9,21 +9,21 @@ use Rattle.network.specs.Record.{driver_clear}
 use Rattle.network_soundness.proofs.drivers_clear.Statement.{statement}
 use Rattle.network_soundness.proofs.drivers_clear.Tie as tie
 
-abbrev invariant-loop : tie.invariant-loop
+abbrev invariant-loop : tie.invariant-loop-j
 invariant-loop drivers outputs ok₀ j₀ ok j = (j ≤ 16) × (ok ≡ below j (driver_clear outputs drivers))
 
-abbrev decreases-loop : tie.decreases-loop
+abbrev decreases-loop : tie.decreases-loop-j
 decreases-loop drivers outputs ok₀ j₀ ok j = 16 - j
 
-loop_holds : tie.Need-loop-init invariant-loop decreases-loop
+loop_holds : tie.Need-loop-j-init invariant-loop decreases-loop
 loop_holds c = (omega arith, sym (below_none _))
 
-loop_again : tie.Need-loop-preserved invariant-loop decreases-loop
+loop_again : tie.Need-loop-j-preserved invariant-loop decreases-loop
 unfolding driver_clear
-loop_again c = (omega arith, rw (c.before.before.loop.invariant.1, below_more))
+loop_again c = (omega arith, rw (c.loop-j.invariant.1, below_more))
 
 returns : tie.Need-returns invariant-loop decreases-loop
-returns c = let e : c.before.loop.j ≡ 16 = omega arith in rw e at c.before.loop.invariant.1
+returns c = let e : c.before.loop.j ≡ 16 = omega arith in rw e at c.loop-j.invariant.1
 
 pub drivers_clear_spec : {M : Type 1} → statement M
 drivers_clear_spec =

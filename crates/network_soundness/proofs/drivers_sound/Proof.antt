@@ -13,30 +13,30 @@ use Rattle.basics.specs.RangeLaws.{range_end, all_step}
 use Rattle.network_soundness.proofs.drivers_sound.Statement.{statement}
 use Rattle.network_soundness.proofs.drivers_sound.Tie as tie
 
-abbrev invariant-loop : tie.invariant-loop
+abbrev invariant-loop : tie.invariant-loop-j
 invariant-loop drivers inputs gates outputs ok₀ j₀ ok j =
     (j ≤ outputs)
     × (ok && all (gate_signal inputs gates) (map (λ i. get_or drivers i 0) (range j (outputs - j)))
     ≡ all (gate_signal inputs gates) (tab outputs (λ i. get_or drivers i 0)))
 
-abbrev decreases-loop : tie.decreases-loop
+abbrev decreases-loop : tie.decreases-loop-j
 decreases-loop drivers inputs gates outputs ok₀ j₀ ok j = outputs - j
 
-loop_holds : tie.Need-loop-init invariant-loop decreases-loop
+loop_holds : tie.Need-loop-j-init invariant-loop decreases-loop
 loop_holds c = (omega arith, rw (let e : c.args.outputs - 0 ≡ c.args.outputs = omega arith in e))
 
-loop_again : tie.Need-loop-preserved invariant-loop decreases-loop
+loop_again : tie.Need-loop-j-preserved invariant-loop decreases-loop
 loop_again c =
-    let l = c.before.before.before.before.loop in
-    let drivers = c.before.before.before.before.before.args.drivers.now in (
+    let l = c.loop-j in
+    let drivers = c.args.drivers.now in (
       omega arith,
-      rw (c.is_gate.ensures, c.before.wide.ensures.0) (and_assoc l.ok _ _)
-          ∙ ap (λ b. l.ok && b) (sym (all_step _ (λ i. get_or drivers i 0) l.j _ c.before.before.before.loop-test.true)) ∙ l.invariant.1,
+      rw (c.is_gate-ok.ensures, c.wide.ensures.0) (and_assoc l.ok _ _)
+          ∙ ap (λ b. l.ok && b) (sym (all_step _ (λ i. get_or drivers i 0) l.j _ c.loop-j-test.true)) ∙ l.invariant.1,
     )
 
 returns : tie.Need-returns invariant-loop decreases-loop
 unfolding all
-returns c = sym (and_true _) ∙ rw (range_end _ _ c.loop-test.false) at c.before.loop.invariant.1
+returns c = sym (and_true _) ∙ rw (range_end _ _ c.loop-j-test.false) at c.loop-j.invariant.1
 
 pub drivers_sound_spec : {M : Type 1} → statement M
 drivers_sound_spec =

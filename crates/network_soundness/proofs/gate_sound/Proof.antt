@@ -7,14 +7,14 @@ use Rattle.network_soundness.proofs.SoundnessLaws.{gate_wide, gate_parts}
 use Rattle.network_soundness.proofs.gate_sound.Statement.{statement}
 use Rattle.network_soundness.proofs.gate_sound.Tie as tie
 
-returns : tie.Need-returns
+returns : tie.Need-returns-then-count-gt16
 returns c = sym (gate_wide _ _ _ _ _ _ (omega arith))
 
-returns_2 : tie.Need-returns-2
+returns_2 : tie.Need-returns
 returns_2 c =
-    let a = c.before.before.before.before.before.before.args in
-    let count = c.before.before.before.before.wide.ensures.0 in
-    rw (c.before.in-scale.ensures, to_z-of_z (sfits_of c.before.before.in-scale-arg.given), c.feeds-sound.ensures, count)
+    let a = c.args in
+    let count = c.wide-count.ensures.0 in
+    rw (c.in_scale.ensures, to_z-of_z (sfits_of c.in_scale-arg-1.given), c.feeds_sound.ensures, count)
     (gate_parts a.fanins.now a.thresholds.now a.signals.now a.weights.now a.g a.own (omega arith))
 
 pub gate_sound_spec : {M : Type 1} → statement M

@@ -7,7 +7,7 @@ use Rattle.network_soundness.proofs.place_clear.Tie as tie
 
 returns : tie.Need-returns
 unfolding place_clear used_place
-returns c = rw (c.before.before.before.wide.ensures.0, c.is_zero.ensures, to_z-of_z (sfits_of c.before.is-zero-arg.given))
+returns c = rw (c.wide.ensures.0, c.is_zero.ensures, to_z-of_z (sfits_of c.is_zero-arg-1.given))
 
 pub place_clear_spec : {M : Type 1} → statement M
 place_clear_spec =

@@ -9,20 +9,20 @@ use Rattle.network.specs.Record.{place_clear}
 use Rattle.network_soundness.proofs.places_clear.Statement.{statement}
 use Rattle.network_soundness.proofs.places_clear.Tie as tie
 
-abbrev invariant-loop : tie.invariant-loop
+abbrev invariant-loop : tie.invariant-loop-p
 invariant-loop fanins signals weights gates ok₀ p₀ ok p = (p ≤ 2048) × (ok ≡ below p (place_clear gates fanins signals weights))
 
-abbrev decreases-loop : tie.decreases-loop
+abbrev decreases-loop : tie.decreases-loop-p
 decreases-loop fanins signals weights gates ok₀ p₀ ok p = 2048 - p
 
-loop_holds : tie.Need-loop-init invariant-loop decreases-loop
+loop_holds : tie.Need-loop-p-init invariant-loop decreases-loop
 loop_holds c = (omega arith, sym (below_none _))
 
-loop_again : tie.Need-loop-preserved invariant-loop decreases-loop
-loop_again c = (omega arith, rw (c.before.before.loop.invariant.1, c.place-clear.ensures, below_more))
+loop_again : tie.Need-loop-p-preserved invariant-loop decreases-loop
+loop_again c = (omega arith, rw (c.loop-p.invariant.1, c.place_clear-ok.ensures, below_more))
 
 returns : tie.Need-returns invariant-loop decreases-loop
-returns c = let e : c.before.loop.p ≡ 2048 = omega arith in rw e at c.before.loop.invariant.1
+returns c = let e : c.before.loop.p ≡ 2048 = omega arith in rw e at c.loop-p.invariant.1
 
 pub places_clear_spec : {M : Type 1} → statement M
 places_clear_spec =

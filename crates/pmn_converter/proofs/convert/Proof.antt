@@ -11,25 +11,24 @@ use Rattle.pmn_converter.specs.FileLaws.{converted_read}
 use Rattle.pmn_converter.proofs.convert.Statement.{statement}
 use Rattle.pmn_converter.proofs.convert.Tie as tie
 
-refusal_requires : tie.Need-refusal-requires
-refusal_requires c κs = (λ i. (c.before.before.shared-slice-known.given i).fits, c.read.ensures)
+refusal_requires : tie.Need-refusal-code-requires
+refusal_requires c κs = (λ i. (c.shared_slice_known-1.given i).fits, c.read-read.ensures)
 
-returns : tie.Need-returns
+returns : tie.Need-returns-then-code-ne0
 unfolding conversion_of as_converted stored
 returns c =
-    let a = c.before.before.before.before.before.args in
-    let e = sym (read_refused c.before.refusal.ensures _ c.if1.true) in
+    let a = c.args in
+    let e = sym (read_refused c.refusal-code.ensures _ c.if-code-ne0.true) in
     (ap as_converted e, ap (λ (x : Answer (List ℕ)). stored x a.out.now) e)
 
-convert_sound_requires : tie.Need-convert-sound-requires
-convert_sound_requires c κs = let s = c.before in file_sound (s.before.refusal.ensures.gives s.if1.false)
+convert_sound_requires : tie.Need-convert_sound-requires
+convert_sound_requires c κs = file_sound (c.refusal-code.ensures.gives c.if-code-ne0.false)
 
-returns_2 : tie.Need-returns-2
+returns_2 : tie.Need-returns
 returns_2 c =
-    let v = c.before.before.convert-sound in
-    let s = c.before.before.before.before in
-    let a = s.before.before.before.before.before.args in
-    let e = sym (converted_read (length a.out.now) (s.before.refusal.ensures.gives s.if1.false)) in
+    let v = c.convert_sound in
+    let a = c.args in
+    let e = sym (converted_read (length a.out.now) (c.refusal-code.ensures.gives c.if-code-ne0.false)) in
     (v.ensures.0 ∙ ap as_converted e, v.ensures.1 ∙ ap (λ (x : Answer (List ℕ)). stored x a.out.now) e)
 
 pub convert_spec : {M : Type 1} → statement M

@@ -5,7 +5,7 @@ use Rattle.pmn_files.proofs.check_file.Statement.{statement}
 use Rattle.pmn_files.proofs.check_file.Tie as tie
 
 returns : tie.Need-returns
-returns c = read_code c.before.before.args.file.now c.read.ensures
+returns c = read_code c.args.file.now c.read-loaded.ensures
 
 pub check_file_spec : {M : Type 1} → statement M
 check_file_spec = tie.close (tie.spec (λ c κs. search rules) returns)

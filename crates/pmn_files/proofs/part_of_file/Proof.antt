@@ -8,47 +8,38 @@ use Rattle.pmn_files.specs.PartLaws.{part_none, part_long, part_fits, part_left}
 use Rattle.pmn_files.proofs.part_of_file.Statement.{statement}
 use Rattle.pmn_files.proofs.part_of_file.Tie as tie
 
-returns : tie.Need-returns
+returns : tie.Need-returns-then-code-ne0
 unfolding part_out
 returns c =
-    let a = c.before.before.before.before.before.args in
-    refused_two a.out.now a.answer.now (open_refused c.before.read-refusal.ensures _ c.if1.true)
+    let a = c.args in
+    refused_two a.out.now a.answer.now (open_refused c.read_refusal-code.ensures _ c.if-code-ne0.true)
 
-returns_2 : tie.Need-returns-2
+returns_2 : tie.Need-returns-then-length-eq0
 returns_2 c =
-    let s = c.before.before in
-    let a = s.before.before.before.before.before.args in
-    let f = s.before.read-refusal.ensures.gives s.if1.false in
+    let a = c.args in
+    let f = c.read_refusal-code.ensures.gives c.if-code-ne0.false in
     refused_two a.out.now a.answer.now
-    (part_none a.answer.now f a.signal a.out.now c.before.gate-part.ensures c.if2.true)
+    (part_none a.answer.now f a.signal a.out.now c.gate_part-part.ensures c.if-length-eq0.true)
 
-returns_3 : tie.Need-returns-3
+returns_3 : tie.Need-returns-then-out-length
 returns_3 c =
-    let g = c.before.before in
-    let s = g.before in
-    let a = s.before.before.before.before.before.args in
-    let f = s.before.read-refusal.ensures.gives s.if1.false in
+    let a = c.args in
+    let f = c.read_refusal-code.ensures.gives c.if-code-ne0.false in
     refused_two a.out.now a.answer.now
-    (part_long a.answer.now f a.signal a.out.now g.gate-part.ensures c.before.if2.false c.if3.true)
+    (part_long a.answer.now f a.signal a.out.now c.gate_part-part.ensures c.if-length-eq0.false c.if-out-length.true)
 
-put_one_requires : tie.Need-put-one-requires
+put_one_requires : tie.Need-put_one-requires
 put_one_requires c κs =
-    let at_copy = c.before.before.before.before in
-    let s = at_copy.before.before.before.before in
-    (s.before.read-refusal.ensures.gives s.if1.false).room
+    (c.read_refusal-code.ensures.gives c.if-code-ne0.false).room
 
-returns_4 : tie.Need-returns-4
+returns_4 : tie.Need-returns
 returns_4 c =
-    let p = c.before.before.put_one in
-    let at_copy = c.before.before.before.before.before.before in
-    let t = at_copy.before.before in
-    let g = t.before.before in
-    let s = g.before in
-    let a = s.before.before.before.before.before.args in
-    let f = s.before.read-refusal.ensures.gives s.if1.false in
-    let e = part_fits a.answer.now f a.signal a.out.now g.gate-part.ensures t.before.if2.false t.if3.false in
+    let p = c.put_one in
+    let a = c.args in
+    let f = c.read_refusal-code.ensures.gives c.if-code-ne0.false in
+    let e = part_fits a.answer.now f a.signal a.out.now c.gate_part-part.ensures c.if-length-eq0.false c.if-out-length.false in
     let v = part_left a.out.now a.answer.now e in
-    (p.ensures.0 ∙ v.0, (at_copy.copy.ensures ∙ v.1.0, p.ensures.1 ∙ v.1.1))
+    (p.ensures.0 ∙ v.0, (c.copy.ensures ∙ v.1.0, p.ensures.1 ∙ v.1.1))
 
 pub part_of_file_spec : {M : Type 1} → statement M
 part_of_file_spec =

@@ -7,28 +7,25 @@ use Rattle.pmn_files.specs.FileLaws.{file_answer}
 use Rattle.pmn_files.proofs.write_file.Statement.{statement}
 use Rattle.pmn_files.proofs.write_file.Tie as tie
 
-refusal_requires : tie.Need-refusal-requires
-refusal_requires c κs = (λ i. (c.before.before.before.shared-slice-known.given i).fits, c.read.ensures)
+refusal_requires : tie.Need-refusal-code-requires
+refusal_requires c κs = (λ i. (c.shared_slice_known-1.given i).fits, c.read-loaded.ensures)
 
-returns : tie.Need-returns
+returns : tie.Need-returns-then-code-ne0
 unfolding file_out
 returns c =
-    let a = c.before.before.before.before.before.before.args in
-    refused_two a.out.now a.answer.now (open_refused c.before.refusal.ensures _ c.if1.true)
+    let a = c.args in
+    refused_two a.out.now a.answer.now (open_refused c.refusal-code.ensures _ c.if-code-ne0.true)
 
-put_file_requires : tie.Need-put-file-requires
+put_file_requires : tie.Need-put_file-requires
 put_file_requires c κs =
-    let s = c.before.before in
-    let o = s.before.refusal.ensures.gives s.if1.false in
+    let o = c.refusal-code.ensures.gives c.if-code-ne0.false in
     (file_sound o, o.room)
 
-returns_2 : tie.Need-returns-2
+returns_2 : tie.Need-returns
 returns_2 c =
-    let at_put = c.before.before.before.before in
-    let s = at_put.before.before.before in
-    let a = s.before.before.before.before.before.before.args in
-    let o = s.before.refusal.ensures.gives s.if1.false in
-    same_two a.out.now a.answer.now (file_answer a.out.now a.answer.now o) at_put.put_file.ensures
+    let a = c.args in
+    let o = c.refusal-code.ensures.gives c.if-code-ne0.false in
+    same_two a.out.now a.answer.now (file_answer a.out.now a.answer.now o) c.put_file.ensures
 
 pub write_file_spec : {M : Type 1} → statement M
 write_file_spec =

@@ -11,52 +11,52 @@ use Rattle.pmn_reader.proofs.PartFiles.{PartFile, no_part, part_file, inputs_the
 use Rattle.pmn_reader.proofs.gate_part.Statement.{statement}
 use Rattle.pmn_reader.proofs.gate_part.Tie as tie
 
-returns : tie.Need-returns
+returns : tie.Need-returns-then-gate_part_code-ne0
 returns c =
-    let a = c.before.before.before.before.args in
-    sym (no_part (part_answer a.file.now a.signal) (λ h. c.before.if1.true (c.before.before.gate-part-code.ensures ∙ h)))
+    let a = c.args in
+    sym (no_part (part_answer a.file.now a.signal) (λ h. c.if-gate_part_code-ne0.true (c.gate_part_code.ensures ∙ h)))
 
 -- the file, and the gate's number
-file_of_lem : (c : tie.Else1) → let a = c.before.before.before.args in PartFile a.file.now a.signal
+file_of_lem : (c : tie.Else-gate_part_code-ne0) → let a = c.args in PartFile a.file.now a.signal
 file_of_lem c =
-    let a = c.before.before.before.args in
-    let bytes = bytes_of a.file.now (λ i. (c.before.before.shared-slice-known.given i).fits) in
-    part_file a.file.now a.signal bytes (sym c.before.gate-part-code.ensures ∙ c.if1.false)
+    let a = c.args in
+    let bytes = bytes_of a.file.now (λ i. (c.shared_slice_known-1.given i).fits) in
+    part_file a.file.now a.signal bytes (sym c.gate_part_code.ensures ∙ c.if-gate_part_code-ne0.false)
 
 -- the header's length, and the inputs
-start_is : (c : tie.After-header-length) → c.header-length.result ≡ first_start c.before.before.before.before.before.args.file.now
-start_is c = c.header-length.ensures
+start_is : (c : tie.After-header_length-start) → c.header_length-start.result ≡ first_start c.args.file.now
+start_is c = c.header_length-start.ensures
 
-inputs_is : (c : tie.After-wide) → c.wide.result ≡ (file_of_lem c.before.before.before.before).net.inputs
+inputs_is : (c : tie.After-wide-inputs) → c.wide-inputs.result ≡ (file_of_lem c.before.before.before.before).net.inputs
 inputs_is c =
     let at_start = c.before.before in
-    let s = at_start.before.before.before.before.before.args.file.now in
-    c.wide.ensures.0 ∙ ap (λ (k : ℕ). get_or s (k - 3) 0) (start_is at_start) ∙ inputs_there (file_of_lem at_start.before.before)
+    let s = at_start.args.file.now in
+    c.wide-inputs.ensures.0 ∙ ap (λ (k : ℕ). get_or s (k - 3) 0) (start_is at_start) ∙ inputs_there (file_of_lem at_start.before.before)
 
-place : (c : tie.After-wide) → let at_else = c.before.before.before.before in
-    let x = at_else.before.before.before.args.signal in
-    x - c.wide.result ≡ x - (file_of_lem at_else).net.inputs
+place : (c : tie.After-wide-inputs) → let at_else = c.before.before.before.before in
+    let x = at_else.args.signal in
+    x - c.wide-inputs.result ≡ x - (file_of_lem at_else).net.inputs
 place c =
     let at_else = c.before.before.before.before in
-    let x = at_else.before.before.before.args.signal in
+    let x = at_else.args.signal in
     ap (λ (k : ℕ). x - k) (inputs_is c)
 
-shared_slice_read_header_length : tie.Need-shared-slice-read-header-length
+shared_slice_read_header_length : tie.Need-bounds-file-3
 shared_slice_read_header_length c = omega (arith, long (file_of_lem c.before))
 
-sub_wide : tie.Need-overflow-sub-wide
+sub_wide : tie.Need-overflow_sub-start
 sub_wide c = omega (arith, start_is c, starts (file_of_lem c.before.before))
 
-shared_slice_read_wide : tie.Need-shared-slice-read-wide
+shared_slice_read_wide : tie.Need-bounds-file-start
 shared_slice_read_wide c = omega (arith, start_is c.before, starts (file_of_lem c.before.before.before))
 
-sub_gate_bytes : tie.Need-overflow-sub-gate-bytes
+sub_gate_bytes : tie.Need-overflow_sub-signal
 sub_gate_bytes c = omega (arith, inputs_is c, (file_of_lem c.before.before.before.before).has)
 
-gate_bytes_requires : tie.Need-gate-bytes-requires
+gate_bytes_requires : tie.Need-gate_bytes-requires
 gate_bytes_requires c κs = gate_file (file_of_lem c.before.before.before.before) (place c)
 
-returns_2 : tie.Need-returns-2
+returns_2 : tie.Need-returns
 returns_2 c = c.gate_bytes.ensures ∙ part_is (file_of_lem c.before.before.before.before.before) (place c.before)
 
 pub gate_part_spec : {M : Type 1} → statement M

@@ -6,20 +6,20 @@ use Rattle.pmn_format.specs.AnsweredLaws.{by_refusal}
 use Rattle.pmn_reader.proofs.read.Statement.{statement}
 use Rattle.pmn_reader.proofs.read.Tie as tie
 
-returns : tie.Need-returns
+returns : tie.Need-returns-then-code-ne0
 unfolding loaded
 returns c =
-    let h = c.before.before.read_head in
-    c.refuse.ensures ∙ sym (ap as_loaded (h.ensures.says ∙ by_refusal h.result.code _ c.before.if1.true))
+    let h = c.read_head-head in
+    c.refuse.ensures ∙ sym (ap as_loaded (h.ensures.says ∙ by_refusal h.result.code _ c.if-code-ne0.true))
 
-read_body_requires : tie.Need-read-body-requires
-read_body_requires c κs = c.before.read_head.ensures.counts c.if1.false
+read_body_requires : tie.Need-read_body-requires
+read_body_requires c κs = c.read_head-head.ensures.counts c.if-code-ne0.false
 
-returns_2 : tie.Need-returns-2
+returns_2 : tie.Need-returns
 unfolding loaded
 returns_2 c =
-    let h = c.before.before.read_head in
-    c.read-body.ensures ∙ sym (ap as_loaded (h.ensures.says ∙ rw c.before.if1.false))
+    let h = c.read_head-head in
+    c.read_body.ensures ∙ sym (ap as_loaded (h.ensures.says ∙ rw c.if-code-ne0.false))
 
 pub read_spec : {M : Type 1} → statement M
 read_spec =

@@ -6,14 +6,14 @@ use Rattle.pmn_writer.specs.WriteAnswerLaws.{write_broken, written_refused}
 use Rattle.pmn_writer.proofs.write.Statement.{statement}
 use Rattle.pmn_writer.proofs.write.Tie as tie
 
-write_sound_requires : tie.Need-write-sound-requires
-write_sound_requires c κs = sym c.before.before.is_sound.ensures ∙ c.before.if1.true
+write_sound_requires : tie.Need-write_sound-requires
+write_sound_requires c κs = sym c.is_sound.ensures ∙ c.if-is_sound.true
 
-returns_2 : tie.Need-returns-2
+returns_2 : tie.Need-returns-else-is_sound
 returns_2 c =
-    let a = c.before.before.before.args in
+    let a = c.args in
     written_refused a.network 20 a.out.now
-    (write_broken a.network (length a.out.now) (sym c.before.is_sound.ensures ∙ c.if1.false))
+    (write_broken a.network (length a.out.now) (sym c.is_sound.ensures ∙ c.if-is_sound.false))
 
 pub write_spec : {M : Type 1} → statement M
 write_spec =

@@ -4,7 +4,7 @@ use Rattle.question_text.proofs.are_alike.Statement.{statement}
 use Rattle.question_text.proofs.are_alike.Tie as tie
 
 returns : tie.Need-returns
-returns c = let a = c.before.before.before.before.args in alike_is a.first a.second
+returns c = let a = c.args in alike_is a.first a.second
 
 pub are_alike_spec : {M : Type 1} → statement M
 are_alike_spec = tie.close (tie.spec returns)

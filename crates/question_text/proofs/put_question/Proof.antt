@@ -17,69 +17,62 @@ use Rattle.question_text.proofs.put_question.Statement.{statement}
 use Rattle.question_text.proofs.put_question.Tie as tie
 
 -- n is not 0
-positive : (c : tie.Else1) → 0 < c.before.before.args.n
-positive c = elim (dec_lt 0 c.before.before.args.n) as (λ d. 0 < c.before.before.args.n) [ yes h ↦ h | no h ↦ absurd (c.if1.false (omega arith)) ]
+positive : (c : tie.Else-n-eq0) → 0 < c.args.n
+positive c = elim (dec_lt 0 c.args.n) as (λ d. 0 < c.args.n) [ yes h ↦ h | no h ↦ absurd (c.if-n-eq0.false (omega arith)) ]
 
 -- the line before it, counted from 0 after the header, is one of the lines
-within : (c : tie.Else1) → c.before.before.args.n - 1 < lines_of (net_of c.before.before.args.first) (net_of c.before.before.args.second)
-within c = let h = positive c in omega (arith, c.before.before.requires.0.within)
+within : (c : tie.Else-n-eq0) → c.args.n - 1 < lines_of (net_of c.args.first) (net_of c.args.second)
+within c = let h = positive c in omega (arith, c.requires.0.within)
 
-line_count_requires : tie.Need-line-count-requires
-line_count_requires c κs = c.before.before.requires.0.pair
+line_count_requires : tie.Need-line_count-lines-requires
+line_count_requires c κs = c.requires.0.pair
 
-add_variables : tie.Need-overflow-add-variables
-add_variables c = let s = small_counts c.before.before.before.before.requires.0.pair in record { fits = omega arith }
+add_variables : tie.Need-overflow_add-variables
+add_variables c = let s = small_counts c.requires.0.pair in record { fits = omega arith }
 
-add_variables_2 : tie.Need-overflow-add-variables-2
-add_variables_2 c = let s = small_counts c.before.before.before.before.before.requires.0.pair in record { fits = omega arith }
+add_variables_2 : tie.Need-overflow_add-variables-then-n-eq0
+add_variables_2 c = let s = small_counts c.requires.0.pair in record { fits = omega arith }
 
-add_variables_3 : tie.Need-overflow-add-variables-3
-add_variables_3 c = let s = small_counts c.before.before.before.before.before.before.requires.0.pair in record { fits = omega arith }
+add_variables_3 : tie.Need-overflow_add-variables-then-n-eq0-2
+add_variables_3 c = let s = small_counts c.requires.0.pair in record { fits = omega arith }
 
-put_header_requires : tie.Need-put-header-requires
+put_header_requires : tie.Need-put_header-requires
 put_header_requires c κs =
-    let counted = c.before.before.before.before in
-    let start = counted.before.before.before in
-    let pair = start.requires.0.pair in
+    let pair = c.requires.0.pair in
     omega (
       arith,
-      ap length (header_is pair counted.before.if1.true refl counted.line-count.ensures),
-      text_short pair start.args.n start.requires.0.within,
-      start.requires.1,
+      ap length (header_is pair c.if-n-eq0.true refl c.line_count-lines.ensures),
+      text_short pair c.args.n c.requires.0.within,
+      c.requires.1,
     )
 
-returns : tie.Need-returns
+returns : tie.Need-returns-then-n-eq0
 returns c =
-    let done = c.before.before in
-    let counted = done.before.before.before.before.before in
-    put_text done.put-header.ensures
-    (header_is counted.before.before.before.requires.0.pair counted.before.if1.true refl counted.line-count.ensures)
+    put_text c.put_header.ensures
+    (header_is c.requires.0.pair c.if-n-eq0.true refl c.line_count-lines.ensures)
 
-sub_question_line : tie.Need-overflow-sub-question-line
+sub_question_line : tie.Need-overflow_sub-n
 sub_question_line c = positive c
 
-question_line_requires : tie.Need-question-line-requires
-question_line_requires c κs = (c.before.before.requires.0.pair, within c)
+question_line_requires : tie.Need-question_line-line-requires
+question_line_requires c κs = (c.requires.0.pair, within c)
 
-put_line_requires : tie.Need-put-line-requires
+put_line_requires : tie.Need-put_line-requires
 put_line_requires c κs =
-    let made = c.before in
-    let start = made.before.before.before in (
+    (
       record {
-        few = omega (arith, made.question-line.ensures.few, stands_count made.question-line.ensures);
-        narrow = subst (λ (l : Line). ShortLine l) (sym (stands_line made.question-line.ensures))
-            (line_narrow start.requires.0.pair (start.args.n - 1) (within made.before));
+        few = omega (arith, c.question_line-line.ensures.few, stands_count c.question_line-line.ensures);
+        narrow = subst (λ (l : Line). ShortLine l) (sym (stands_line c.question_line-line.ensures))
+            (line_narrow c.requires.0.pair (c.args.n - 1) (within c.before.before));
       },
-      start.requires.1,
+      c.requires.1,
     )
 
-returns_2 : tie.Need-returns-2
+returns_2 : tie.Need-returns
 returns_2 c =
-    let done = c.before.before in
-    let made = done.before.before in
-    let a = made.before.before.before.args in
-    put_text done.put-line.ensures
-    (ap line_text (stands_line made.question-line.ensures) ∙ line_is (net_of a.first) (net_of a.second) a.n (positive made.before))
+    let a = c.args in
+    put_text c.put_line.ensures
+    (ap line_text (stands_line c.question_line-line.ensures) ∙ line_is (net_of a.first) (net_of a.second) a.n (positive c.before.before.before.before.before))
 
 pub put_question_spec : {M : Type 1} → statement M
 put_question_spec =

@@ -19,51 +19,46 @@ abbrev text_of : tie.Start → List ℕ
 text_of c = question_text (net_of c.args.first) (net_of c.args.second) c.args.n
 
 -- the text in the 254 bytes
-text_is : (c : tie.After-put-question) → take c.put-question.result c.put-question.new.1.1.1.0 ≡ text_of c.before.before.before
-text_is c = let p = c.put-question.ensures in ap (take c.put-question.result) p.bytes ∙ take_at _ _ _ p.long
+text_is : (c : tie.After-put_question-length) → take c.put_question-length.result c.put_question-length.new.1.1.1.0 ≡ text_of c.before.before.before
+text_is c = let p = c.put_question-length.ensures in ap (take c.put_question-length.result) p.bytes ∙ take_at _ _ _ p.long
 
-within : (c : tie.After-put-question) → c.put-question.result ≤ length c.put-question.new.1.1.1.0
+within : (c : tie.After-put_question-length) → c.put_question-length.result ≤ length c.put_question-length.new.1.1.1.0
 within c =
-    let p = c.put-question.ensures in
-    let start = c.before.before.before in
-    let h : c.put-question.result ≤ 254 = omega (arith, p.long, text_short start.requires.pair start.args.n start.requires.within) in
+    let p = c.put_question-length.ensures in
+    let h : c.put_question-length.result ≤ 254 = omega (arith, p.long, text_short c.requires.pair c.args.n c.requires.within) in
     omega (arith, put_length p h)
 
-put_question_requires : tie.Need-put-question-requires
-put_question_requires c κs = (c.before.before.requires, omega arith)
+put_question_requires : tie.Need-put_question-length-requires
+put_question_requires c κs = (c.requires, omega arith)
 
-returns : tie.Need-returns
+returns : tie.Need-returns-then-out-length
 returns c =
-    let done = c.before.before.before in
-    let start = done.before.before.before in
-    let a = start.args in
+    let a = c.args in
     let out = a.out.now in
-    let h = c.before.if1.true in
-    let gives = refused_gives out (too_long a.first a.second a.n (length out) start.requires (omega (arith, done.put-question.ensures.long))) in
+    let h = c.if-out-length.true in
+    let gives = refused_gives out (too_long a.first a.second a.n (length out) c.requires (omega (arith, c.put_question-length.ensures.long))) in
     (c.refusal.ensures ∙ gives.0, gives.1)
 
-array_share_prefix_text : tie.Need-array-share-prefix-text
+array_share_prefix_text : tie.Need-slice_bounds-text-end
 array_share_prefix_text c = within c.before.before.before
 
-slice_aggregate_put_bytes : tie.Need-slice-aggregate-put-bytes
-slice_aggregate_put_bytes c = let done = c.before.before.before.before in sym (ap length (text_is done) ∙ done.put-question.ensures.long)
+slice_aggregate_put_bytes : tie.Need-slice_bounds-put_bytes-end
+slice_aggregate_put_bytes c = let done = c.before.before.before.before in sym (ap length (text_is done) ∙ done.put_question-length.ensures.long)
 
-put_bytes_requires : tie.Need-put-bytes-requires
+put_bytes_requires : tie.Need-put_bytes-requires
 put_bytes_requires c κs = let done = c.before.before.before.before in
-    omega (arith, ap length (text_is done), done.put-question.ensures.long, c.before.before.if1.false)
+    omega (arith, ap length (text_is done), done.put_question-length.ensures.long, c.if-out-length.false)
 
-returns_2 : tie.Need-returns-2
+returns_2 : tie.Need-returns
 returns_2 c =
-    let copied = c.before.before in
-    let done = copied.before.before.before.before.before in
-    let start = done.before.before.before in
-    let a = start.args in
+    let done = c.before.before.before.before.before.before.before in
+    let a = c.args in
     let out = a.out.now in
-    let text = text_of start in
-    let long = done.put-question.ensures.long in
-    let put = put_text copied.put-bytes.ensures (text_is done) in
+    let text = text_of c in
+    let long = done.put_question-length.ensures.long in
+    let put = put_text c.put_bytes.ensures (text_is done) in
     let gives = accepted_gives text out
-    (given a.first a.second a.n (length out) start.requires (omega (arith, long, copied.before.before.before.if1.false))) in (
+    (given a.first a.second a.n (length out) c.requires (omega (arith, long, c.if-out-length.false))) in (
       ap (λ (n : ℕ). record { code = 0; length = n }) (sym long) ∙ gives.0,
       put.bytes ∙ ap (λ (n : ℕ). text ++ drop n out) (sym put.long) ∙ gives.1,
     )

@@ -17,20 +17,20 @@ use Rattle.scorer.specs.Answers.{scoring}
 use Rattle.scorer.proofs.score.Statement.{statement}
 use Rattle.scorer.proofs.score.Tie as tie
 
-returns : tie.Need-returns
+returns : tie.Need-returns-then-held-gt64
 unfolding scoring sound_whole
 returns c =
-    let held = c.before.before.before.before.args.held in
-    let broken = and_false_right (sound_record held.network) _ (lt-leb held.journal.count 64 (omega (arith, c.before.if1.true))) in
+    let held = c.args.held in
+    let broken = and_false_right (sound_record held.network) _ (lt-leb held.journal.count 64 (omega (arith, c.if-held-gt64.true))) in
     c.refused.ensures ∙ ap as_sheet (sym (checks_first (sound_whole held) 20 [] _ broken))
 
-returns_2 : tie.Need-returns-2
+returns_2 : tie.Need-returns
 unfolding scoring network_sheet sound_whole
 returns_2 c =
-    let a = c.before.before.before.before.args in
+    let a = c.args in
     let n = a.held.network in
-    let few = ap (λ (b : Bool). sound_record n && b) (le-leb _ 64 c.before.if1.false) ∙ and_true (sound_record n) in
-    c.score-network.ensures ∙ ap (λ (b : Bool). as_sheet (checks ((b else 20) ∷ []) (game (net_of n) a.frames.now))) (sym few)
+    let few = ap (λ (b : Bool). sound_record n && b) (le-leb _ 64 c.if-held-gt64.false) ∙ and_true (sound_record n) in
+    c.score_network.ensures ∙ ap (λ (b : Bool). as_sheet (checks ((b else 20) ∷ []) (game (net_of n) a.frames.now))) (sym few)
 
 pub score_spec : {M : Type 1} → statement M
 score_spec = tie.close (tie.spec (λ c κs. search rules) returns (λ c κs. search rules) returns_2)

@@ -14,21 +14,20 @@ use Rattle.three_feeds.proofs.number.Statement.{statement}
 use Rattle.three_feeds.proofs.number.Tie as tie
 
 -- the number read
-abbrev read : tie.After-result → ℤ
+abbrev read : tie.After-result-1 → ℤ
 read c = let a = c.before.before.args in get_or a.numbers.now (4 * c.before.wide.result + a.place) (pos 0)
 
-small : (c : tie.After-result) → SFits w8 (read c)
-small c = record { sfits = c.result.given }
+small : (c : tie.After-result-1) → SFits w8 (read c)
+small c = record { sfits = c.result-1.given }
 
-cast_result : tie.Need-overflow-cast-result
+cast_result : tie.Need-overflow_cast-result
 cast_result c = rw (to_z-of_z (small c)) (sfits_widen tt (small c))
 
 returns : tie.Need-returns
 returns c =
-    let start = c.before.before in
     rw (to_z-of_z (small c)) (to_z-of_z (sfits_widen tt (small c))
-    ∙ ap (λ (l : List ℤ). get_or l (4 * c.before.wide.result + start.args.place) (pos 0)) start.requires.0
-    ∙ ap (λ (n : ℕ). get_or (numbers_of_all table_entries) (4 * n + start.args.place) (pos 0)) c.before.wide.ensures.0)
+    ∙ ap (λ (l : List ℤ). get_or l (4 * c.wide.result + c.args.place) (pos 0)) c.requires.0
+    ∙ ap (λ (n : ℕ). get_or (numbers_of_all table_entries) (4 * n + c.args.place) (pos 0)) c.wide.ensures.0)
 
 pub number_spec : {M : Type 1} → statement M
 number_spec =

@@ -13,12 +13,11 @@ use Rattle.three_feeds_part.proofs.gate_on.Tie as tie
 
 returns : tie.Need-returns
 returns c =
-    let start = c.before.before.before in
-    let a = start.args in
-    let f = start.ranges in
-    let one = c.before.before.fan-in.ensures in
-    let two = c.before.fan-in2.ensures in
-    let three = c.fan-in3.ensures in
+    let a = c.args in
+    let f = c.ranges in
+    let one = c.fan_in-one.ensures in
+    let two = c.fan_in.ensures in
+    let three = c.fan_in-2.ensures in
     let x = one.0 ∙ ap (λ (z : ℤ). digit (not (is_zero z))) (to_z-of_z f.a) in
     let y = two.0 ∙ ap (λ (z : ℤ). digit (not (is_zero z))) (to_z-of_z f.b) in
     let z = three.0 ∙ ap (λ (z : ℤ). digit (not (is_zero z))) (to_z-of_z f.c) in (

@@ -14,34 +14,33 @@ use Rattle.three_feeds_part.proofs.put_in.Statement.{statement}
 use Rattle.three_feeds_part.proofs.put_in.Tie as tie
 
 -- the gate
-abbrev gate_of : tie.After-gate-on → Gate
+abbrev gate_of : tie.After-gate_on-gate → Gate
 gate_of c = let a = c.before.before.args in gate_on_signals a.i a.j a.k a.a a.b a.c a.threshold
 
-made : (c : tie.After-gate-on) → gate_in c.gate_on.result ≡ gate_of c
+made : (c : tie.After-gate_on-gate) → gate_in c.gate_on-gate.result ≡ gate_of c
 made c =
-    let f = c.before.before.ranges in
-    rw (to_z-of_z f.a, to_z-of_z f.b, to_z-of_z f.c, to_z-of_z f.threshold) at c.gate_on.ensures.0
+    let f = c.ranges in
+    rw (to_z-of_z f.a, to_z-of_z f.b, to_z-of_z f.c, to_z-of_z f.threshold) at c.gate_on-gate.ensures.0
 
 -- how long its bytes are
-length_is : (c : tie.After-gate-on) → 5 + 5 * c.gate_on.result.fanin ≡ length (gate_bytes (gate_of c))
-length_is c = sym (row_length c.gate_on.result) ∙ ap (λ (g : Gate). length (gate_bytes g)) (made c)
+length_is : (c : tie.After-gate_on-gate) → 5 + 5 * c.gate_on-gate.result.fanin ≡ length (gate_bytes (gate_of c))
+length_is c = sym (row_length c.gate_on-gate.result) ∙ ap (λ (g : Gate). length (gate_bytes g)) (made c)
 
 room_is : (c : tie.After-wide) → 5 + 5 * c.wide.result ≡ length (gate_bytes (gate_of c.before))
 room_is c = ap (λ (n : ℕ). 5 + 5 * n) c.wide.ensures.0 ∙ length_is c.before
 
-returns : tie.Need-returns
+returns : tie.Need-returns-then-out-wide
 returns c =
-    let out = c.before.before.before.before.args.out.now in
-    no_room (gate_of c.before.before) out (subst (λ (n : ℕ). length out < n) (room_is c.before) c.if1.true)
+    let out = c.args.out.now in
+    no_room (gate_of c.before.before) out (subst (λ (n : ℕ). length out < n) (room_is c.before) c.if-out-wide.true)
 
-returns_2 : tie.Need-returns-2
+returns_2 : tie.Need-returns
 returns_2 c =
-    let done = c.before.before.put-gate in
-    let else = c.before.before.before.before in
-    let gate = else.before.before in
-    let out = gate.before.before.args.out.now in
+    let done = c.put_gate in
+    let gate = c.before.before.before.before.before.before in
+    let out = gate.args.out.now in
     has_room (gate_of gate) out done.result done.new.0
-    (subst (λ (n : ℕ). n ≤ length out) (room_is else.before) else.if1.false)
+    (subst (λ (n : ℕ). n ≤ length out) (room_is c.before.before.before.before.before) c.if-out-wide.false)
     (done.ensures.0 ∙ length_is gate)
     (done.ensures.1 ∙ ap (λ (g : Gate). gate_bytes g ++ drop done.result out) (made gate))
 

@@ -11,30 +11,26 @@ use borrow.Author.Rules.{rules}
 use Rattle.three_feeds_places.proofs.put.Statement.{statement}
 use Rattle.three_feeds_places.proofs.put.Tie as tie
 
-returns : tie.Need-returns
+returns : tie.Need-returns-in-HasGate
 returns c =
-    let d = c.before.before in
-    let told = d.before.before.before.before.before in
-    let ok = told.known-told.given in
-    let lent = told.before.before.before.args.answer.now in
-    c.before.put_five.ensures
-    ∙ ap (λ (l : List ℤ). l ++ drop 5 lent) (gate_places_lem told.before.found.given.1
-    (read_back w64 d.before.before.before.widened.type-inv (d.before.before.before.widened.ensures ∙ to_z-of_z (record { sfits = ok.0.1 })))
-    (read_back w64 d.before.before.widened2.type-inv (d.before.before.widened2.ensures ∙ to_z-of_z (record { sfits = ok.1.0.1 })))
-    (read_back w64 d.before.widened3.type-inv (d.before.widened3.ensures ∙ to_z-of_z (record { sfits = ok.1.1.0.1 })))
-    (read_back w64 d.widened4.type-inv (d.widened4.ensures ∙ to_z-of_z (record { sfits = ok.1.1.1.0.1 }))))
+    let ok = c.known_told-1.given in
+    let lent = c.args.answer.now in
+    c.put_five.ensures
+    ∙ ap (λ (l : List ℤ). l ++ drop 5 lent) (gate_places_lem c.found-1.given.1
+    (read_back w64 c.widened.type_inv (c.widened.ensures ∙ to_z-of_z (record { sfits = ok.0.1 })))
+    (read_back w64 c.widened-in-HasGate.type_inv (c.widened-in-HasGate.ensures ∙ to_z-of_z (record { sfits = ok.1.0.1 })))
+    (read_back w64 c.widened-in-HasGate-2.type_inv (c.widened-in-HasGate-2.ensures ∙ to_z-of_z (record { sfits = ok.1.1.0.1 })))
+    (read_back w64 c.widened-in-HasGate-3.type_inv (c.widened-in-HasGate-3.ensures ∙ to_z-of_z (record { sfits = ok.1.1.1.0.1 }))))
 
-returns_2 : tie.Need-returns-2
+returns_2 : tie.Need-returns-in-NoGate
 returns_2 c =
-    let d = c.before.before in
-    let told = d.before.before.before.before.before in
-    let lent = told.before.before.before.args.answer.now in
-    c.before.put-five2.ensures
-    ∙ ap (λ (l : List ℤ). l ++ drop 5 lent) (witness_places told.before.found2.given.1
-    (read_back w64 d.before.before.before.signed.type-inv d.before.before.before.signed.ensures)
-    (read_back w64 d.before.before.signed2.type-inv d.before.before.signed2.ensures)
-    (read_back w64 d.before.signed3.type-inv d.before.signed3.ensures)
-    (read_back w64 d.signed4.type-inv d.signed4.ensures))
+    let lent = c.args.answer.now in
+    c.put_five-in-NoGate.ensures
+    ∙ ap (λ (l : List ℤ). l ++ drop 5 lent) (witness_places c.found-in-NoGate-1.given.1
+    (read_back w64 c.signed.type_inv c.signed.ensures)
+    (read_back w64 c.signed-in-NoGate.type_inv c.signed-in-NoGate.ensures)
+    (read_back w64 c.signed-in-NoGate-2.type_inv c.signed-in-NoGate-2.ensures)
+    (read_back w64 c.signed-in-NoGate-3.type_inv c.signed-in-NoGate-3.ensures))
 
 pub put_spec : {M : Type 1} → statement M
 put_spec =

@@ -8,13 +8,13 @@ use borrow.Author.Rules.{rules}
 use Rattle.three_feeds_places.proofs.put_five.Statement.{statement}
 use Rattle.three_feeds_places.proofs.put_five.Tie as tie
 
-slice_set_from_second : tie.Need-slice-set-from-second
+slice_set_from_second : tie.Need-bounds-answer-1
 slice_set_from_second c = simp length-set (omega arith)
 
-slice_set_from_third : tie.Need-slice-set-from-third
+slice_set_from_third : tie.Need-bounds-answer-2
 slice_set_from_third c = simp length-set (omega arith)
 
-slice_set_from_fourth : tie.Need-slice-set-from-fourth
+slice_set_from_fourth : tie.Need-bounds-answer-3
 slice_set_from_fourth c = simp length-set (omega arith)
 
 returns : tie.Need-returns

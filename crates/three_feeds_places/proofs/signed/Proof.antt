@@ -5,7 +5,7 @@ use mir.Syntax.{w64}
 use Rattle.three_feeds_places.proofs.signed.Statement.{statement}
 use Rattle.three_feeds_places.proofs.signed.Tie as tie
 
-cast_result : tie.Need-overflow-cast-result
+cast_result : tie.Need-overflow_cast-result
 cast_result c = record { sfits = omega (arith, c.ranges.setting.fits) }
 
 returns : tie.Need-returns

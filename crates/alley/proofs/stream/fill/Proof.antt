@@ -10,50 +10,49 @@ use borrow.Rule.Slice.PartMut.{put_mid, same_len_mid}
 use Rattle.alley.proofs.stream.fill.Statement.{statement}
 use Rattle.alley.proofs.stream.fill.Tie as tie
 
-abbrev invariant-loop : tie.invariant-loop
+abbrev invariant-loop : tie.invariant-loop-end
 invariant-loop input₀ start end₀ input end = (end ≤ length input) × (length input ≡ length input₀)
 
-abbrev decreases-loop : tie.decreases-loop
+abbrev decreases-loop : tie.decreases-loop-end
 decreases-loop input₀ start end₀ input end = length input₀ - end
 
 -- a read leaves as many bytes as there were
-kept : (c : tie.After-read-some invariant-loop decreases-loop) → let l = c.before.before.before.loop in
-    length (put_mid l.end (length l.input - l.end) l.input c.read_Some.new.0)
-    ≡ length c.before.before.before.before.before.before.args.input.now
+kept : (c : tie.After-read_some-got invariant-loop decreases-loop) → let l = c.loop-end in
+    length (put_mid l.end (length l.input - l.end) l.input c.read_some-got.new.0)
+    ≡ length c.args.input.now
 kept c =
-    let l = c.before.before.before.loop in
-    same_len_mid l.end (length l.input - l.end) l.input c.read_Some.new.0 c.read_Some.auto.0 ∙ l.invariant.1
+    let l = c.loop-end in
+    same_len_mid l.end (length l.input - l.end) l.input c.read_some-got.new.0 c.read_some-got.auto.0 ∙ l.invariant.1
 
 -- and gives no more than there is room for
-few : (c : tie.After-read-some invariant-loop decreases-loop) → let l = c.before.before.before.loop in
-    l.end + c.read_Some.result ≤ length c.before.before.before.before.before.before.args.input.now
+few : (c : tie.After-read_some-got invariant-loop decreases-loop) → let l = c.loop-end in
+    l.end + c.read_some-got.result ≤ length c.args.input.now
 few c =
-    let l = c.before.before.before.loop in
-    omega (arith, c.read_Some.ensures, c.read_Some.auto.0, tail_length l.end l.input, l.invariant.0, l.invariant.1)
+    let l = c.loop-end in
+    omega (arith, c.read_some-got.ensures, c.read_some-got.auto.0, tail_length l.end l.input, l.invariant.0, l.invariant.1)
 
-same_length : tie.Need-same-length invariant-loop decreases-loop
+same_length : tie.Need-shape_of-input-then-got-eq0 invariant-loop decreases-loop
 same_length c = kept c.before.before.before
 
-add_end : tie.Need-overflow-add-end invariant-loop decreases-loop
+add_end : tie.Need-overflow_add-end invariant-loop decreases-loop
 add_end c =
     let got = c.before.before.before in
-    let start = got.before.before.before.before.before.before in
-    record { fits = omega (arith, few got, start.well-formed.0.0) }
+    record { fits = omega (arith, few got, c.well_formed.0.0) }
 
 -- the read gave something
-positive : (c : tie.Else1 invariant-loop decreases-loop) → 0 < c.before.before.before.read_Some.result
+positive : (c : tie.Else-got-eq0 invariant-loop decreases-loop) → 0 < c.read_some-got.result
 positive c =
-    elim (dec_lt 0 c.before.before.before.read_Some.result) as
-    (λ d. 0 < c.before.before.before.read_Some.result) [ yes h ↦ h | no h ↦ absurd (c.if1.false (omega arith)) ]
+    elim (dec_lt 0 c.read_some-got.result) as
+    (λ d. 0 < c.read_some-got.result) [ yes h ↦ h | no h ↦ absurd (c.if-got-eq0.false (omega arith)) ]
 
-loop_less : tie.Need-loop-smaller invariant-loop decreases-loop
+loop_less : tie.Need-loop-end-smaller invariant-loop decreases-loop
 loop_less c = let done = c.before.before.before in omega (arith, few done, positive c)
 
-loop_again : tie.Need-loop-preserved invariant-loop decreases-loop
+loop_again : tie.Need-loop-end-preserved invariant-loop decreases-loop
 loop_again c = let done = c.before.before.before in (omega (arith, few done, kept done), kept done)
 
-same_length_2 : tie.Need-same-length-2 invariant-loop decreases-loop
-same_length_2 c = c.before.loop.invariant.1
+same_length_2 : tie.Need-shape_of-input invariant-loop decreases-loop
+same_length_2 c = c.loop-end.invariant.1
 
 pub fill_spec : {M : Type 1} → statement M
 fill_spec =

@@ -8,33 +8,32 @@ use Rattle.alley.specs.MoveLaws.{Moving, none_moved, one_moved}
 use Rattle.alley.proofs.stream.move_to_front.Statement.{statement}
 use Rattle.alley.proofs.stream.move_to_front.Tie as tie
 
-abbrev invariant-loop : tie.invariant-loop
+abbrev invariant-loop : tie.invariant-loop-i
 invariant-loop bytes₀ start stop end from count i₀ bytes i = (i ≤ count) × Moving from i bytes₀ bytes
 
-abbrev decreases-loop : tie.decreases-loop
+abbrev decreases-loop : tie.decreases-loop-i
 decreases-loop bytes₀ start stop end from count i₀ bytes i = count - i
 
-loop_holds : tie.Need-loop-init invariant-loop decreases-loop
+loop_holds : tie.Need-loop-i-init invariant-loop decreases-loop
 loop_holds c = (omega arith, none_moved _ _)
 
-loop_again : tie.Need-loop-preserved invariant-loop decreases-loop
+loop_again : tie.Need-loop-i-preserved invariant-loop decreases-loop
 loop_again c =
-    let made = c.before.before.before in (
+    (
       omega arith,
-      one_moved c.before.before.loop.invariant.1
-          (omega (arith, c.before.loop-test.true, made.least2.ensures.second, made.before.least.ensures.second)),
+      one_moved c.loop-i.invariant.1
+          (omega (arith, c.loop-i-test.true, c.least-from.ensures.second, c.least-end.ensures.second)),
     )
 
-same_length : tie.Need-same-length invariant-loop decreases-loop
-same_length c = c.before.loop.invariant.1.long
+same_length : tie.Need-shape_of-bytes invariant-loop decreases-loop
+same_length c = c.loop-i.invariant.1.long
 
 returns : tie.Need-returns invariant-loop decreases-loop
 returns c =
-    let l = c.before.loop in
-    let made = c.before.before in
-    let end = made.before.least in
-    let from = made.least2 in
-    let a = made.before.before.before.args in
+    let l = c.loop-i in
+    let end = c.least-end in
+    let from = c.least-from in
+    let a = c.args in
     let old = a.bytes.now in
     let n = end.result - from.result in
     let e : l.i ≡ n = omega arith in

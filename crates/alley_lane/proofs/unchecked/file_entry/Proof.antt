@@ -12,24 +12,23 @@ use Rattle.alley_lane.proofs.unchecked.file_entry.Statement.{statement}
 use Rattle.alley_lane.proofs.unchecked.file_entry.Tie as tie
 
 -- the entry of the file's lane
-made : (c : tie.After-refusal) → {e : Entry}
-    → let l = whole c.before.before.before.args.file.now in e ≡ as_entry (lane_entry l) → EntryFor l e
+made : (c : tie.After-refusal-code) → {e : Entry}
+    → let l = whole c.args.file.now in e ≡ as_entry (lane_entry l) → EntryFor l e
 made c h =
-    let s = c.before.before in
-    let file = s.before.args.file.now in
-    entry_made (whole file) (bytes_of file (λ i. (s.shared-slice-known.given i).fits)) h
+    let file = c.args.file.now in
+    entry_made (whole file) (bytes_of file (λ i. (c.shared_slice_known-1.given i).fits)) h
 
-refusal_requires : tie.Need-refusal-requires
-refusal_requires c κs = (λ i. (c.before.shared-slice-known.given i).fits, c.read.ensures)
+refusal_requires : tie.Need-refusal-code-requires
+refusal_requires c κs = (λ i. (c.shared_slice_known-1.given i).fits, c.read-loaded.ensures)
 
-returns : tie.Need-returns
-returns c = let o = c.before.before in made o (c.refused-entry.ensures ∙ refused_file o.refusal.ensures c.before.if1.true)
+returns : tie.Need-returns-then-code-ne0
+returns c = let o = c.before.before in made o (c.refused_entry.ensures ∙ refused_file o.refusal-code.ensures c.if-code-ne0.true)
 
-size_of_requires : tie.Need-size-of-requires
-size_of_requires c κs = file_sound (c.before.refusal.ensures.gives c.if1.false)
+size_of_requires : tie.Need-size_of-size-requires
+size_of_requires c κs = file_sound (c.refusal-code.ensures.gives c.if-code-ne0.false)
 
-returns_2 : tie.Need-returns-2
-returns_2 c = let o = c.before.before in made o (read_file o.refusal.ensures c.before.if1.false c.type_size.ensures)
+returns_2 : tie.Need-returns
+returns_2 c = let o = c.before.before.before in made o (read_file o.refusal-code.ensures c.if-code-ne0.false c.type_size.ensures)
 
 pub file_entry_spec : {M : Type 1} → statement M
 file_entry_spec = tie.close (tie.spec (λ c κs. search rules) refusal_requires (λ c κs. search rules) returns size_of_requires returns_2)

@@ -8,27 +8,26 @@ use Rattle.alley_lane.proofs.unchecked.find_lane.Statement.{statement}
 use Rattle.alley_lane.proofs.unchecked.find_lane.Tie as tie
 
 -- the length that the first two bytes say
-said : (c : tie.After-wide2)
-    → c.before.before.wide.result + 256 * c.wide2.result ≡ length_said c.before.before.before.before.before.before.args.bytes.now
-said c = omega (arith, c.before.before.wide.ensures.0, c.wide2.ensures.0)
+said : (c : tie.After-wide-2)
+    → c.wide.result + 256 * c.wide-2.result ≡ length_said c.args.bytes.now
+said c = omega (arith, c.wide.ensures.0, c.wide-2.ensures.0)
 
-returns : tie.Need-returns
+returns : tie.Need-returns-then-available-lt2
 returns c =
-    let a = c.before.before.before.args in
-    found_cut a.last a.bytes.now (λ h. absurd (omega (arith, c.before.if1.true))) c.cut_off.ensures
+    let a = c.args in
+    found_cut a.last a.bytes.now (λ h. absurd (omega (arith, c.if-available-lt2.true))) c.cut_off.ensures
 
-returns_2 : tie.Need-returns-2
+returns_2 : tie.Need-returns-then-available-length
 returns_2 c =
     let done = c.before.before in
-    let a = done.before.before.before.before.before.before.args in
-    found_cut a.last a.bytes.now (λ h. omega (arith, said done, c.before.if2.true)) c.cut-off2.ensures
+    let a = done.args in
+    found_cut a.last a.bytes.now (λ h. omega (arith, said done, c.if-available-length.true)) c.cut_off-then-available-length.ensures
 
-returns_3 : tie.Need-returns-3
+returns_3 : tie.Need-returns
 returns_3 c =
     let done = c.before in
-    let start = done.before.before.before.before.before in
-    let a = start.before.args in
-    found_whole a.last a.bytes.now (omega arith) (omega (arith, said done, c.if2.false)) (omega (arith, said done))
+    let a = c.args in
+    found_whole a.last a.bytes.now (omega arith) (omega (arith, said done, c.if-available-length.false)) (omega (arith, said done))
 
 pub find_lane_spec : {M : Type 1} → statement M
 find_lane_spec =

@@ -9,24 +9,23 @@ use Rattle.alley_theory.specs.EntryLaws.{entry_made}
 use Rattle.alley_lane.proofs.unchecked.lane_entry.Statement.{statement}
 use Rattle.alley_lane.proofs.unchecked.lane_entry.Tie as tie
 
-returns : tie.Need-returns
+returns : tie.Need-returns-then-not-found
 unfolding lane_entry
 returns c =
-    let start = c.before.before.before.before in
-    rw (not-true start.args.found.complete c.before.if1.true) (entry_made cut_short tt c.refused-entry.ensures)
+    rw (not-true c.args.found.complete c.if-not-found.true) (entry_made cut_short tt c.refused_entry.ensures)
 
 -- past the test the lane is whole
-complete : (c : tie.Else1) → c.before.before.before.args.found.complete ≡ true
-complete c = not-false _ c.if1.false
+complete : (c : tie.Else-not-found) → c.args.found.complete ≡ true
+complete c = not-false _ c.if-not-found.false
 
-sub_file_entry : tie.Need-overflow-sub-file-entry
-sub_file_entry c = omega (arith, c.before.before.before.requires.long (complete c))
+sub_file_entry : tie.Need-slice_bounds-file_entry-count
+sub_file_entry c = omega (arith, c.requires.long (complete c))
 
 part_file_entry_start : tie.Need-slice-bounds-file-entry-start
 part_file_entry_start c = omega (arith, c.before.before.before.requires.long (complete c))
 
-returns_2 : tie.Need-returns-2
-returns_2 c = rw (complete c.before.before) c.file-entry.ensures
+returns_2 : tie.Need-returns
+returns_2 c = rw (complete c.before.before) c.file_entry.ensures
 
 pub lane_entry_spec : {M : Type 1} → statement M
 lane_entry_spec =

@@ -9,21 +9,20 @@ use Rattle.alley_line.proofs.unchecked.put_last.Statement.{statement}
 use Rattle.alley_line.proofs.unchecked.put_last.Tie as tie
 
 -- room for the line feed
-room : (c : tie.After-put-number) → c.put-number.result < length c.before.before.before.before.args.out.now
+room : (c : tie.After-put_number-at) → c.put_number-at.result < length c.args.out.now
 room c =
-    let start = c.before.before.before.before in
-    omega (arith, c.put-number.ensures.long, length-append start.args.word.now (decimal start.args.n), start.requires)
+    omega (arith, c.put_number-at.ensures.long, length-append c.args.word.now (decimal c.args.n), c.requires)
 
-slice_write_out : tie.Need-slice-write-out
-slice_write_out c = let done = c.before.before in let h = room done in omega (arith, put_length done.put-number.ensures (omega arith))
+slice_write_out : tie.Need-bounds-out-at
+slice_write_out c = let done = c.before.before in let h = room done in omega (arith, put_length done.put_number-at.ensures (omega arith))
 
-add_result : tie.Need-overflow-add-result
-add_result c = let done = c.before.before in let h = room done in record { fits = omega (arith, done.before.before.before.before.well-formed.0.0) }
+add_result : tie.Need-overflow_add-result
+add_result c = let done = c.before.before in let h = room done in record { fits = omega (arith, done.well_formed.0.0) }
 
 returns : tie.Need-returns
-returns c = let done = c.before.before in put_byte done.put-number.ensures 10 (room done)
+returns c = let done = c.before.before in put_byte done.put_number-at.ensures 10 (room done)
 
-same_length : tie.Need-same-length
+same_length : tie.Need-shape_of-out
 same_length c = let h = room c.before.before in put_length (returns c) (omega arith)
 
 pub put_last_spec : {M : Type 1} → statement M

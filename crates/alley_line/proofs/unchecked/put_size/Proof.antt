@@ -16,51 +16,48 @@ long : (c : tie.Start) → length c.args.word.now + length (decimal c.args.gates
 long c = omega (arith, size_length c.args.gates c.args.cost, c.requires)
 
 -- the room after the gates
-first_room : (c : tie.After-put-number)
-    → c.put-number.result + length (decimal c.before.before.before.before.args.cost) + 2 ≤ length c.before.before.before.before.args.out.now
+first_room : (c : tie.After-put_number-at)
+    → c.put_number-at.result + length (decimal c.args.cost) + 2 ≤ length c.args.out.now
 first_room c =
     let start = c.before.before.before.before in
-    omega (arith, c.put-number.ensures.long, length-append start.args.word.now (decimal start.args.gates), long start)
+    omega (arith, c.put_number-at.ensures.long, length-append start.args.word.now (decimal start.args.gates), long start)
 
-first_long : (c : tie.After-put-number) → length c.put-number.new.0 ≡ length c.before.before.before.before.args.out.now
-first_long c = put_length c.put-number.ensures (omega (arith, first_room c))
+first_long : (c : tie.After-put_number-at) → length c.put_number-at.new.0 ≡ length c.args.out.now
+first_long c = put_length c.put_number-at.ensures (omega (arith, first_room c))
 
-put_number_requires : tie.Need-put-number-requires
+put_number_requires : tie.Need-put_number-at-requires
 put_number_requires c κs = omega (arith, long c.before.before.before)
 
-sub_put_last : tie.Need-overflow-sub-put-last
+sub_put_last : tie.Need-slice_bounds-put_last-count
 sub_put_last c = let done = c.before.before in omega (arith, first_long done, first_room done)
 
 part_put_last_start : tie.Need-slice-bounds-put-last-start
 part_put_last_start c = let done = c.before.before in omega (arith, first_long done, first_room done)
 
-put_last_requires : tie.Need-put-last-requires
+put_last_requires : tie.Need-put_last-requires
 put_last_requires c κs =
-    let done = c.before.before.before.before in
-    omega (arith, first_long done, first_room done, tail_length done.put-number.result done.put-number.new.0)
+    let done = c.before.before.before.before.before in
+    omega (arith, first_long done, first_room done, tail_length done.put_number-at.result done.put_number-at.new.0)
 
 -- the cost has room
-end : (c : tie.After-put-last) → let done = c.before.before.before.before.before in
-    done.put-number.result + c.put_last.result ≤ length done.before.before.before.before.args.out.now
+end : (c : tie.After-put_last) → let done = c.before.before.before.before.before.before in
+    done.put_number-at.result + c.put_last.result ≤ length done.args.out.now
 end c =
-    let done = c.before.before.before.before.before in
+    let done = c.before.before.before.before.before.before in
     omega (arith, first_room done, c.put_last.ensures.long, simp length-append at c.put_last.ensures.long)
 
-add_result : tie.Need-overflow-add-result
+add_result : tie.Need-overflow_add-result
 add_result c =
     let last = c.before.before in
-    let done = last.before.before.before.before.before in
-    let start = done.before.before.before.before in
-    record { fits = omega (arith, end last, start.well-formed.0.0) }
+    record { fits = omega (arith, end last, c.well_formed.0.0) }
 
 returns : tie.Need-returns
 returns c =
     let done = c.before.before in
-    let first = done.before.before.before.before.before in
-    let a = first.before.before.before.before.args in
-    put_text (put_part first.put-number.ensures (end done) done.put_last.ensures) (size_parts a.gates a.cost a.word.now)
+    let a = c.args in
+    put_text (put_part c.put_number-at.ensures (end done) done.put_last.ensures) (size_parts a.gates a.cost a.word.now)
 
-same_length : tie.Need-same-length
+same_length : tie.Need-shape_of-out
 same_length c = put_length (returns c) (end c.before.before)
 
 pub put_size_spec : {M : Type 1} → statement M

@@ -13,14 +13,13 @@ use Rattle.alley_line.proofs.unchecked.put_total.Tie as tie
 short : (c : tie.Start) → length (size_text (size_with c.args.gates c.args.cost)) ≤ 42
 short c = size_short (size_with c.args.gates c.args.cost) c.ranges.gates.fits c.ranges.cost.fits
 
-put_size_requires : tie.Need-put-size-requires
-put_size_requires c κs = let start = c.before.before.before in omega (arith, short start, start.requires)
+put_size_requires : tie.Need-put_size-requires
+put_size_requires c κs = let start = c.before.before.before.before in omega (arith, short start, start.requires)
 
 returns : tie.Need-returns
 unfolding total_text total_word
 returns c =
-    let done = c.before.before in
-    (done.put-size.ensures, omega (arith, done.put-size.ensures.long, short done.before.before.before.before))
+    (c.put_size.ensures, omega (arith, c.put_size.ensures.long, short c.before.before.before.before.before.before.before))
 
 pub put_total_spec : {M : Type 1} → statement M
 put_total_spec = tie.close (tie.spec (λ c. search rules) put_size_requires (λ c. search rules) returns)

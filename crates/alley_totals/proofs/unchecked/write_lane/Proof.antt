@@ -26,54 +26,50 @@ step_of c = listed c.args.totals c.args.taken (entry_in c.args.entry)
 abbrev text_in : tie.Start → List ℕ
 text_in c = lane_text (c.args.totals.lanes + 1) (entry_in c.args.entry)
 
-step_text : (c : tie.Start) → (step_of c).text ≡ text_in c
+step_text : (c : tie.Start) → (step_of c).text-1 ≡ text_in c
 unfolding listed
 step_text c = refl
 
 -- the line in the 21 bytes
-text_is : (c : tie.After-put-lane) → take c.put_lane.result c.put_lane.new.0 ≡ text_in c.before.before.before.before
-text_is c = let p = c.put_lane.ensures in ap (take c.put_lane.result) p.bytes ∙ take_at _ _ _ p.long
+text_is : (c : tie.After-put_lane-length) → take c.put_lane-length.result c.put_lane-length.new.0 ≡ text_in c.before.before.before.before
+text_is c = let p = c.put_lane-length.ensures in ap (take c.put_lane-length.result) p.bytes ∙ take_at _ _ _ p.long
 
-within : (c : tie.After-put-lane) → c.put_lane.result ≤ length c.put_lane.new.0
+within : (c : tie.After-put_lane-length) → c.put_lane-length.result ≤ length c.put_lane-length.new.0
 within c =
-    let p = c.put_lane.ensures in
-    let start = c.before.before.before.before in
-    let a = start.args in
-    let h : c.put_lane.result ≤ 21 =
+    let p = c.put_lane-length.ensures in
+    let a = c.args in
+    let h : c.put_lane-length.result ≤ 21 =
     omega (
       arith,
       p.long,
-      lane_short (a.totals.lanes + 1) (omega (arith, start.requires.0.room)) (entry_in a.entry) (listable_fair a.entry start.requires.1),
+      lane_short (a.totals.lanes + 1) (omega (arith, c.requires.0.room)) (entry_in a.entry) (listable_fair a.entry c.requires.1),
     ) in
     omega (arith, put_length p h)
 
-returns : tie.Need-returns
+returns : tie.Need-returns-then-out-length
 returns c =
-    let done = c.before.before.before in
-    let start = done.before.before.before.before in
+    let start = c.before.before.before.before.before.before.before in
     let a = start.args in
     let out = a.out.now in
     let gives =
     refused_gives a.totals out
-    (too_long (length out) (step_of start) (omega (arith, done.put_lane.ensures.long, ap length (step_text start), c.before.if1.true))) in
-    (c.none-listed.ensures ∙ gives.0, gives.1)
+    (too_long (length out) (step_of start) (omega (arith, c.put_lane-length.ensures.long, ap length (step_text start), c.if-out-length.true))) in
+    (c.none_listed.ensures ∙ gives.0, gives.1)
 
-array_share_prefix_text : tie.Need-array-share-prefix-text
+array_share_prefix_text : tie.Need-slice_bounds-text-end
 array_share_prefix_text c = within c.before.before.before
 
-slice_aggregate_put_bytes : tie.Need-slice-aggregate-put-bytes
-slice_aggregate_put_bytes c = let done = c.before.before.before.before in sym (ap length (text_is done) ∙ done.put_lane.ensures.long)
+slice_aggregate_put_bytes : tie.Need-slice_bounds-put_bytes-end
+slice_aggregate_put_bytes c = let done = c.before.before.before.before in sym (ap length (text_is done) ∙ done.put_lane-length.ensures.long)
 
-put_bytes_requires : tie.Need-put-bytes-requires
+put_bytes_requires : tie.Need-put_bytes-requires
 put_bytes_requires c κs =
     let done = c.before.before.before.before in
-    omega (arith, ap length (text_is done), done.put_lane.ensures.long, c.before.before.if1.false)
+    omega (arith, ap length (text_is done), done.put_lane-length.ensures.long, c.if-out-length.false)
 
-with_entry_requires : tie.Need-with-entry-requires
+with_entry_requires : tie.Need-with_entry-after-requires
 with_entry_requires c κs =
-    let done = c.before.before.before.before.before.before in
-    let start = done.before.before.before.before.before in
-    (start.requires.0, start.requires.1)
+    (c.requires.0, c.requires.1)
 
 -- what is answered of a line of so many bytes
 answer : (t : Totals) (n : ℕ) (e : Entry) (k : ℕ) (after : Totals) → as_entry (entry_in e) ≡ e → length (lane_text (t.lanes + 1) (entry_in e)) ≡ k
@@ -86,20 +82,19 @@ answer t n e k after same long d =
     ∙ ap (λ (x : Entry).
     record { code = 0; taken = n; length = length (lane_text (t.lanes + 1) (entry_in e)); entry = x; totals = with_entry t (entry_in e) }) (sym same)
 
-returns_2 : tie.Need-returns-2
+returns_2 : tie.Need-returns
 returns_2 c =
-    let copied = c.before.before.before in
-    let done = copied.before.before.before.before.before in
-    let start = done.before.before.before.before in
+    let done = c.before.before.before.before.before.before.before.before in
+    let start = c.before.before.before.before.before.before.before.before.before.before.before.before in
     let a = start.args in
     let out = a.out.now in
     let text = text_in start in
-    let long = done.put_lane.ensures.long in
-    let put = put_text copied.put-bytes.ensures (text_is done) in
+    let long = done.put_lane-length.ensures.long in
+    let put = put_text c.put_bytes.ensures (text_is done) in
     let gives =
     accepted_gives a.totals out
-    (has_room (length out) (step_of start) (omega (arith, long, ap length (step_text start), copied.before.before.before.if1.false))) in (
-      answer a.totals a.taken a.entry done.put_lane.result c.with-entry.result start.requires.1.same long c.with-entry.ensures ∙ gives.0,
+    (has_room (length out) (step_of start) (omega (arith, long, ap length (step_text start), c.if-out-length.false))) in (
+      answer a.totals a.taken a.entry done.put_lane-length.result c.with_entry-after.result start.requires.1.same long c.with_entry-after.ensures ∙ gives.0,
       put.bytes ∙ ap (λ (n : ℕ). text ++ drop n out) (sym put.long) ∙ ap (λ (l : List ℕ). l ++ drop (length l) out) (sym (step_text start)) ∙ gives.1,
     )
 

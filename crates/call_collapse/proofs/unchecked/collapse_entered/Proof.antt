@@ -6,16 +6,15 @@ use Rattle.call_collapse.proofs.unchecked.collapse_entered.Tie as tie
 abbrev start_of : tie.After-enter-collapse-arg11 → tie.Start
 start_of c = let network_lent = c.before.before.before.before.before.before in network_lent.before.before.before.before.before
 
-enter_collapse_requires : tie.Need-enter-collapse-requires
+enter_collapse_requires : tie.Need-enter_collapse-steps-requires
 enter_collapse_requires c κs = (start_of c).requires.1.own
 
-collapse_by_pairs_requires : tie.Need-collapse-by-pairs-requires
+collapse_by_pairs_requires : tie.Need-collapse_by_pairs-requires
 collapse_by_pairs_requires c κs = (start_of c.before.before.before.before.before.before).requires
 
 returns : tie.Need-returns
 returns c =
-    let entered = c.before.before.before.before.before.before in
-    record { network_is = c.collapse-by-pairs.ensures; journal_is = entered.enter-collapse.ensures }
+    record { network_is = c.collapse_by_pairs.ensures; journal_is = c.enter_collapse-steps.ensures }
 
 pub collapse_entered_spec : {M : Type 1} → statement M
 collapse_entered_spec = tie.close (tie.spec enter_collapse_requires collapse_by_pairs_requires returns)

@@ -19,44 +19,42 @@ held c = let a = c.args in record_parts a.head a.fanins.now a.thresholds.now a.s
     a.kinds.now a.step_signals.now a.step_fanins.now a.step_thresholds.now a.feeds.now a.step_weights.now
 
 -- the start, and the test before the collapse
-abbrev start_of : tie.After-collapse-pairs → tie.Start
+abbrev start_of : tie.After-collapse_pairs-pairs → tie.Start
 start_of c = c.before.before.before.before.before.before
 
-abbrev else_of : tie.After-collapse-entered-arg11 → tie.Else1
+abbrev else_of : tie.After-collapse_entered-arg-11-1 → tie.Else-code-ne0
 else_of c = let network_lent = c.before.before.before.before.before.before in network_lent.before.before.before.before.before
 
 -- past the test the readers have their pairs
-folds : (c : tie.Else1) → let s = start_of c.before in CollapsesBy (held s).network s.args.s c.before.collapse-pairs.result
-folds c = c.before.collapse-pairs.ensures.folds c.if1.false
+folds : (c : tie.Else-code-ne0) → let s = start_of c.before in CollapsesBy (held s).network s.args.s c.collapse_pairs-pairs.result
+folds c = c.collapse_pairs-pairs.ensures.folds c.if-code-ne0.false
 
-number : (c : tie.Else1) → let a = (start_of c.before).args in
+number : (c : tie.Else-code-ne0) → let a = (start_of c.before).args in
     (a.head.inputs ≤ a.s) × (a.s - a.head.inputs < a.head.gates) × (a.head.gates ≤ 128)
 number c = let s = start_of c.before in gate_number (held s).network s.args.s (folds c).own
 
-collapse_pairs_requires : tie.Need-collapse-pairs-requires
-collapse_pairs_requires c κs = let s = c.before.before.before.before.before in whole_network (held s) s.requires.whole
+collapse_pairs_requires : tie.Need-collapse_pairs-pairs-requires
+collapse_pairs_requires c κs = whole_network (held c) c.requires.whole
 
-returns : tie.Need-returns
+returns : tie.Need-returns-then-code-ne0
 returns c =
-    let tried = c.before.before in
-    let s = start_of tried in
-    refused_parts s.args.head c.call-left.ensures
-    ∙ collapse_refused (held s) s.pre.whole s.args.s _ (tried.collapse-pairs.ensures.refuses c.before.if1.true)
+    let s = start_of c in
+    refused_parts s.args.head c.call_left.ensures
+    ∙ collapse_refused (held s) s.requires.whole s.args.s _ (c.collapse_pairs-pairs.ensures.refuses c.if-code-ne0.true)
 
-collapse_entered_requires : tie.Need-collapse-entered-requires
+collapse_entered_requires : tie.Need-collapse_entered-steps-requires
 collapse_entered_requires c κs = let else = else_of c in ((start_of else.before).requires.lengths, folds else)
 
-sub_call_left : tie.Need-overflow-sub-call-left
+sub_call_left : tie.Need-overflow_sub-head
 sub_call_left c = omega (arith, number (else_of c.before.before))
 
-returns_2 : tie.Need-returns-2
+returns_2 : tie.Need-returns
 returns_2 c =
-    let entered = c.before.before in
-    let else = else_of entered.before in
+    let else = else_of c.before in
     let s = start_of else.before in
-    let done = entered.collapse_entered.ensures in
-    answered_parts s.args.head c.call-left2.ensures done.network_is done.journal_is
-    ∙ collapse_entered (held s) s.pre.whole s.args.s _ (else.before.collapse-pairs.ensures.accepts else.if1.left)
+    let done = c.collapse_entered-steps.ensures in
+    answered_parts s.args.head c.call_left-2.ensures done.network_is done.journal_is
+    ∙ collapse_entered (held s) s.requires.whole s.args.s _ (else.before.collapse-pairs.ensures.accepts else.if1.left)
 
 pub collapse_in_spec : {M : Type 1} → statement M
 collapse_in_spec =

@@ -6,8 +6,7 @@ use Rattle.call_lists.proofs.unchecked.file_length.Tie as tie
 
 returns : tie.Need-returns
 returns c =
-    let s = c.before.before.before in
-    length_written s.args.network s.requires _ (search rules) c.before.write.ensures.0
+    length_written c.args.network c.requires _ (search rules) c.write-written.ensures.0
 
 pub file_length_spec : {M : Type 1} → statement M
 file_length_spec = tie.close (tie.spec (λ c. search rules) (λ c κs. search rules) returns)

@@ -19,29 +19,26 @@ use Rattle.call_runs.specs.RunLaws.{after_sound}
 use Rattle.call_lists.proofs.unchecked.has_room.Statement.{statement}
 use Rattle.call_lists.proofs.unchecked.has_room.Tie as tie
 
-returns : tie.Need-returns
+returns : tie.Need-returns-then-room-ge-LONGEST_FILE
 returns c =
-    let s = c.before.before in
-    let cs = calls_in s.args.numbers.now in
-    let N = net_after (net_of s.args.network) cs in
-    sym (le-leb (length (file_bytes N)) s.args.room (omega (arith, longest N (after_sound s.args.network s.requires.0 cs))))
+    let cs = calls_in c.args.numbers.now in
+    let N = net_after (net_of c.args.network) cs in
+    sym (le-leb (length (file_bytes N)) c.args.room (omega (arith, longest N (after_sound c.args.network c.requires.0 cs))))
 
-file_length_requires : tie.Need-file-length-requires
+file_length_requires : tie.Need-file_length-requires
 file_length_requires c κs =
-    let s = c.before.before.before in
-    let cs = calls_in s.args.numbers.now in
-    subst HoldsSound (sym c.run.ensures) (holds_layout (net_after (net_of s.args.network) cs) (after_sound s.args.network s.requires.0 cs))
+    let cs = calls_in c.args.numbers.now in
+    subst HoldsSound (sym c.run-after.ensures) (holds_layout (net_after (net_of c.args.network) cs) (after_sound c.args.network c.requires.0 cs))
 
-returns_2 : tie.Need-returns-2
+returns_2 : tie.Need-returns
 returns_2 c =
-    let s = c.before.before.before.before in
-    let cs = calls_in s.args.numbers.now in
-    let N = net_after (net_of s.args.network) cs in
+    let cs = calls_in c.args.numbers.now in
+    let N = net_after (net_of c.args.network) cs in
     let e : c.file_length.result ≡ length (file_bytes N) =
     c.file_length.ensures
-    ∙ ap (λ (r : Network). length (file_bytes (net_of r))) c.before.run.ensures
-    ∙ ap (λ (M : Net). length (file_bytes M)) (net_of_layout N (after_sound s.args.network s.requires.0 cs)) in
-    ap (λ (n : ℕ). leb n s.args.room) e
+    ∙ ap (λ (r : Network). length (file_bytes (net_of r))) c.run-after.ensures
+    ∙ ap (λ (M : Net). length (file_bytes M)) (net_of_layout N (after_sound c.args.network c.requires.0 cs)) in
+    ap (λ (n : ℕ). leb n c.args.room) e
 
 pub has_room_spec : {M : Type 1} → statement M
 has_room_spec = tie.close (tie.spec returns (λ c κs. search rules) file_length_requires returns_2)

@@ -15,7 +15,7 @@ use Rattle.call_lists.proofs.RunTurns.{Reached, began_came, began_state, reached
 use Rattle.call_lists.proofs.unchecked.run.Statement.{statement}
 use Rattle.call_lists.proofs.unchecked.run.Tie as tie
 
-abbrev invariant-loop : tie.invariant-loop
+abbrev invariant-loop : tie.invariant-loop-i
 invariant-loop numbers board inputs outputs
     gates₀ fanins₀ thresholds₀ signals₀ weights₀ drivers₀ count₀ kinds₀ step-signals₀ step-fanins₀ step-thresholds₀ feeds₀ step-weights₀ i₀ i-end
     gates fanins thresholds signals weights drivers count kinds step_signals step_fanins step_thresholds feeds step_weights i =
@@ -25,20 +25,20 @@ invariant-loop numbers board inputs outputs
     fanins thresholds signals weights drivers count kinds step_signals step_fanins step_thresholds feeds step_weights in
     (i ≤ length numbers / 5) × Reached q numbers i r
 
-abbrev decreases-loop : tie.decreases-loop
+abbrev decreases-loop : tie.decreases-loop-i
 decreases-loop numbers board inputs outputs
     gates₀ fanins₀ thresholds₀ signals₀ weights₀ drivers₀ count₀ kinds₀ step-signals₀ step-fanins₀ step-thresholds₀ feeds₀ step-weights₀ i₀ i-end
     gates fanins thresholds signals weights drivers count kinds step_signals step_fanins step_thresholds feeds step_weights i =
     length numbers / 5 - i
 
 -- the start, from where the network is copied
-abbrev start_of : tie.After-drivers invariant-loop decreases-loop → tie.Start invariant-loop decreases-loop
+abbrev start_of : tie.After-drivers-1 invariant-loop decreases-loop → tie.Start invariant-loop decreases-loop
 start_of c =
     let at_board = c.before.before.before.before.before in
     at_board.before.before
 
 -- the turn, from where the arrays are lent
-abbrev turn_of : tie.After-step-weights invariant-loop decreases-loop → tie.In-loop invariant-loop decreases-loop
+abbrev turn_of : tie.After-step_weights-1 invariant-loop decreases-loop → tie.In-loop-i invariant-loop decreases-loop
 turn_of c =
     let at_drivers = c.before.before.before.before.before.before in
     at_drivers.before.before.before.before.before
@@ -47,35 +47,34 @@ turn_of c =
 few : (c : tie.Start invariant-loop decreases-loop) → length c.args.numbers.now < 18446744073709551616
 few c = search rules
 
-loop_holds : tie.Need-loop-init invariant-loop decreases-loop
+loop_holds : tie.Need-loop-i-init invariant-loop decreases-loop
 unfolding just_read empty_journal
 loop_holds c =
     let s = start_of c in
-    (zero-le, reached_none s.args.numbers.now (began_came s.args.network s.pre.0 refl))
+    (zero-le, reached_none s.args.numbers.now (began_came s.args.network s.requires.0 refl))
 
-step_in_requires : tie.Need-step-in-requires invariant-loop decreases-loop
+step_in_requires : tie.Need-step_in-left-requires invariant-loop decreases-loop
 step_in_requires c κs = let turn = turn_of c in (turn.before.loop.inv.1.came, omega (arith, turn.loop-test.taken))
 
-add_i : tie.Need-overflow-add-i invariant-loop decreases-loop
+add_i : tie.Need-overflow_step-i invariant-loop decreases-loop
 add_i c = let turn = turn_of c.before in omega (arith, turn.loop-test.taken, few (start_of turn.before.before))
 
-loop_again : tie.Need-loop-preserved invariant-loop decreases-loop
+loop_again : tie.Need-loop-i-preserved invariant-loop decreases-loop
 loop_again c =
     let turn = turn_of c.before in
     let at = turn.before in
     let ns = (start_of at.before).args.numbers.now in (
       omega (arith, turn.loop-test.taken),
-      reached_next _ ns at.loop.i at.loop.inv.1 (omega (arith, turn.loop-test.taken)) c.step_in.ensures,
+      reached_next _ ns at.loop.i at.loop.inv.1 (omega (arith, turn.loop-test.taken)) c.step_in-left.ensures,
     )
 
 returns : tie.Need-returns invariant-loop decreases-loop
 unfolding just_read empty_journal
 returns c =
-    let at = c.before in
-    let s = start_of at.before in
+    let s = start_of c.before in
     let ns = s.args.numbers.now in
-    reached_end _ ns at.loop.i at.loop.invariant.1 s.pre.1 c.loop-test.false
-    ∙ ap (λ (q : State). layout (calls q (calls_in ns)).net) (began_state s.args.network s.pre.0 refl)
+    reached_end _ ns c.loop-i.i c.loop-i.invariant.1 s.requires.1 c.loop-i-test.false
+    ∙ ap (λ (q : State). layout (calls q (calls_in ns)).net) (began_state s.args.network s.requires.0 refl)
 
 pub run_spec : {M : Type 1} → statement M
 run_spec =

@@ -20,7 +20,7 @@ use Rattle.call_lists.proofs.RunTurns.{answered_none, answered_next, answered_en
 use Rattle.call_lists.proofs.unchecked.run_storing.Statement.{statement}
 use Rattle.call_lists.proofs.unchecked.run_storing.Tie as tie
 
-abbrev invariant-loop : tie.invariant-loop
+abbrev invariant-loop : tie.invariant-loop-i
 invariant-loop numbers answers₀ board inputs outputs
     gates₀ fanins₀ thresholds₀ signals₀ weights₀ drivers₀ count₀ kinds₀ step-signals₀ step-fanins₀ step-thresholds₀ feeds₀ step-weights₀ i₀ i-end
     answers gates fanins thresholds signals weights drivers count kinds step_signals step_fanins step_thresholds feeds step_weights i =
@@ -30,83 +30,82 @@ invariant-loop numbers answers₀ board inputs outputs
     fanins thresholds signals weights drivers count kinds step_signals step_fanins step_thresholds feeds step_weights in
     (i ≤ length numbers / 5) × Reached q numbers i r × Answered q numbers i r answers₀ answers
 
-abbrev decreases-loop : tie.decreases-loop
+abbrev decreases-loop : tie.decreases-loop-i
 decreases-loop numbers answers₀ board inputs outputs
     gates₀ fanins₀ thresholds₀ signals₀ weights₀ drivers₀ count₀ kinds₀ step-signals₀ step-fanins₀ step-thresholds₀ feeds₀ step-weights₀ i₀ i-end
     answers gates fanins thresholds signals weights drivers count kinds step_signals step_fanins step_thresholds feeds step_weights i =
     length numbers / 5 - i
 
 -- the start, from where the network is copied
-abbrev start_of : tie.After-drivers invariant-loop decreases-loop → tie.Start invariant-loop decreases-loop
+abbrev start_of : tie.After-drivers-1 invariant-loop decreases-loop → tie.Start invariant-loop decreases-loop
 start_of c =
     let at_board = c.before.before.before.before.before in
     at_board.before.before.before
 
 -- the turn, from where the arrays are lent
-abbrev turn_of : tie.After-step-weights invariant-loop decreases-loop → tie.In-loop invariant-loop decreases-loop
+abbrev turn_of : tie.After-step_weights-1 invariant-loop decreases-loop → tie.In-loop-i invariant-loop decreases-loop
 turn_of c =
     let at_drivers = c.before.before.before.before.before.before in
     at_drivers.before.before.before.before.before
 
 -- call i and its four places are there
-bounds : (c : tie.In-loop invariant-loop decreases-loop) → let a = (start_of c.before.before).args in
-    (5 * c.before.loop.i + 5 ≤ length a.numbers.now) × (4 * c.before.loop.i + 4 < length a.answers.now)
+bounds : (c : tie.In-loop-i invariant-loop decreases-loop) → let a = (start_of c.before.before).args in
+    (5 * c.loop-i.i + 5 ≤ length a.numbers.now) × (4 * c.loop-i.i + 4 < length a.answers.now)
 bounds c =
     let s = start_of c.before.before in
-    omega (arith, count_calls s.args.numbers.now s.pre.1.0, s.pre.1.1, c.loop-test.true)
+    omega (arith, count_calls s.args.numbers.now s.requires.1.0, s.requires.1.1, c.loop-i-test.true)
 
 -- the list's length is a machine number
 few : (c : tie.Start invariant-loop decreases-loop) → length c.args.numbers.now < 18446744073709551616
 few c = search rules
 
-loop_holds : tie.Need-loop-init invariant-loop decreases-loop
+loop_holds : tie.Need-loop-i-init invariant-loop decreases-loop
 unfolding just_read empty_journal
 loop_holds c =
     let s = start_of c in
     let ns = s.args.numbers.now in
-    (zero-le, reached_none ns (began_came s.args.network s.pre.0 refl), answered_none ns _ s.args.answers.now)
+    (zero-le, reached_none ns (began_came s.args.network s.requires.0 refl), answered_none ns _ s.args.answers.now)
 
-step_in_requires : tie.Need-step-in-requires invariant-loop decreases-loop
+step_in_requires : tie.Need-step_in-left-requires invariant-loop decreases-loop
 step_in_requires c κs = let turn = turn_of c in (turn.before.loop.inv.1.came, (bounds turn).0)
 
-mul_put_four : tie.Need-overflow-mul-put-four invariant-loop decreases-loop
+mul_put_four : tie.Need-overflow_mul-i invariant-loop decreases-loop
 mul_put_four c = let turn = turn_of c.before.before.before in omega (arith, turn.loop-test.taken, few (start_of turn.before.before))
 
-add_put_four : tie.Need-overflow-add-put-four invariant-loop decreases-loop
+add_put_four : tie.Need-overflow_add-i invariant-loop decreases-loop
 add_put_four c = let turn = turn_of c.before.before.before in omega (arith, turn.loop-test.taken, few (start_of turn.before.before))
 
-put_four_requires : tie.Need-put-four-requires invariant-loop decreases-loop
+put_four_requires : tie.Need-put_four-requires invariant-loop decreases-loop
 put_four_requires c κs = let turn = turn_of c.before.before.before in omega (arith, turn.before.loop.inv.2.long, bounds turn)
 
-add_i : tie.Need-overflow-add-i invariant-loop decreases-loop
+add_i : tie.Need-overflow_step-i invariant-loop decreases-loop
 add_i c =
     let turn = turn_of c.before.before.before.before.before.before in
     omega (arith, turn.loop-test.taken, few (start_of turn.before.before))
 
-loop_again : tie.Need-loop-preserved invariant-loop decreases-loop
+loop_again : tie.Need-loop-i-preserved invariant-loop decreases-loop
 loop_again c =
     let turn = turn_of c.before.before.before.before.before.before in
     let at = turn.before in
     let ns = (start_of at.before).args.numbers.now in
     let l = at.loop in
-    let stepped = c.before.before.before.before.before.step_in.ensures in
+    let stepped = c.step_in-left.ensures in
     let b = bounds turn in
-    answered_next _ ns l.i l.inv.1 l.inv.2 b.0 b.1 stepped c.before.before.put_four.ensures
+    answered_next _ ns l.i l.inv.1 l.inv.2 b.0 b.1 stepped c.put_four.ensures
 
-same_length : tie.Need-same-length invariant-loop decreases-loop
-same_length c = c.before.loop.invariant.2.long
+same_length : tie.Need-shape_of-answers invariant-loop decreases-loop
+same_length c = c.loop-i.invariant.2.long
 
 returns : tie.Need-returns invariant-loop decreases-loop
 unfolding just_read empty_journal
 returns c =
-    let at = c.before in
-    let s = start_of at.before in
+    let s = start_of c.before in
     let ns = s.args.numbers.now in
     let lent = s.args.answers.now in
-    let l = at.loop in
-    let e = began_state s.args.network s.pre.0 refl in (
-      reached_end _ ns l.i l.invariant.1 s.pre.1.0 c.loop-test.false ∙ ap (λ (p : State). layout (calls p (calls_in ns)).net) e,
-      answered_end _ ns l.i l.invariant.1 l.invariant.2 (omega (arith, count_calls ns s.pre.1.0, c.loop-test.false))
+    let l = c.loop-i in
+    let e = began_state s.args.network s.requires.0 refl in (
+      reached_end _ ns l.i l.invariant.1 s.requires.1.0 c.loop-i-test.false ∙ ap (λ (p : State). layout (calls p (calls_in ns)).net) e,
+      answered_end _ ns l.i l.invariant.1 l.invariant.2 (omega (arith, count_calls ns s.requires.1.0, c.loop-i-test.false))
           ∙ ap (λ (p : State). paste lent 1 (answers_of p (calls_in ns)) (4 * length (calls_in ns))) e,
     )
 

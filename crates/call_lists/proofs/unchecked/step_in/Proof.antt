@@ -15,21 +15,21 @@ held c = let a = c.args in record_parts a.head a.fanins.now a.thresholds.now a.s
     a.kinds.now a.step_signals.now a.step_fanins.now a.step_thresholds.now a.feeds.now a.step_weights.now
 
 -- where the call is known, from where the arrays are lent
-abbrev at_call : tie.After-apply-in-arg11 → tie.After-call-at
+abbrev at_call : tie.After-apply_in-arg-11-1 → tie.After-call_at-call
 at_call c =
     let at_drivers = c.before.before.before.before.before.before in
     at_drivers.before.before.before.before.before
 
-apply_in_requires : tie.Need-apply-in-requires
+apply_in_requires : tie.Need-apply_in-requires
 apply_in_requires c κs =
     let s = (at_call c).before.before in
-    record { lengths = lengths _ (came_shaped (held s) s.pre.0); whole = came_whole (held s) s.pre.0 }
+    record { lengths = lengths _ (came_shaped (held s) s.requires.0); whole = came_whole (held s) s.requires.0 }
 
 returns : tie.Need-returns
 returns c =
     let called = at_call c.before in
     let s = called.before.before in
-    step_done (held s) s.pre.0 _ (c.apply-in.ensures ∙ ap (applied (held s)) called.call_at.ensures)
+    step_done (held s) s.requires.0 _ (c.apply_in.ensures ∙ ap (applied (held s)) called.call_at.ensures)
 
 pub step_in_spec : {M : Type 1} → statement M
 step_in_spec = tie.close (tie.spec (λ c κs. search rules) apply_in_requires returns)

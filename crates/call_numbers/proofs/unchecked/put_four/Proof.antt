@@ -7,16 +7,16 @@ use lib.ListN.{set, length-set}
 use Rattle.call_numbers.proofs.unchecked.put_four.Statement.{statement}
 use Rattle.call_numbers.proofs.unchecked.put_four.Tie as tie
 
-slice_write_answers_2 : tie.Need-slice-write-answers-2
+slice_write_answers_2 : tie.Need-bounds-answers-at-2
 slice_write_answers_2 c = simp length-set (omega arith)
 
-slice_write_answers_3 : tie.Need-slice-write-answers-3
+slice_write_answers_3 : tie.Need-bounds-answers-at-3
 slice_write_answers_3 c = simp length-set (omega arith)
 
-slice_write_answers_4 : tie.Need-slice-write-answers-4
+slice_write_answers_4 : tie.Need-bounds-answers-at-4
 slice_write_answers_4 c = simp length-set (omega arith)
 
-same_length : tie.Need-same-length
+same_length : tie.Need-shape_of-answers
 same_length c = simp length-set
 
 returns : tie.Need-returns

@@ -11,27 +11,25 @@ use Rattle.call_restoring.specs.NewestLaws.{packed_few}
 use Rattle.call_restoring.proofs.unchecked.put_back.Statement.{statement}
 use Rattle.call_restoring.proofs.unchecked.put_back.Tie as tie
 
-returns : tie.Need-returns
+returns : tie.Need-returns-then-not-is_gate
 returns c =
-    let a = c.before.before.before.args in
-    let stranger = sym c.before.before.is_gate.ensures ∙ not-true _ c.before.if1.true in
+    let a = c.args in
+    let stranger = sym c.is_gate.ensures ∙ not-true _ c.if-not-is_gate.true-raw in
     c.kept.ensures ∙ back_no a.network _ (no_gate_lem a.network a.v (gate_in a.gate) stranger)
 
 -- past the test v is a gate's signal
-gate : (c : tie.Else1) → let a = c.before.before.args in gate_signal a.network.inputs a.network.gates a.v ≡ true
-gate c = sym c.before.is_gate.ensures ∙ not-false _ c.if1.false
+gate : (c : tie.Else-not-is_gate) → let a = c.args in gate_signal a.network.inputs a.network.gates a.v ≡ true
+gate c = sym c.is_gate.ensures ∙ not-false _ c.if-not-is_gate.false-raw
 
-replace_gate_requires : tie.Need-replace-gate-requires
+replace_gate_requires : tie.Need-replace_gate-result-requires
 replace_gate_requires c κs =
-    let start = c.before.before in
-    (record { sound = start.requires.0; gate = gate_signal_lem start.args.network start.args.v ∙ gate c }, start.requires.1.row)
+    (record { sound = c.requires.0; gate = gate_signal_lem c.args.network c.args.v ∙ gate c }, c.requires.1.row)
 
-returns_2 : tie.Need-returns-2
+returns_2 : tie.Need-returns
 returns_2 c =
-    let start = c.before.before.before.before in
-    let a = start.args in
-    c.if-sound.ensures ∙ back_merge a.network a.v (gate_in a.gate) _ start.requires.0 (gate c.before.before)
-    (packed_few a.gate start.requires.1) c.before.replace-gate.ensures
+    let a = c.args in
+    c.if_sound.ensures ∙ back_merge a.network a.v (gate_in a.gate) _ c.requires.0 (gate c.before.before)
+    (packed_few a.gate c.requires.1) c.replace_gate-result.ensures
 
 pub put_back_spec : {M : Type 1} → statement M
 put_back_spec =

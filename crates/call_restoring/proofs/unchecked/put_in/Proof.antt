@@ -10,34 +10,31 @@ use Rattle.call_restoring.specs.NewestLaws.{packed_few}
 use Rattle.call_restoring.proofs.unchecked.put_in.Statement.{statement}
 use Rattle.call_restoring.proofs.unchecked.put_in.Tie as tie
 
-add_if1 : tie.Need-overflow-add-if1
+add_if1 : tie.Need-overflow_add-inputs
 add_if1 c = let z = sized_of c.args.network c.requires.0 in omega (arith, z.few_inputs, z.few_gates)
 
-returns : tie.Need-returns
+returns : tie.Need-returns-then-u-inputs
 returns c =
-    let a = c.before.before.args in
-    c.kept.ensures ∙ back_no a.network _ (undoable_outside a.network a.u (gate_in a.gate) c.before.if1.true)
+    let a = c.args in
+    c.kept.ensures ∙ back_no a.network _ (undoable_outside a.network a.u (gate_in a.gate) c.if-u-inputs.true)
 
 -- past the tests there is a place for the gate
-place : (c : tie.Else1)
-    → let a = c.before.args in (a.network.inputs ≤ a.u) × (a.u ≤ a.network.inputs + a.network.gates) × (a.network.gates < 128)
+place : (c : tie.Else-u-inputs)
+    → let a = c.args in (a.network.inputs ≤ a.u) × (a.u ≤ a.network.inputs + a.network.gates) × (a.network.gates < 128)
 place c =
-    let start = c.before in
-    let n = start.args.network in
-    inside n start.args.u (sized_of n start.requires.0).few_gates c.if1.false
+    let n = c.args.network in
+    inside n c.args.u (sized_of n c.requires.0).few_gates c.if-u-inputs.false
 
-insert_gate_requires : tie.Need-insert-gate-requires
+insert_gate_requires : tie.Need-insert_gate-result-requires
 insert_gate_requires c κs =
-    let start = c.before in
     let p = place c in
-    (record { sound = start.requires.0; above = p.0; within = p.1; room = p.2 }, start.requires.1.row)
+    (record { sound = c.requires.0; above = p.0; within = p.1; room = p.2 }, c.requires.1.row)
 
-returns_2 : tie.Need-returns-2
+returns_2 : tie.Need-returns
 returns_2 c =
-    let start = c.before.before.before in
-    let a = start.args in
-    c.if-sound.ensures ∙ back_drop a.network a.u (gate_in a.gate) _ start.requires.0 (place c.before.before)
-    (packed_few a.gate start.requires.1) c.before.insert-gate.ensures
+    let a = c.args in
+    c.if_sound.ensures ∙ back_drop a.network a.u (gate_in a.gate) _ c.requires.0 (place c.before.before)
+    (packed_few a.gate c.requires.1) c.insert_gate-result.ensures
 
 pub put_in_spec : {M : Type 1} → statement M
 put_in_spec =

@@ -13,45 +13,45 @@ use Rattle.call_restoring.specs.NewestLaws.{newest_merge, newest_drop, newest_wi
 use Rattle.call_restoring.proofs.unchecked.restored.Statement.{statement}
 use Rattle.call_restoring.proofs.unchecked.restored.Tie as tie
 
-returns : tie.Need-returns
+returns : tie.Need-returns-then-fanin-gt16
 returns c =
-    let a = c.before.before.before.before.args in
-    c.kept.ensures ∙ back_no a.network _ (newest_wide a.t2 (net_of a.network) (omega (arith, c.before.before.wide.ensures.0)))
+    let a = c.args in
+    c.kept.ensures ∙ back_no a.network _ (newest_wide a.t2 (net_of a.network) (omega (arith, c.wide-fanin.ensures.0)))
 
 -- past the first test the gate has at most 16 feeds
-few : (c : tie.Else1) → get_or c.before.before.before.args.t2.fanins 0 0 ≤ 16
-few c = omega (arith, c.before.wide.ensures.0)
+few : (c : tie.Else-fanin-gt16) → get_or c.args.journal.fanins 0 0 ≤ 16
+few c = omega (arith, c.wide-fanin.ensures.0)
 
 -- so the gate is that of the newest step
-module _ (c : tie.After-newest-gate) where
+module _ (c : tie.After-newest_gate-gate) where
   abbrev start : tie.Start
   start = c.before.before.before.before
 
-  packed : GateRecordOk c.newest_gate.result
-  packed = newest_packed start.args.t2 (few c.before) _ c.newest_gate.ensures
+  packed : GateRecordOk c.newest_gate-gate.result
+  packed = newest_packed start.args.journal (few c.before) _ c.newest_gate-gate.ensures
 
-  same : gate_in c.newest_gate.result ≡ gate_in (row_of start.args.t2 0)
-  same = newest_gate start.args.t2 (few c.before) _ c.newest_gate.ensures
+  same : gate_in c.newest_gate-gate.result ≡ gate_in (row_of start.args.journal 0)
+  same = newest_gate start.args.journal (few c.before) _ c.newest_gate-gate.ensures
 
-put_back_requires : tie.Need-put-back-requires
+put_back_requires : tie.Need-put_back-requires
 put_back_requires c κs = let gate = c.before.before.before.before in ((start gate).requires, packed gate)
 
-returns_2 : tie.Need-returns-2
+returns_2 : tie.Need-returns-then-kind-eq0
 returns_2 c =
     let gate = c.before.before.before.before.before in
     let a = (start gate).args in
     c.put_back.ensures ∙ ap (back_to a.network)
-    ((λ x. merging (c.before.before.before.wide2.ensures.0 x) (same gate x)) ∙ sym (newest_merge a.t2 c.before.if2.true))
+    ((λ x. merging (c.wide-signal.ensures.0 x) (same gate x)) ∙ sym (newest_merge a.t2 c.if-kind-eq0.true))
 
-put_in_requires : tie.Need-put-in-requires
+put_in_requires : tie.Need-put_in-requires
 put_in_requires c κs = let gate = c.before.before.before.before in ((start gate).requires, packed gate)
 
-returns_3 : tie.Need-returns-3
+returns_3 : tie.Need-returns
 returns_3 c =
     let gate = c.before.before.before.before.before in
     let a = (start gate).args in
     c.put_in.ensures ∙ ap (back_to a.network)
-    ((λ x. dropping (c.before.before.before.wide2.ensures.0 x) (same gate x)) ∙ sym (newest_drop a.t2 c.before.if2.false))
+    ((λ x. dropping (c.wide-signal.ensures.0 x) (same gate x)) ∙ sym (newest_drop a.t2 c.if-kind-eq0.false))
 
 pub restored_spec : {M : Type 1} → statement M
 restored_spec =

@@ -34,57 +34,52 @@ few_inputs : (c : tie.Start) → c.args.head.inputs ≤ 40
 few_inputs c = (sized_of (held c).network (network_sound c)).few_inputs
 
 -- the start, and the test before the step is entered
-abbrev start_of : tie.After-drop-code → tie.Start
+abbrev start_of : tie.After-drop_code-code → tie.Start
 start_of c = c.before.before.before.before.before.before
 
-abbrev else_of : tie.After-enter-gate-arg10 → tie.Else1
+abbrev else_of : tie.After-enter-gate-arg10 → tie.Else-code-ne0
 else_of c =
     let network_lent = c.before.before.before.before.before.before in
     let known = network_lent.before.before.before.before in
     known.before
 
 -- past the test s is a gate's signal
-number : (c : tie.Else1) → let a = (start_of c.before).args in
+number : (c : tie.Else-code-ne0) → let a = (start_of c.before).args in
     (a.head.inputs ≤ a.s) × (a.s - a.head.inputs < a.head.gates) × (a.head.gates ≤ 128)
 number c =
     let s = start_of c.before in
-    gate_number (held s).network s.args.s (c.before.drop_code.ensures.own c.if1.false)
+    gate_number (held s).network s.args.s (c.drop_code-code.ensures.own c.if-code-ne0.false)
 
-drop_code_requires : tie.Need-drop-code-requires
-drop_code_requires c κs = network_sound c.before.before.before.before.before
+drop_code_requires : tie.Need-drop_code-code-requires
+drop_code_requires c κs = network_sound c
 
-returns : tie.Need-returns
+returns : tie.Need-returns-then-code-ne0
 returns c =
-    let tried = c.before.before in
-    let s = start_of tried in
-    refused_parts s.args.head c.call-left.ensures
-    ∙ drop_refused (held s) s.pre.whole s.args.s _ (tried.drop_code.ensures.refuses c.before.if1.true)
+    let s = start_of c in
+    refused_parts s.args.head c.call_left.ensures
+    ∙ drop_refused (held s) s.requires.whole s.args.s _ (c.drop_code-code.ensures.refuses c.if-code-ne0.true)
 
-sub_g : tie.Need-overflow-sub-g
+sub_g : tie.Need-overflow_sub-g
 sub_g c = omega (arith, number c.before)
 
-cast_enter_gate : tie.Need-overflow-cast-enter-gate
+cast_enter_gate : tie.Need-overflow_cast-s
 cast_enter_gate c = let else = else_of c in omega (arith, number else, few_inputs (start_of else.before))
 
-enter_gate_requires : tie.Need-enter-gate-requires
+enter_gate_requires : tie.Need-enter_gate-requires
 enter_gate_requires c κs = omega (arith, number (else_of c))
 
-remove_places_requires : tie.Need-remove-places-requires
+remove_places_requires : tie.Need-remove_places-requires
 remove_places_requires c κs =
     let else = else_of c.before.before.before.before.before.before in
     (omega (arith, number else), (start_of else.before).requires.lengths)
 
-sub_call_left : tie.Need-overflow-sub-call-left
+sub_call_left : tie.Need-overflow_sub-head
 sub_call_left c =
-    let removed = c.before in
-    let entered = removed.before.before.before.before.before.before in
-    omega (arith, number (else_of entered.before))
+    omega (arith, number (else_of c.before))
 
-returns_2 : tie.Need-returns-2
+returns_2 : tie.Need-returns
 returns_2 c =
-    let removed = c.before.before.before in
-    let entered = removed.before.before.before.before.before.before in
-    let else = else_of entered.before in
+    let else = else_of c.before in
     let s = start_of else.before in
     let a = s.args in
     let n = (held s).network in
@@ -92,11 +87,11 @@ returns_2 c =
     let own = tried.own else.if1.left in
     let has = has_of (net_of n) a.s (T_is (is_gate (net_of n) a.s) own.gate) in
     let row = row_gate_at n a.s (T_is (sound_record n) own.sound) has in
-    answered_parts a.head c.call-left2.ensures
-    (removed_parts a.head (shaped_parts a.head s.pre.lengths) own removed.remove_places.ensures)
-    (entered_parts _ c.before.one_more.ensures entered.enter-gate.ensures
+    answered_parts a.head c.call_left-2.ensures
+    (removed_parts a.head (shaped_parts a.head s.requires.lengths) own c.remove_places.ensures)
+    (entered_parts _ c.one_more.ensures c.enter_gate.ensures
     ∙ ap (λ (x : GateRecord). with_step (held s).journal 1 a.s x) row)
-    ∙ drop_entered (held s) s.pre.whole a.s _ (tried.accepts else.if1.left)
+    ∙ drop_entered (held s) s.requires.whole a.s _ (tried.accepts else.if1.left)
 
 pub drop_in_spec : {M : Type 1} → statement M
 drop_in_spec =

@@ -34,50 +34,46 @@ few_inputs : (c : tie.Start) → c.args.head.inputs ≤ 40
 few_inputs c = (sized_of (held c).network (network_sound c)).few_inputs
 
 -- the start, and the test before the step is entered
-abbrev start_of : tie.Else1 → tie.Start
+abbrev start_of : tie.Else-code-ne0 → tie.Start
 start_of c = c.before.before.before.before.before.before
 
-abbrev else_of : tie.After-enter-gate-arg10 → tie.Else1
+abbrev else_of : tie.After-enter-gate-arg10 → tie.Else-code-ne0
 else_of c =
     let network_lent = c.before.before.before.before.before.before in
     let known = network_lent.before.before.before.before in
     known.before
 
 -- past the test v is a gate's signal
-number : (c : tie.Else1) → let a = (start_of c).args in
+number : (c : tie.Else-code-ne0) → let a = (start_of c).args in
     (a.head.inputs ≤ a.v) × (a.v - a.head.inputs < a.head.gates) × (a.head.gates ≤ 128)
 number c =
     let s = start_of c in
-    gate_number (held s).network s.args.v (c.before.merged_at.ensures.own c.if1.false)
+    gate_number (held s).network s.args.v (c.merged_at-merged.ensures.own c.if-code-ne0.false)
 
-merged_at_requires : tie.Need-merged-at-requires
-merged_at_requires c κs = network_sound c.before.before.before.before
+merged_at_requires : tie.Need-merged_at-merged-requires
+merged_at_requires c κs = network_sound c
 
-returns : tie.Need-returns
+returns : tie.Need-returns-then-code-ne0
 returns c =
-    let tried = c.before.before in
-    let s = tried.before.before.before.before.before in
-    let a = s.args in
-    refused_parts a.head c.call-left.ensures
-    ∙ merge_refused (held s) s.requires.whole a.u a.v a.k a.l _ (tried.merged_at.ensures.refuses c.before.if1.true)
+    let a = c.args in
+    refused_parts a.head c.call_left.ensures
+    ∙ merge_refused (held c) c.requires.whole a.u a.v a.k a.l _ (c.merged_at-merged.ensures.refuses c.if-code-ne0.true)
 
-sub_g : tie.Need-overflow-sub-g
+sub_g : tie.Need-overflow_sub-g
 sub_g c = omega (arith, number c.before)
 
-cast_enter_gate : tie.Need-overflow-cast-enter-gate
+cast_enter_gate : tie.Need-overflow_cast-v
 cast_enter_gate c = let else = else_of c in omega (arith, number else, few_inputs (start_of else))
 
-enter_gate_requires : tie.Need-enter-gate-requires
+enter_gate_requires : tie.Need-enter_gate-requires
 enter_gate_requires c κs = omega (arith, number (else_of c))
 
-store_gate_requires : tie.Need-store-gate-requires
+store_gate_requires : tie.Need-store_gate-requires
 store_gate_requires c κs = omega (arith, number (else_of c.before.before.before.before.before.before))
 
-returns_2 : tie.Need-returns-2
+returns_2 : tie.Need-returns
 returns_2 c =
-    let stored = c.before.before in
-    let entered = stored.before.before.before.before.before.before in
-    let else = else_of entered.before in
+    let else = else_of c.before in
     let s = start_of else in
     let a = s.args in
     let n = (held s).network in
@@ -85,11 +81,11 @@ returns_2 c =
     let own = tried.own else.if1.left in
     let has = has_of (net_of n) a.v (T_is (is_gate (net_of n) a.v) own.gate) in
     let row = row_gate_at n a.v (T_is (sound_record n) own.sound) has in
-    answered_parts a.head c.call-left2.ensures
-    (stored_parts a.head a.v _ (shaped_parts a.head s.pre.lengths) own (tried.packed else.if1.left) stored.store-gate.ensures)
-    (entered_parts _ c.before.one_more.ensures entered.enter-gate.ensures
+    answered_parts a.head c.call_left-2.ensures
+    (stored_parts a.head a.v _ (shaped_parts a.head s.requires.lengths) own (tried.packed else.if1.left) c.store_gate.ensures)
+    (entered_parts _ c.one_more.ensures c.enter_gate.ensures
     ∙ ap (λ (x : GateRecord). with_step (held s).journal 0 a.v x) row)
-    ∙ merge_entered (held s) s.pre.whole a.u a.v a.k a.l _ (tried.accepts else.if1.left)
+    ∙ merge_entered (held s) s.requires.whole a.u a.v a.k a.l _ (tried.accepts else.if1.left)
 
 pub merge_in_spec : {M : Type 1} → statement M
 merge_in_spec =

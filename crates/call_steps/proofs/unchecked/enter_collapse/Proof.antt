@@ -27,36 +27,35 @@ journal_at c = let a = c.args in journal_parts a.count a.kinds.now a.step_signal
 number : (c : tie.Start) → let a = c.args in (a.head.inputs ≤ a.u) × (a.u - a.head.inputs < a.head.gates) × (a.head.gates ≤ 128)
 number c = gate_number (record_at c) c.args.u c.requires
 
-enter_readers_requires : tie.Need-enter-readers-requires
-enter_readers_requires c κs = c.before.before.before.before.before.before.requires.sound
+enter_readers_requires : tie.Need-enter_readers-merges-requires
+enter_readers_requires c κs = c.requires.sound
 
 -- the merges entered, and the start
-abbrev at_readers : tie.After-enter-gate-arg6 → tie.After-enter-readers
+abbrev at_readers : tie.After-enter_gate-arg-6-1 → tie.After-enter_readers-merges
 at_readers c = c.before.before.before.before.before.before
 
-abbrev start_of : tie.After-enter-gate-arg6 → tie.Start
+abbrev start_of : tie.After-enter_gate-arg-6-1 → tie.Start
 start_of c = let lent = (at_readers c).before in lent.before.before.before.before.before.before
 
-cast_enter_gate : tie.Need-overflow-cast-enter-gate
-cast_enter_gate c = let s = start_of c in omega (arith, number s, (sized_of (record_at s) s.pre.sound).few_inputs)
+cast_enter_gate : tie.Need-overflow_cast-u
+cast_enter_gate c = let s = start_of c in omega (arith, number s, (sized_of (record_at s) s.requires.sound).few_inputs)
 
-sub_enter_gate : tie.Need-overflow-sub-enter-gate
+sub_enter_gate : tie.Need-overflow_sub-u
 sub_enter_gate c = omega (arith, number (start_of c.before))
 
-enter_gate_requires : tie.Need-enter-gate-requires
+enter_gate_requires : tie.Need-enter_gate-requires
 enter_gate_requires c κs = omega (arith, number (start_of c.before))
 
 returns : tie.Need-returns
 returns c =
-    let lent = c.before.before.before in
-    let s = start_of lent in
-    let merges = (at_readers lent).enter-readers in
+    let s = start_of c in
+    let merges = (at_readers c).enter_readers-merges in
     let a = s.args in
     let n = record_at s in
-    let has = has_of (net_of n) a.u (T_is (is_gate (net_of n) a.u) s.pre.gate) in
-    let row = row_gate_at n a.u (T_is (sound_record n) s.pre.sound) has in
+    let has = has_of (net_of n) a.u (T_is (is_gate (net_of n) a.u) s.requires.gate) in
+    let row = row_gate_at n a.u (T_is (sound_record n) s.requires.sound) has in
     drop_last n a.u (journal_at s) merges.ensures
-    (entered_parts merges.result c.one_more.ensures (rw row at c.before.enter-gate.ensures))
+    (entered_parts merges.result c.one_more.ensures (rw row at c.enter_gate.ensures))
 
 pub enter_collapse_spec : {M : Type 1} → statement M
 enter_collapse_spec =

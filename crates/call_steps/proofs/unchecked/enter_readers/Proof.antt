@@ -14,7 +14,7 @@ use Rattle.call_steps.proofs.ReaderLaws.{Left, left_all, left_silent, left_reade
 use Rattle.call_steps.proofs.unchecked.enter_readers.Statement.{statement}
 use Rattle.call_steps.proofs.unchecked.enter_readers.Tie as tie
 
-abbrev invariant-loop : tie.invariant-loop
+abbrev invariant-loop : tie.invariant-loop-g
 invariant-loop head fanins thresholds signals weights drivers count kinds₀ step-signals₀ step-fanins₀ step-thresholds₀ feeds₀ step-weights₀ u steps₀ g₀ g_end
     kinds step_signals step_fanins step_thresholds feeds step_weights steps g =
     (g ≤ g_end)
@@ -22,7 +22,7 @@ invariant-loop head fanins thresholds signals weights drivers count kinds₀ ste
     (journal_parts count kinds₀ step-signals₀ step-fanins₀ step-thresholds₀ feeds₀ step-weights₀)
     (journal_parts steps kinds step_signals step_fanins step_thresholds feeds step_weights)
 
-abbrev decreases-loop : tie.decreases-loop
+abbrev decreases-loop : tie.decreases-loop-g
 decreases-loop head fanins thresholds signals weights drivers count kinds₀ step-signals₀ step-fanins₀ step-thresholds₀ feeds₀ step-weights₀ u steps₀ g₀ g_end
     kinds step_signals step_fanins step_thresholds feeds step_weights steps g =
     g_end - g
@@ -34,61 +34,59 @@ record_at c = let a = c.args in from_parts a.head a.fanins.now a.thresholds.now 
 abbrev journal_at : tie.Start invariant-loop decreases-loop → Journal
 journal_at c = let a = c.args in journal_parts a.count a.kinds.now a.step_signals.now a.step_fanins.now a.step_thresholds.now a.feeds.now a.step_weights.now
 
-sizes : (c : tie.At-loop invariant-loop decreases-loop) → CountsInArrays (record_at c.before)
-sizes c = sized_of (record_at c.before) c.before.requires
+sizes : (c : tie.At-loop-g invariant-loop decreases-loop) → CountsInArrays (record_at c.before)
+sizes c = sized_of (record_at c.before) c.requires
 
-loop_holds : tie.Need-loop-init invariant-loop decreases-loop
+loop_holds : tie.Need-loop-g-init invariant-loop decreases-loop
 loop_holds c = (omega arith, left_all (record_at c) c.args.u (journal_at c))
 
-reads_gate_requires : tie.Need-reads-gate-requires invariant-loop decreases-loop
+reads_gate_requires : tie.Need-reads_gate-requires invariant-loop decreases-loop
 reads_gate_requires c κs = let z = sizes c.before in (
-  omega (arith, z.few_gates, c.loop-test.true),
-  z.few_feeds c.before.loop.g
-      c.loop-test.true,
+  omega (arith, z.few_gates, c.loop-g-test.true),
+  z.few_feeds c.loop-g.g
+      c.loop-g-test.true,
 )
 
-add_g : tie.Need-overflow-add-g invariant-loop decreases-loop
-add_g c = omega (arith, (sizes c.before.before.before).few_gates, c.before.before.loop-test.true)
+add_g : tie.Need-overflow_step-g invariant-loop decreases-loop
+add_g c = omega (arith, (sizes c.before.before.before).few_gates, c.loop-g-test.true)
 
-loop_less : tie.Need-loop-smaller invariant-loop decreases-loop
-loop_less c = omega (arith, c.before.before.loop-test.true)
+loop_less : tie.Need-loop-g-smaller-then-not-reads_gate invariant-loop decreases-loop
+loop_less c = omega (arith, c.loop-g-test.true)
 
-loop_again : tie.Need-loop-preserved invariant-loop decreases-loop
+loop_again : tie.Need-loop-g-preserved-then-not-reads_gate invariant-loop decreases-loop
 loop_again c =
-    let turn = c.before.before in
-    let s = turn.before.before in
-    let a = s.args in
-    let silent = sym (c.before.reads-gate.ensures a.thresholds.now a.weights.now) ∙ not-true _ c.if1.true in (
-      omega (arith, turn.loop-test.true),
-      left_silent (record_at s) a.u turn.before.loop.g turn.before.loop.invariant.1 turn.loop-test.true silent,
+    let a = c.args in
+    let silent = sym (c.reads_gate.ensures a.thresholds.now a.weights.now) ∙ not-true _ c.if-not-reads_gate.true-raw in (
+      omega (arith, c.loop-g-test.true),
+      left_silent (record_at c) a.u c.loop-g.g c.loop-g.invariant.1 c.loop-g-test.true silent,
     )
 
-add_signal : tie.Need-overflow-add-signal invariant-loop decreases-loop
-add_signal c = let turn = c.before.before.before in let z = sizes turn.before in omega (arith, z.few_inputs, z.few_gates, turn.loop-test.true)
+add_signal : tie.Need-overflow_add-signal invariant-loop decreases-loop
+add_signal c = let z = sizes c.before.before.before.before in omega (arith, z.few_inputs, z.few_gates, c.loop-g-test.true)
 
 -- the turn in which a gate is entered, and its test
-abbrev else_of : tie.After-enter-gate-arg6 invariant-loop decreases-loop → tie.Else1 invariant-loop decreases-loop
+abbrev else_of : tie.After-enter_gate-arg-in-loop-g-5-1 invariant-loop decreases-loop → tie.Else-not-reads_gate invariant-loop decreases-loop
 else_of c = let known = c.before.before.before.before.before.before in known.before
 
-abbrev turn_of : tie.After-enter-gate-arg6 invariant-loop decreases-loop → tie.In-loop invariant-loop decreases-loop
+abbrev turn_of : tie.After-enter_gate-arg-in-loop-g-5-1 invariant-loop decreases-loop → tie.In-loop-g invariant-loop decreases-loop
 turn_of c = (else_of c).before.before
 
-cast_enter_gate : tie.Need-overflow-cast-enter-gate invariant-loop decreases-loop
+cast_enter_gate : tie.Need-overflow_cast-signal invariant-loop decreases-loop
 cast_enter_gate c =
     let turn = turn_of c in
     let z = sizes turn.before in
     omega (arith, z.few_inputs, z.few_gates, turn.loop-test.taken)
 
-enter_gate_requires : tie.Need-enter-gate-requires invariant-loop decreases-loop
+enter_gate_requires : tie.Need-enter_gate-requires invariant-loop decreases-loop
 enter_gate_requires c κs = let turn = turn_of c in omega (arith, (sizes turn.before).few_gates, turn.loop-test.taken)
 
-add_g_2 : tie.Need-overflow-add-g-2 invariant-loop decreases-loop
+add_g_2 : tie.Need-overflow_step-g-in-loop-g invariant-loop decreases-loop
 add_g_2 c = let turn = turn_of c.before.before in omega (arith, (sizes turn.before).few_gates, turn.loop-test.taken)
 
-loop_less_2 : tie.Need-loop-smaller-2 invariant-loop decreases-loop
-loop_less_2 c = omega (arith, (turn_of c.before.before).loop-test.taken)
+loop_less_2 : tie.Need-loop-g-smaller invariant-loop decreases-loop
+loop_less_2 c = omega (arith, (turn_of c.before.before).loop-g-test.taken)
 
-loop_again_2 : tie.Need-loop-preserved-2 invariant-loop decreases-loop
+loop_again_2 : tie.Need-loop-g-preserved invariant-loop decreases-loop
 loop_again_2 c =
     let else = else_of c.before.before in
     let turn = else.before.before in
@@ -96,15 +94,13 @@ loop_again_2 c =
     let a = s.args in
     let reads = sym (else.before.reads-gate.ensures a.thresholds.now a.weights.now) ∙ not-false _ else.if1.left in (
       omega (arith, turn.loop-test.taken),
-      left_reader (record_at s) a.u turn.before.loop.g turn.before.loop.inv.1 s.pre turn.loop-test.taken reads refl
-          (entered_parts _ c.one_more.ensures c.before.enter-gate.ensures),
+      left_reader (record_at s) a.u turn.before.loop.g turn.before.loop.inv.1 s.requires turn.loop-test.taken reads refl
+          (entered_parts _ c.one_more-steps.ensures c.enter_gate.ensures),
     )
 
 returns : tie.Need-returns invariant-loop decreases-loop
 returns c =
-    let at = c.before in
-    let s = at.before in
-    left_end (record_at s) s.args.u at.loop.g at.loop.invariant.1 (omega (arith, c.loop-test.false))
+    left_end (record_at c) c.args.u c.loop-g.g c.loop-g.invariant.1 (omega (arith, c.loop-g-test.false))
 
 pub enter_readers_spec : {M : Type 1} → statement M
 enter_readers_spec =

@@ -21,46 +21,39 @@ abbrev held : tie.Start → Record
 held c = let a = c.args in record_parts a.head a.fanins.now a.thresholds.now a.signals.now a.weights.now a.drivers.now a.count
     a.kinds.now a.step_signals.now a.step_fanins.now a.step_thresholds.now a.feeds.now a.step_weights.now
 
-returns : tie.Need-returns
+returns : tie.Need-returns-then-count-eq0
 unfolding no_figures
 returns c =
-    let s = c.before.before in
-    refused_parts s.args.head c.call-left.ensures ∙ sym (undone_empty (held s) s.requires.whole c.before.if1.true)
+    refused_parts c.args.head c.call_left.ensures ∙ sym (undone_empty (held c) c.requires.whole c.if-count-eq0.true)
 
 -- past the first test, from where the arrays are copied
-abbrev at_else : tie.After-t43 → tie.Else1
+abbrev at_else : tie.After-journal-6-1 → tie.Else-count-eq0
 at_else c =
     let at_network = c.before.before.before.before.before.before in
     at_network.before.before.before.before.before.before
 
-restored_requires : tie.Need-restored-requires
-restored_requires c κs = let s = (at_else c).before in whole_network (held s) s.pre.whole
+restored_requires : tie.Need-restored-back-requires
+restored_requires c κs = let s = (at_else c).before in whole_network (held s) s.requires.whole
 
-returns_2 : tie.Need-returns-2
+returns_2 : tie.Need-returns-then-not-ok
 unfolding no_figures
 returns_2 c =
-    let at_restored = c.before.before in
-    let else = at_else at_restored.before in
+    let else = at_else c.before in
     let s = else.before in
-    let stuck = sym (back_ok (held s).network _) ∙ sym (ap (λ (b : Back). b.ok) at_restored.restored.ensures) ∙ not-true _ c.before.if2.true in
-    refused_parts s.args.head c.call-left2.ensures ∙ sym (undone_stuck (held s) s.pre.whole (omega (arith, else.if1.left)) stuck)
+    let stuck = sym (back_ok (held s).network _) ∙ sym (ap (λ (b : Back). b.ok) c.restored-back.ensures) ∙ not-true _ c.if-not-ok.true-raw in
+    refused_parts s.args.head c.call_left-then-not-ok.ensures ∙ sym (undone_stuck (held s) s.requires.whole (omega (arith, else.if1.left)) stuck)
 
-returns_3 : tie.Need-returns-3
+returns_3 : tie.Need-returns
 unfolding no_figures
 returns_3 c =
-    let at_written = c.before in
-    let at_newest = at_written.before.before.before.before.before.before in
-    let at_drivers = at_newest.before in
-    let at_else2 = at_drivers.before.before.before.before.before.before in
-    let at_restored = at_else2.before in
-    let else = at_else at_restored.before in
+    let else = at_else c.before in
     let s = else.before in
     let a = s.args in
-    let back = at_restored.restored.ensures in
-    let can = sym (back_ok (held s).network _) ∙ sym (ap (λ (b : Back). b.ok) back) ∙ not-false _ at_else2.if2.false in
+    let back = c.restored-back.ensures in
+    let can = sym (back_ok (held s).network _) ∙ sym (ap (λ (b : Back). b.ok) back) ∙ not-false _ c.if-not-ok.false-raw in
     let network = back_parts a.head _ _ _ _ _ (step_at (held s).journal 0) _ (ap (λ (b : Back). b.network) back ∙ back_network (held s).network _ can) in
-    answered_parts a.head c.call-left3.ensures network at_newest.without-newest.ensures
-    ∙ sym (undone_back (held s) s.pre.whole (omega (arith, else.if1.left)) can)
+    answered_parts a.head c.call_left-2.ensures network c.without_newest-later.ensures
+    ∙ sym (undone_back (held s) s.requires.whole (omega (arith, else.if1.left)) can)
 
 pub undo_in_spec : {M : Type 1} → statement M
 undo_in_spec =

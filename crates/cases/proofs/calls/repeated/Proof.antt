@@ -3,10 +3,10 @@ use Rattle.std.proofs.Common.{◌-◌, ◌≤◌, rules}
 use Rattle.cases.proofs.calls.repeated.Statement.{statement}
 use Rattle.cases.proofs.calls.repeated.Tie as tie
 
-abbrev invariant-loop : tie.invariant-loop
+abbrev invariant-loop : tie.invariant-loop-accepted
 invariant-loop letter n now₀ accepted₀ now accepted = accepted ≤ 1000
 
-abbrev decreases-loop : tie.decreases-loop
+abbrev decreases-loop : tie.decreases-loop-accepted
 decreases-loop letter n now₀ accepted₀ now accepted = 1000 - accepted
 
 pub repeated_spec : {M : Type 1} → statement M

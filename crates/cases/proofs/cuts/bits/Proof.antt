@@ -3,10 +3,10 @@ use Rattle.std.proofs.Common.{◌-◌, ◌≤◌, rules}
 use Rattle.cases.proofs.cuts.bits.Statement.{statement}
 use Rattle.cases.proofs.cuts.bits.Tie as tie
 
-abbrev invariant-loop : tie.invariant-loop
+abbrev invariant-loop : tie.invariant-loop-k
 invariant-loop held output step j frame₀ k₀ frame k = k ≤ 8
 
-abbrev decreases-loop : tie.decreases-loop
+abbrev decreases-loop : tie.decreases-loop-k
 decreases-loop held output step j frame₀ k₀ frame k = 8 - k
 
 pub bits_spec : {M : Type 1} → statement M

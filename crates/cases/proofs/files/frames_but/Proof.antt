@@ -3,10 +3,10 @@ use Rattle.std.proofs.Common.{◌≡◌, ◌-◌, ◌≤◌, length, rules}
 use Rattle.cases.proofs.files.frames_but.Statement.{statement}
 use Rattle.cases.proofs.files.frames_but.Tie as tie
 
-abbrev invariant-loop : tie.invariant-loop
+abbrev invariant-loop : tie.invariant-loop-i
 invariant-loop long list₀ i₀ list i = (i ≤ 65) × (length list ≡ 65)
 
-abbrev decreases-loop : tie.decreases-loop
+abbrev decreases-loop : tie.decreases-loop-i
 decreases-loop long list₀ i₀ list i = 65 - i
 
 pub frames_but_spec : {M : Type 1} → statement M

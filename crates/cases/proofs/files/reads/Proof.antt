@@ -3,10 +3,10 @@ use Rattle.std.proofs.Common.{◌+◌, ◌-◌, ◌≤◌, length, rules}
 use Rattle.cases.proofs.files.reads.Statement.{statement}
 use Rattle.cases.proofs.files.reads.Tie as tie
 
-abbrev invariant-loop : tie.invariant-loop
+abbrev invariant-loop : tie.invariant-loop-n
 invariant-loop file from n₀ n = from ≤ n
 
-abbrev decreases-loop : tie.decreases-loop
+abbrev decreases-loop : tie.decreases-loop-n
 decreases-loop file from n₀ n = length file + 1 - n
 
 pub reads_spec : {M : Type 1} → statement M

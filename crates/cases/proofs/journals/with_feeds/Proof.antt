@@ -3,10 +3,10 @@ use Rattle.std.proofs.Common.{◌-◌, ◌≤◌, rules}
 use Rattle.cases.proofs.journals.with_feeds.Statement.{statement}
 use Rattle.cases.proofs.journals.with_feeds.Tie as tie
 
-abbrev invariant-loop : tie.invariant-loop
+abbrev invariant-loop : tie.invariant-loop-i
 invariant-loop network result₀ i₀ result i = i ≤ 16
 
-abbrev decreases-loop : tie.decreases-loop
+abbrev decreases-loop : tie.decreases-loop-i
 decreases-loop network result₀ i₀ result i = 16 - i
 
 pub with_feeds_spec : {M : Type 1} → statement M

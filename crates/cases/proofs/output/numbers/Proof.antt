@@ -3,10 +3,10 @@ use Rattle.std.proofs.Common.{◌-◌, ◌≤◌, length, rules}
 use Rattle.cases.proofs.output.numbers.Statement.{statement}
 use Rattle.cases.proofs.output.numbers.Tie as tie
 
-abbrev invariant-loop : tie.invariant-loop
+abbrev invariant-loop : tie.invariant-loop-i
 invariant-loop list count i₀ i = i ≤ length list
 
-abbrev decreases-loop : tie.decreases-loop
+abbrev decreases-loop : tie.decreases-loop-i
 decreases-loop list count i₀ i = length list - i
 
 pub numbers_spec : {M : Type 1} → statement M

@@ -3,10 +3,10 @@ use Rattle.std.proofs.Common.{◌-◌, ◌≤◌, length, rules}
 use Rattle.cases.proofs.script.find.Statement.{statement}
 use Rattle.cases.proofs.script.find.Tie as tie
 
-abbrev invariant-loop : tie.invariant-loop
+abbrev invariant-loop : tie.invariant-loop-at
 invariant-loop script from byte at₀ at = from ≤ at
 
-abbrev decreases-loop : tie.decreases-loop
+abbrev decreases-loop : tie.decreases-loop-at
 decreases-loop script from byte at₀ at = length script - at
 
 pub find_spec : {M : Type 1} → statement M

@@ -3,10 +3,10 @@ use Rattle.std.proofs.Common.{◌-◌, ◌≤◌, length, rules}
 use Rattle.cases.proofs.script.number_from.Statement.{statement}
 use Rattle.cases.proofs.script.number_from.Tie as tie
 
-abbrev invariant-loop : tie.invariant-loop
+abbrev invariant-loop : tie.invariant-loop-at
 invariant-loop script from value₀ at₀ value at = at₀ ≤ at
 
-abbrev decreases-loop : tie.decreases-loop
+abbrev decreases-loop : tie.decreases-loop-at
 decreases-loop script from value₀ at₀ value at = length script - at
 
 pub number_from_spec : {M : Type 1} → statement M

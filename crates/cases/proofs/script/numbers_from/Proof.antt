@@ -3,10 +3,10 @@ use Rattle.std.proofs.Common.{◌-◌, ◌≤◌, rules}
 use Rattle.cases.proofs.script.numbers_from.Statement.{statement}
 use Rattle.cases.proofs.script.numbers_from.Tie as tie
 
-abbrev invariant-loop : tie.invariant-loop
+abbrev invariant-loop : tie.invariant-loop-i
 invariant-loop script from numbers₀ end at₀ i₀ numbers at i = i ≤ 8
 
-abbrev decreases-loop : tie.decreases-loop
+abbrev decreases-loop : tie.decreases-loop-i
 decreases-loop script from numbers₀ end at₀ i₀ numbers at i = 8 - i
 
 pub numbers_from_spec : {M : Type 1} → statement M

@@ -5,9 +5,9 @@ use Rattle.basics.specs.SizeLaws.{size_fits, size_minus}
 use Rattle.cases.proofs.script.signed_from.Statement.{statement}
 use Rattle.cases.proofs.script.signed_from.Tie as tie
 
-sub_result : tie.Need-overflow-sub-result
+sub_result : tie.Need-overflow_sub-result
 sub_result c =
-    let n = c.before.before.before.before.number-from.result.value % 2147483648 in
+    let n = c.number_from.result.value % 2147483648 in
     rw (to_z_pos w32 {n = n} (omega arith)) (size_fits w32 (pos 0 -ℤ pos n) (omega (arith, size_minus (pos n))))
 
 pub signed_from_spec : {M : Type 1} → statement M

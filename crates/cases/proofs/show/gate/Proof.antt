@@ -3,10 +3,10 @@ use Rattle.std.proofs.Common.{◌-◌, ◌≤◌, rules}
 use Rattle.cases.proofs.show.gate.Statement.{statement}
 use Rattle.cases.proofs.show.gate.Tie as tie
 
-abbrev invariant-loop : tie.invariant-loop
+abbrev invariant-loop : tie.invariant-loop-i
 invariant-loop signals weights first fanin threshold end i₀ t9 t10 i = i ≤ end
 
-abbrev decreases-loop : tie.decreases-loop
+abbrev decreases-loop : tie.decreases-loop-i
 decreases-loop signals weights first fanin threshold end i₀ t9 t10 i = end - i
 
 pub gate_spec : {M : Type 1} → statement M

@@ -3,10 +3,10 @@ use Rattle.std.proofs.Common.{◌-◌, ◌≤◌, rules}
 use Rattle.cases.proofs.show.gates.Statement.{statement}
 use Rattle.cases.proofs.show.gates.Tie as tie
 
-abbrev invariant-loop : tie.invariant-loop
+abbrev invariant-loop : tie.invariant-loop-g
 invariant-loop network g₀ t5 g = g ≤ 16
 
-abbrev decreases-loop : tie.decreases-loop
+abbrev decreases-loop : tie.decreases-loop-g
 decreases-loop network g₀ t5 g = 16 - g
 
 pub gates_spec : {M : Type 1} → statement M

@@ -3,18 +3,16 @@ use Rattle.std.proofs.Common.{◌+◌, ◌-◌, ◌<◌, ◌≤◌, arith, rules
 use Rattle.compare_advice.proofs.unchecked.cone.Statement.{statement}
 use Rattle.compare_advice.proofs.unchecked.cone.Tie as tie
 
-abbrev invariant-loop : tie.invariant-loop
+abbrev invariant-loop : tie.invariant-loop-g
 invariant-loop inputs gates wires weights p q list₀ on₀ count₀ g₀ list on count g = count + g ≤ gates
 
-abbrev decreases-loop : tie.decreases-loop
+abbrev decreases-loop : tie.decreases-loop-g
 decreases-loop inputs gates wires weights p q list₀ on₀ count₀ g₀ list on count g = g
 
-mark_feeds_requires : tie.Need-mark-feeds-requires invariant-loop decreases-loop
+mark_feeds_requires : tie.Need-mark_feeds-requires invariant-loop decreases-loop
 mark_feeds_requires c κs =
-    let inside = c.before.before.before in
-    let at = inside.before in
-    let own : at.loop.g - 1 < at.before.args.gates = omega arith in
-    let gate = at.before.requires.0.gate (at.loop.g - 1) own in
+    let own : c.loop-g.g - 1 < c.args.gates = omega arith in
+    let gate = c.requires.0.gate (c.loop-g.g - 1) own in
     record { few = gate.few; there = gate.there }
 
 pub cone_spec : {M : Type 1} → statement M

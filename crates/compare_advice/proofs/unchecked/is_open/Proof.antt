@@ -3,10 +3,10 @@ use Rattle.std.proofs.Common.{◌-◌, ◌≤◌, rules}
 use Rattle.compare_advice.proofs.unchecked.is_open.Statement.{statement}
 use Rattle.compare_advice.proofs.unchecked.is_open.Tie as tie
 
-abbrev invariant-loop : tie.invariant-loop
+abbrev invariant-loop : tie.invariant-loop-j
 invariant-loop notes outs j₀ j = j ≤ 16
 
-abbrev decreases-loop : tie.decreases-loop
+abbrev decreases-loop : tie.decreases-loop-j
 decreases-loop notes outs j₀ j = 16 - j
 
 pub is_open_spec : {M : Type 1} → statement M

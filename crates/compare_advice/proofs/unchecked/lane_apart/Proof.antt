@@ -3,10 +3,10 @@ use Rattle.std.proofs.Common.{◌-◌, ◌≤◌, rules}
 use Rattle.compare_advice.proofs.unchecked.lane_apart.Statement.{statement}
 use Rattle.compare_advice.proofs.unchecked.lane_apart.Tie as tie
 
-abbrev invariant-loop : tie.invariant-loop
+abbrev invariant-loop : tie.invariant-loop-f
 invariant-loop notes lanes p q f₀ f = f ≤ 32
 
-abbrev decreases-loop : tie.decreases-loop
+abbrev decreases-loop : tie.decreases-loop-f
 decreases-loop notes lanes p q f₀ f = 32 - f
 
 pub lane_apart_spec : {M : Type 1} → statement M

@@ -3,10 +3,10 @@ use Rattle.std.proofs.Common.{◌-◌, ◌≤◌, rules}
 use Rattle.compare_advice.proofs.unchecked.lane_frame.Statement.{statement}
 use Rattle.compare_advice.proofs.unchecked.lane_frame.Tie as tie
 
-abbrev invariant-loop : tie.invariant-loop
+abbrev invariant-loop : tie.invariant-loop-i
 invariant-loop lanes inputs f frame₀ i₀ frame i = i ≤ inputs
 
-abbrev decreases-loop : tie.decreases-loop
+abbrev decreases-loop : tie.decreases-loop-i
 decreases-loop lanes inputs f frame₀ i₀ frame i = inputs - i
 
 pub lane_frame_spec : {M : Type 1} → statement M

@@ -3,10 +3,10 @@ use Rattle.std.proofs.Common.{◌-◌, ◌≤◌, rules}
 use Rattle.compare_advice.proofs.unchecked.lane_keys.Statement.{statement}
 use Rattle.compare_advice.proofs.unchecked.lane_keys.Tie as tie
 
-abbrev invariant-loop : tie.invariant-loop
+abbrev invariant-loop : tie.invariant-loop-f
 invariant-loop seed keys₀ x₀ f₀ keys x f = f ≤ 32
 
-abbrev decreases-loop : tie.decreases-loop
+abbrev decreases-loop : tie.decreases-loop-f
 decreases-loop seed keys₀ x₀ f₀ keys x f = 32 - f
 
 pub lane_keys_spec : {M : Type 1} → statement M

@@ -3,10 +3,10 @@ use Rattle.std.proofs.Common.{◌-◌, ◌≤◌, rules}
 use Rattle.compare_advice.proofs.unchecked.lit_keys.Statement.{statement}
 use Rattle.compare_advice.proofs.unchecked.lit_keys.Tie as tie
 
-abbrev invariant-loop : tie.invariant-loop
+abbrev invariant-loop : tie.invariant-loop-f
 invariant-loop row keys sum₀ f₀ sum f = f ≤ 32
 
-abbrev decreases-loop : tie.decreases-loop
+abbrev decreases-loop : tie.decreases-loop-f
 decreases-loop row keys sum₀ f₀ sum f = 32 - f
 
 pub lit_keys_spec : {M : Type 1} → statement M

@@ -4,10 +4,10 @@ use Rattle.compare_advice.specs.Advice.{AsMany}
 use Rattle.compare_advice.proofs.unchecked.mix_marks.Statement.{statement}
 use Rattle.compare_advice.proofs.unchecked.mix_marks.Tie as tie
 
-abbrev invariant-loop : tie.invariant-loop
+abbrev invariant-loop : tie.invariant-loop-s
 invariant-loop notes₀ lanes signals keys s₀ notes s = (s ≤ signals) × AsMany notes₀ notes
 
-abbrev decreases-loop : tie.decreases-loop
+abbrev decreases-loop : tie.decreases-loop-s
 decreases-loop notes₀ lanes signals keys s₀ notes s = signals - s
 
 pub mix_marks_spec : {M : Type 1} → statement M

@@ -3,10 +3,10 @@ use Rattle.std.proofs.Common.{◌-◌, ◌≤◌, rules}
 use Rattle.compare_advice.proofs.unchecked.output_apart.Statement.{statement}
 use Rattle.compare_advice.proofs.unchecked.output_apart.Tie as tie
 
-abbrev invariant-loop : tie.invariant-loop
+abbrev invariant-loop : tie.invariant-loop-j
 invariant-loop notes lanes outs j₀ j = j ≤ 16
 
-abbrev decreases-loop : tie.decreases-loop
+abbrev decreases-loop : tie.decreases-loop-j
 decreases-loop notes lanes outs j₀ j = 16 - j
 
 pub output_apart_spec : {M : Type 1} → statement M

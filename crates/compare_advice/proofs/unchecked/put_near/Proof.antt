@@ -4,10 +4,10 @@ use Rattle.compare_lanes.specs.Lanes.{Masked}
 use Rattle.compare_advice.proofs.unchecked.put_near.Statement.{statement}
 use Rattle.compare_advice.proofs.unchecked.put_near.Tie as tie
 
-abbrev invariant-loop : tie.invariant-loop
+abbrev invariant-loop : tie.invariant-loop-i
 invariant-loop lanes₀ inputs frame first i₀ lanes i = (i ≤ inputs) × Masked lanes
 
-abbrev decreases-loop : tie.decreases-loop
+abbrev decreases-loop : tie.decreases-loop-i
 decreases-loop lanes₀ inputs frame first i₀ lanes i = inputs - i
 
 pub put_near_spec : {M : Type 1} → statement M

@@ -11,9 +11,8 @@ use Rattle.compare_lanes.proofs.unchecked.gate_row.Tie as tie
 
 returns : tie.Need-returns
 returns c =
-    let sums = c.before.before.before in
-    let fits : SFits w32 (get_or sums.before.args.weights.now 0 (pos 0)) = record { sfits = c.before.threshold-row-arg.given } in
-    gate_masks_lem sums.row-sums.ensures (to_z-of_z fits) c.threshold-row.ensures
+    let fits : SFits w32 (get_or c.args.weights.now 0 (pos 0)) = record { sfits = c.threshold_row-arg-1.given } in
+    gate_masks_lem c.row_sums-sums.ensures (to_z-of_z fits) c.threshold_row.ensures
 
 pub gate_row_spec : {M : Type 1} → statement M
 gate_row_spec = tie.close (tie.spec (λ c κs. search rules) (λ c. search rules) (λ c κs. search rules) returns)

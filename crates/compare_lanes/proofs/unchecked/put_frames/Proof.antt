@@ -9,24 +9,24 @@ use Rattle.compare_lanes.proofs.RunLaws.{frames_none, frames_next}
 use Rattle.compare_lanes.proofs.unchecked.put_frames.Statement.{statement}
 use Rattle.compare_lanes.proofs.unchecked.put_frames.Tie as tie
 
-abbrev invariant-loop : tie.invariant-loop
+abbrev invariant-loop : tie.invariant-loop-i
 invariant-loop lanes₀ inputs first i₀ lanes i = (i ≤ inputs) × FramesPut i first lanes
 
-abbrev decreases-loop : tie.decreases-loop
+abbrev decreases-loop : tie.decreases-loop-i
 decreases-loop lanes₀ inputs first i₀ lanes i = inputs - i
 
-loop_holds : tie.Need-loop-init invariant-loop decreases-loop
+loop_holds : tie.Need-loop-i-init invariant-loop decreases-loop
 loop_holds c = (omega arith, frames_none c.args.first c.requires.0)
 
-loop_again : tie.Need-loop-preserved invariant-loop decreases-loop
+loop_again : tie.Need-loop-i-preserved invariant-loop decreases-loop
 loop_again c =
-    let loop = c.before.before.loop in
-    (omega arith, frames_next loop.invariant.1 (lanes_put loop.i loop.invariant.1.masked (omega arith) c.Frame-row.ensures))
+    let loop = c.loop-i in
+    (omega arith, frames_next loop.invariant.1 (lanes_put loop.i loop.invariant.1.masked (omega arith) c.frame_row-row.ensures))
 
 returns : tie.Need-returns invariant-loop decreases-loop
 returns c =
-    let e : c.before.loop.i ≡ c.before.before.args.inputs = omega arith in
-    rw e at c.before.loop.invariant.1
+    let e : c.loop-i.i ≡ c.args.inputs = omega arith in
+    rw e at c.loop-i.invariant.1
 
 pub put_frames_spec : {M : Type 1} → statement M
 put_frames_spec =

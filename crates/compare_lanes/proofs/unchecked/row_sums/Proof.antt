@@ -13,60 +13,60 @@ use Rattle.compare_lanes.proofs.RowLaws.{LanesAdded, lanes_none, lanes_small, la
 use Rattle.compare_lanes.proofs.unchecked.row_sums.Statement.{statement}
 use Rattle.compare_lanes.proofs.unchecked.row_sums.Tie as tie
 
-abbrev invariant-loop : tie.invariant-loop
+abbrev invariant-loop : tie.invariant-loop-i
 invariant-loop wires weights lanes count sums₀ i₀ sums i = LanesAdded lanes wires weights count i sums
 
-abbrev decreases-loop : tie.decreases-loop
+abbrev decreases-loop : tie.decreases-loop-i
 decreases-loop wires weights lanes count sums₀ i₀ sums i = count - i
 
-loop_holds : tie.Need-loop-init invariant-loop decreases-loop
+loop_holds : tie.Need-loop-i-init invariant-loop decreases-loop
 loop_holds c = lanes_none _ _ _ _
 
 -- a turn: the feed's signal has a row
-module _ (c : tie.After-sums invariant-loop decreases-loop) where
-  abbrev at : tie.At-loop invariant-loop decreases-loop
-  at = c.before.before.before.before
+module _ (c : tie.After-sums-1 invariant-loop decreases-loop) where
+  abbrev at : tie.At-loop-i invariant-loop decreases-loop
+  at = c.before.before.before.before.before
 
   abbrev start : tie.Start invariant-loop decreases-loop
-  start = at.before.before.before
+  start = at.before.before.before.before
 
   abbrev signal : ℕ
-  signal = c.before.signal-index2.result
+  signal = c.signal_index-signal.result
 
-  feed : at.loop.i < fanin start.args.wires.now
-  feed = omega (arith, at.before.signal-index.ensures)
+  feed : at.loop-i.i < fanin start.args.wires.now
+  feed = omega (arith, at.signal_index-count.ensures)
 
   low : signal < 296
-  low = omega (arith, start.pre.0.there at.loop.i feed, c.before.signal-index2.ensures)
+  low = omega (arith, start.requires.0.there at.loop-i.i feed, c.signal_index-signal.ensures)
 
-mul_add_feed : tie.Need-overflow-mul-add-feed invariant-loop decreases-loop
+mul_add_feed : tie.Need-offset_bounds-lanes-signal invariant-loop decreases-loop
 mul_add_feed c = let h = low c in search rules
 
 index_1_add_feed : tie.Need-bounds-1-add-feed invariant-loop decreases-loop
 index_1_add_feed c = let h = low c in search rules
 
-add_feed_requires : tie.Need-add-feed-requires invariant-loop decreases-loop
+add_feed_requires : tie.Need-add_feed-requires invariant-loop decreases-loop
 unfolding lane_bits
 add_feed_requires c κs =
-    let s = start c.before.before in
-    let loop = (at c.before.before).loop in
+    let s = start c.before in
+    let loop = (at c.before).loop-i in
     let fits : SFits w32 (get_or s.args.weights.now (1 + loop.i) (pos 0)) = record { sfits = c.add-feed-arg2.given } in
     record {
-      masked = (s.pre.1.row (signal c.before.before) (low c.before.before)).mask;
-      light = rw (to_z-of_z fits) (s.pre.0.small (1 + loop.i));
-      small = lanes_small loop.inv (omega arith) (omega (arith, s.pre.0.few, (at c.before.before).before.signal-index.ensures));
+      masked = (s.requires.1.row (signal c.before) (low c.before)).mask;
+      light = rw (to_z-of_z fits) (s.requires.0.small (1 + loop.i));
+      small = lanes_small loop.inv (omega arith) (omega (arith, s.requires.0.few, (at c.before).signal_index-count.ensures));
     }
 
-loop_again : tie.Need-loop-preserved invariant-loop decreases-loop
+loop_again : tie.Need-loop-i-preserved invariant-loop decreases-loop
 loop_again c =
-    let turn = c.before.before.before in
+    let turn = c.before.before in
     let s = start turn in
-    let loop = (at turn).loop in
-    let fits : SFits w32 (get_or s.args.weights.now (1 + loop.i) (pos 0)) = record { sfits = c.before.add-feed-arg2.given } in
-    lanes_next loop.inv s.pre.0.small (omega arith) (signal turn) _ turn.before.signal-index2.ensures (to_z-of_z fits) c.add_feed.ensures
+    let loop = (at turn).loop-i in
+    let fits : SFits w32 (get_or s.args.weights.now (1 + loop.i) (pos 0)) = record { sfits = c.add-feed-arg2.given } in
+    lanes_next loop.inv s.requires.0.small (omega arith) (signal turn) _ turn.signal_index-signal.ensures (to_z-of_z fits) c.add_feed.ensures
 
 returns : tie.Need-returns invariant-loop decreases-loop
-returns c = lanes_all c.before.loop.invariant (omega arith) c.before.before.signal-index.ensures
+returns c = lanes_all c.loop-i.invariant (omega arith) c.signal_index-count.ensures
 
 pub row_sums_spec : {M : Type 1} → statement M
 row_sums_spec =

@@ -12,27 +12,26 @@ use borrow.Author.Rules.{rules}
 use Rattle.compare_lanes.proofs.unchecked.rows_apart.Statement.{statement}
 use Rattle.compare_lanes.proofs.unchecked.rows_apart.Tie as tie
 
-abbrev invariant-loop : tie.invariant-loop
+abbrev invariant-loop : tie.invariant-loop-f
 invariant-loop a b f₀ f = (f ≤ 32) × ((k : ℕ) → k < f → get_or a k (pos 0) ≡ get_or b k (pos 0))
 
-abbrev decreases-loop : tie.decreases-loop
+abbrev decreases-loop : tie.decreases-loop-f
 decreases-loop a b f₀ f = 32 - f
 
-loop_holds : tie.Need-loop-init invariant-loop decreases-loop
+loop_holds : tie.Need-loop-f-init invariant-loop decreases-loop
 loop_holds c = (omega arith, λ k l. absurd (omega arith))
 
-returns : tie.Need-returns invariant-loop decreases-loop
-returns c = record { none = λ l k m. absurd (omega arith); some = λ l e. c.if1.true (ap (of_z w32) e) }
+returns : tie.Need-returns-then-a-f invariant-loop decreases-loop
+returns c = record { none = λ l k m. absurd (omega arith); some = λ l e. c.if-a-f.true (ap (of_z w32) e) }
 
-loop_again : tie.Need-loop-preserved invariant-loop decreases-loop
+loop_again : tie.Need-loop-f-preserved invariant-loop decreases-loop
 loop_again c =
-    let at = c.before.before.before.before in
-    let a : SFits w32 (get_or at.before.args.a.now at.loop.f (pos 0)) = record { sfits = c.before.before.if12.given } in
-    let b : SFits w32 (get_or at.before.args.b.now at.loop.f (pos 0)) = record { sfits = c.before.if13.given } in
-    (omega arith, below_more _ _ at.loop.invariant.1 (sym (to_z-of_z a) ∙ ap (to_z w32) c.if1.false ∙ to_z-of_z b))
+    let a : SFits w32 (get_or c.args.a.now c.loop-f.f (pos 0)) = record { sfits = c.t8-1.given } in
+    let b : SFits w32 (get_or c.args.b.now c.loop-f.f (pos 0)) = record { sfits = c.t12-1.given } in
+    (omega arith, below_more _ _ c.loop-f.invariant.1 (sym (to_z-of_z a) ∙ ap (to_z w32) c.if-a-f.false ∙ to_z-of_z b))
 
-returns_2 : tie.Need-returns-2 invariant-loop decreases-loop
-returns_2 c = record { none = λ l k m. c.before.loop.invariant.1 k (omega arith); some = λ l e. omega arith }
+returns_2 : tie.Need-returns invariant-loop decreases-loop
+returns_2 c = record { none = λ l k m. c.loop-f.invariant.1 k (omega arith); some = λ l e. omega arith }
 
 pub rows_apart_spec : {M : Type 1} → statement M
 rows_apart_spec =

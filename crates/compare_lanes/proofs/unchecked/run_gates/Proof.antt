@@ -8,32 +8,29 @@ use Rattle.compare_lanes.proofs.RunLaws.{GatesLeft, left_none, left_next, left_a
 use Rattle.compare_lanes.proofs.unchecked.run_gates.Statement.{statement}
 use Rattle.compare_lanes.proofs.unchecked.run_gates.Tie as tie
 
-abbrev invariant-loop : tie.invariant-loop
+abbrev invariant-loop : tie.invariant-loop-g
 invariant-loop inputs gates wires weights lanes₀ g₀ lanes g = (g ≤ gates) × GatesLeft (joint inputs gates wires weights) lanes₀ g lanes
 
-abbrev decreases-loop : tie.decreases-loop
+abbrev decreases-loop : tie.decreases-loop-g
 decreases-loop inputs gates wires weights lanes₀ g₀ lanes g = gates - g
 
 abbrev J : tie.Start invariant-loop decreases-loop → Joint
 J s = joint s.args.inputs s.args.gates s.args.wires.now s.args.weights.now
 
-loop_holds : tie.Need-loop-init invariant-loop decreases-loop
+loop_holds : tie.Need-loop-g-init invariant-loop decreases-loop
 loop_holds c = (omega arith, left_none (J c) c.requires.1)
 
-gate_row_requires : tie.Need-gate-row-requires invariant-loop decreases-loop
+gate_row_requires : tie.Need-gate_row-row-requires invariant-loop decreases-loop
 gate_row_requires c κs =
-    let at = c.before.before.before.before in
-    (at.before.requires.0.gate at.loop.g (omega arith), at.loop.invariant.1.masked)
+    (c.requires.0.gate c.loop-g.g (omega arith), c.loop-g.invariant.1.masked)
 
-loop_again : tie.Need-loop-preserved invariant-loop decreases-loop
+loop_again : tie.Need-loop-g-preserved invariant-loop decreases-loop
 loop_again c =
-    let at = c.before.before.before.before.before in
-    let s = at.before in
-    let put = lanes_put (s.args.inputs + at.loop.g) at.loop.invariant.1.masked (omega arith) c.gate-row.ensures in
-    (omega arith, left_next (J s) at.loop.invariant.1 (omega arith) put)
+    let put = lanes_put (c.args.inputs + c.loop-g.g) c.loop-g.invariant.1.masked (omega arith) c.gate_row-row.ensures in
+    (omega arith, left_next (J c) c.loop-g.invariant.1 (omega arith) put)
 
 returns : tie.Need-returns invariant-loop decreases-loop
-returns c = left_all (J c.before.before) c.before.loop.invariant.1 (omega arith)
+returns c = left_all (J c.before.before) c.loop-g.invariant.1 (omega arith)
 
 pub run_gates_spec : {M : Type 1} → statement M
 run_gates_spec =

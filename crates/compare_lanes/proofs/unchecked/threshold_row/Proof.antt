@@ -17,27 +17,27 @@ use Rattle.compare_lanes.proofs.RowLaws.{row_filled}
 use Rattle.compare_lanes.proofs.unchecked.threshold_row.Statement.{statement}
 use Rattle.compare_lanes.proofs.unchecked.threshold_row.Tie as tie
 
-abbrev invariant-loop : tie.invariant-loop
+abbrev invariant-loop : tie.invariant-loop-f
 invariant-loop sums threshold row₀ f₀ row f =
     (f ≤ 32) × Pasted (pos 0) 0 f (λ k. mask_of (le_z (to_z w32 threshold) (get_or sums k (pos 0)))) (replicate 32 (pos 0)) row
 
-abbrev decreases-loop : tie.decreases-loop
+abbrev decreases-loop : tie.decreases-loop-f
 decreases-loop sums threshold row₀ f₀ row f = 32 - f
 
-loop_holds : tie.Need-loop-init invariant-loop decreases-loop
+loop_holds : tie.Need-loop-f-init invariant-loop decreases-loop
 loop_holds c = (omega arith, pasted_none _ _ _ _)
 
-loop_again : tie.Need-loop-preserved invariant-loop decreases-loop
+loop_again : tie.Need-loop-f-preserved invariant-loop decreases-loop
 loop_again c =
-    let sums = c.before.before.before.before.args.sums.now in
-    let fits : SFits w32 (get_or sums c.before.before.before.loop.f (pos 0)) = record { sfits = c.before.mask-of-arg.given } in
-    let on = rw (to_z-of_z fits) at c.mask-of.ensures in
-    (omega arith, pasted_more _ _ c.before.before.before.loop.invariant.1 (omega arith) (read_back w32 c.mask-of.type-inv on))
+    let sums = c.args.sums.now in
+    let fits : SFits w32 (get_or sums c.loop-f.f (pos 0)) = record { sfits = c.mask_of-arg-1.given } in
+    let on = rw (to_z-of_z fits) at c.mask_of.ensures in
+    (omega arith, pasted_more _ _ c.loop-f.invariant.1 (omega arith) (read_back w32 c.mask_of.type_inv on))
 
 returns : tie.Need-returns invariant-loop decreases-loop
 returns c =
-    let e : c.before.loop.f ≡ 32 = omega arith in
-    row_filled (rw (e, to_z-of_z c.before.before.ranges.threshold) at c.before.loop.invariant.1)
+    let e : c.loop-f.f ≡ 32 = omega arith in
+    row_filled (rw (e, to_z-of_z c.ranges.threshold) at c.loop-f.invariant.1)
 
 pub threshold_row_spec : {M : Type 1} → statement M
 threshold_row_spec =

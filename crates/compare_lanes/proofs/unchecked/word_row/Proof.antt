@@ -15,24 +15,24 @@ use Rattle.compare_lanes.proofs.RowLaws.{row_filled}
 use Rattle.compare_lanes.proofs.unchecked.word_row.Statement.{statement}
 use Rattle.compare_lanes.proofs.unchecked.word_row.Tie as tie
 
-abbrev invariant-loop : tie.invariant-loop
+abbrev invariant-loop : tie.invariant-loop-f
 invariant-loop word row₀ f₀ row f = (f ≤ 32) × Pasted (pos 0) 0 f (λ k. mask_of (frame word k)) (replicate 32 (pos 0)) row
 
-abbrev decreases-loop : tie.decreases-loop
+abbrev decreases-loop : tie.decreases-loop-f
 decreases-loop word row₀ f₀ row f = 32 - f
 
-loop_holds : tie.Need-loop-init invariant-loop decreases-loop
+loop_holds : tie.Need-loop-f-init invariant-loop decreases-loop
 loop_holds c = (omega arith, pasted_none _ _ _ _)
 
-loop_again : tie.Need-loop-preserved invariant-loop decreases-loop
+loop_again : tie.Need-loop-f-preserved invariant-loop decreases-loop
 unfolding frame
 loop_again c =
-    (omega arith, pasted_more _ _ c.before.before.loop.invariant.1 (omega arith) (read_back w32 c.mask-of.type-inv c.mask-of.ensures))
+    (omega arith, pasted_more _ _ c.loop-f.invariant.1 (omega arith) (read_back w32 c.mask_of.type_inv c.mask_of.ensures))
 
 returns : tie.Need-returns invariant-loop decreases-loop
 returns c =
-    let e : c.before.loop.f ≡ 32 = omega arith in
-    row_filled (rw e at c.before.loop.invariant.1)
+    let e : c.loop-f.f ≡ 32 = omega arith in
+    row_filled (rw e at c.loop-f.invariant.1)
 
 pub word_row_spec : {M : Type 1} → statement M
 word_row_spec =

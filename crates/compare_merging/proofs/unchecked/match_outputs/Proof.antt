@@ -7,38 +7,37 @@ use Rattle.compare_merging.proofs.unchecked.match_outputs.Statement.{statement}
 use Rattle.compare_merging.proofs.unchecked.match_outputs.Tie as tie
 
 -- after all turns
-module _ (c : tie.After-merge-rounds) where
-  abbrev pairs : tie.After-merge-all
+module _ (c : tie.After-merge_rounds-left) where
+  abbrev pairs : tie.After-merge_all-after
   pairs = c.before.before.before.before
 
   abbrev start : tie.Start
-  start = pairs.before.before.before.before.before.before.before.before.before.before
+  start = pairs.before.before.before.before.before.before.before.before
 
-merge_rounds_requires : tie.Need-merge-rounds-requires
+merge_rounds_requires : tie.Need-merge_rounds-left-requires
 merge_rounds_requires c κs =
-    let tried = c.before.before.before in
-    tried.merge-all.ensures.0.ready tried.before.before.before.before.before.before.before.before.before.before.requires.0
+    c.merge_all-after.ensures.0.ready c.requires.0
 
-returns : tie.Need-returns
+returns : tie.Need-returns-then-is_found
 returns c =
     let turned = c.before.before.before.before.before in (
-      kept_then (start turned).requires.0 (pairs turned).merge-all.ensures.0 turned.merge-rounds.ensures.0,
-      ((λ e. absurd (false≢true e)), omega (arith, (pairs turned).merge-all.ensures.1, turned.merge-rounds.ensures.1)),
+      kept_then (start turned).requires.0 (pairs turned).merge_all-after.ensures.0 turned.merge_rounds-left.ensures.0,
+      ((λ e. absurd (false≢true e)), omega (arith, (pairs turned).merge_all-after.ensures.1, turned.merge_rounds-left.ensures.1)),
     )
 
-compare_outputs_requires : tie.Need-compare-outputs-requires
+compare_outputs_requires : tie.Need-compare_outputs-requires
 compare_outputs_requires c κs =
-    let turned = c.before.before.before.before.before in
+    let turned = c.before.before.before in
     let pre = (start turned).requires in
-    (turned.merge-rounds.ensures.0.ready ((pairs turned).merge-all.ensures.0.ready pre.0), pre.1)
+    (turned.merge_rounds-left.ensures.0.ready ((pairs turned).merge_all-after.ensures.0.ready pre.0), pre.1)
 
-returns_2 : tie.Need-returns-2
+returns_2 : tie.Need-returns
 returns_2 c =
-    let turned = c.before.before.before.before.before.before in (
-      kept_then (start turned).requires.0 (pairs turned).merge-all.ensures.0 turned.merge-rounds.ensures.0,
+    let turned = c.before.before.before.before in (
+      kept_then (start turned).requires.0 (pairs turned).merge_all-after.ensures.0 turned.merge_rounds-left.ensures.0,
       (
-        c.compare-outputs.ensures.1,
-        omega (arith, (pairs turned).merge-all.ensures.1, turned.merge-rounds.ensures.1, c.compare-outputs.ensures.0),
+        c.compare_outputs.ensures.1,
+        omega (arith, (pairs turned).merge_all-after.ensures.1, turned.merge_rounds-left.ensures.1, c.compare_outputs.ensures.0),
       ),
     )
 

@@ -7,25 +7,23 @@ use Rattle.compare_networks.specs.SettledLaws.{outputs_readable, outputs_kept, m
 use Rattle.compare_networks.proofs.unchecked.settle.Statement.{statement}
 use Rattle.compare_networks.proofs.unchecked.settle.Tie as tie
 
-steps_given_requires : tie.Need-steps-given-requires
+steps_given_requires : tie.Need-steps_given-given-requires
 steps_given_requires c κs = c.requires.0.wired.ready.few_inputs
 
 -- ---- the joint before and after
-match_outputs_requires : tie.Need-match-outputs-requires
-match_outputs_requires c κs = let p = c.before.before.before.requires in (p.0.wired.ready, p.0.few, p.1)
+match_outputs_requires : tie.Need-match_outputs-outcome-requires
+match_outputs_requires c κs = let p = c.requires in (p.0.wired.ready, p.0.few, p.1)
 
-returns : tie.Need-returns
+returns : tie.Need-returns-then-outcome
 returns c =
-    let m = c.before.before in
-    let e = m.match-outputs.ensures in
-    let start = m.before.before.before.before in
-    (matched_settled start.requires.0 _ _ e.0 (e.1.0 c.if1.true) _, omega (arith, e.1.1, m.before.before.before.steps-given.ensures))
+    let e = c.match_outputs-outcome.ensures in
+    (matched_settled c.requires.0 _ _ e.0 (e.1.0 c.if-outcome.true) _, omega (arith, e.1.1, c.steps_given-given.ensures))
 
-frame_count_requires : tie.Need-frame-count-requires
-frame_count_requires c κs = c.before.before.before.before.before.before.requires.0.wired.ready.few_inputs
+frame_count_requires : tie.Need-frame_count-frames-requires
+frame_count_requires c κs = c.requires.0.wired.ready.few_inputs
 
-rem_frame : tie.Need-nonzero-rem-frame
-rem_frame c = c.before.frame_count.ensures.1
+rem_frame : tie.Need-nonzero_rem-frame
+rem_frame c = c.frame_count-frames.ensures.1
 
 -- ---- a frame
 below : (c : tie.After-read-frames-arg2)
@@ -33,52 +31,40 @@ below : (c : tie.After-read-frames-arg2)
     < c.before.before.before.frame_count.result
 below c = mod-lt c.before.before.before.before.before.before.match-outputs.result.frame c.before.before.before.frame_count.ensures.1
 
-add_read_frames : tie.Need-overflow-add-read-frames
-add_read_frames c = record { fits = omega (arith, below c, c.before.before.before.frame_count.ensures) }
+add_read_frames : tie.Need-overflow_add-frame
+add_read_frames c = record { fits = omega (arith, below c, c.frame_count-frames.ensures) }
 
-read_frames_requires : tie.Need-read-frames-requires
+read_frames_requires : tie.Need-read_frames-near-requires
 read_frames_requires c κs =
-    let m = c.before.before.before.before.before.before in
-    let start = m.before.before.before.before in
-    let n = c.before.before.before.frame_count.ensures in
-    (outputs_readable (outputs_kept start.requires.0 _ _ m.match-outputs.ensures.0), (omega (arith, below c, n), omega (arith, below c, n)))
+    let n = c.frame_count-frames.ensures in
+    (outputs_readable (outputs_kept c.requires.0 _ _ c.match_outputs-outcome.ensures.0), (omega (arith, below c, n), omega (arith, below c, n)))
 
-returns_2 : tie.Need-returns-2
+returns_2 : tie.Need-returns-then-near
 returns_2 c =
-    let m = c.before.before.before.before.before.before.before.before in
-    let start = m.before.before.before.before in
-    let e = m.match-outputs.ensures in
-    (met_settled start.requires.0 _ _ e.0 _ c.before.read-frames.ensures c.if2.true _, omega (arith, e.1.1, m.before.before.before.steps-given.ensures))
+    let e = c.match_outputs-outcome.ensures in
+    (met_settled c.requires.0 _ _ e.0 _ c.read_frames-near.ensures c.if-near.true _, omega (arith, e.1.1, c.steps_given-given.ensures))
 
-returns_3 : tie.Need-returns-3
+returns_3 : tie.Need-returns-then-inputs-gt20
 returns_3 c =
-    let m = c.before.before.before.before.before.before.before.before.before in
-    let start = m.before.before.before.before in
-    let e = m.match-outputs.ensures in
-    (unsettled start.requires.0 _ _ e.0 c.if3.true _, omega (arith, e.1.1, m.before.before.before.steps-given.ensures))
+    let e = c.match_outputs-outcome.ensures in
+    (unsettled c.requires.0 _ _ e.0 c.if-inputs-gt20.true _, omega (arith, e.1.1, c.steps_given-given.ensures))
 
 -- ---- all frames
-read_frames_requires_2 : tie.Need-read-frames-requires-2
+read_frames_requires_2 : tie.Need-read_frames-all-requires
 read_frames_requires_2 c κs =
-    let m = c.before.before.before.before.before.before.before.before.before.before.before in
-    let start = m.before.before.before.before in
-    let n = c.before.before.before.before.before.before.before.before.frame_count.ensures in
-    (outputs_readable (outputs_kept start.requires.0 _ _ m.match-outputs.ensures.0), (omega arith, n.2))
+    let n = c.frame_count-frames.ensures in
+    (outputs_readable (outputs_kept c.requires.0 _ _ c.match_outputs-outcome.ensures.0), (omega arith, n.2))
 
-returns_4 : tie.Need-returns-4
+returns_4 : tie.Need-returns-then-all
 returns_4 c =
-    let m = c.before.before.before.before.before.before.before.before.before.before.before.before.before in
-    let start = m.before.before.before.before in
-    let e = m.match-outputs.ensures in
-    (met_settled start.requires.0 _ _ e.0 _ c.before.read-frames2.ensures c.if4.true _, omega (arith, e.1.1, m.before.before.before.steps-given.ensures))
+    let e = c.match_outputs-outcome.ensures in
+    (met_settled c.requires.0 _ _ e.0 _ c.read_frames-all.ensures c.if-all.true _, omega (arith, e.1.1, c.steps_given-given.ensures))
 
-returns_5 : tie.Need-returns-5
+returns_5 : tie.Need-returns
 returns_5 c =
-    let m = c.before.before.before.before.before.before.before.before.before.before.before.before.before in
-    let start = m.before.before.before.before in
-    let e = m.match-outputs.ensures in
-    let n = c.before.before.before.before.before.before.before.before.before.before.frame_count.ensures in
-    (read_settled start.requires.0 _ _ e.0 _ c.before.read-frames2.ensures c.if4.false n.0 _, omega (arith, e.1.1, m.before.before.before.steps-given.ensures))
+    let e = c.match_outputs-outcome.ensures in
+    let n = c.frame_count-frames.ensures in
+    (read_settled c.requires.0 _ _ e.0 _ c.read_frames-all.ensures c.if-all.false n.0 _, omega (arith, e.1.1, c.steps_given-given.ensures))
 
 pub settle_spec : {M : Type 1} → statement M
 settle_spec =

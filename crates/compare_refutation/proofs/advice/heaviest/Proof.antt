@@ -12,35 +12,35 @@ use Rattle.compare_theory.specs.Joint.{fanin}
 use Rattle.compare_refutation.proofs.advice.heaviest.Statement.{statement}
 use Rattle.compare_refutation.proofs.advice.heaviest.Tie as tie
 
-abbrev invariant-loop : tie.invariant-loop
+abbrev invariant-loop : tie.invariant-loop-i
 invariant-loop wires weights bits lit from count best₀ heavy₀ i₀ best heavy i = Unit {0}
 
-abbrev decreases-loop : tie.decreases-loop
+abbrev decreases-loop : tie.decreases-loop-i
 decreases-loop wires weights bits lit from count best₀ heavy₀ i₀ best heavy i = count - i
 
 -- a place of the row, and its signal
-module _ (c : tie.In-loop invariant-loop decreases-loop) where
+module _ (c : tie.In-loop-i invariant-loop decreases-loop) where
   abbrev start : tie.Start invariant-loop decreases-loop
-  start = c.before.before.before.before.before
+  start = c.before.before.before.before.before.before
 
-  in_row : c.before.loop.i < fanin start.args.wires.now
-  in_row = omega (arith, c.loop-test.true, c.before.before.before.signal-index.ensures)
+  in_row : c.loop-i.i < fanin start.args.wires.now
+  in_row = omega (arith, c.loop-i-test.true, c.signal_index-count.ensures)
 
-  in_table : 1 + c.before.loop.i < 17
-  in_table = omega (arith, in_row, start.pre.few)
+  in_table : 1 + c.loop-i.i < 17
+  in_table = omega (arith, in_row, start.requires.few)
 
-signal_there : (c : tie.After-signal-index2 invariant-loop decreases-loop) → c.signal-index2.result < 296
+signal_there : (c : tie.After-signal_index-signal invariant-loop decreases-loop) → c.signal_index-signal.result < 296
 signal_there c =
-    let turn = c.before.before in
-    omega (arith, c.signal-index2.ensures, (start turn).requires.there turn.before.loop.i (in_row turn))
+    let turn = c.before.before.before in
+    omega (arith, c.signal_index-signal.ensures, (start turn).requires.there turn.loop-i.i (in_row turn))
 
-add_size : tie.Need-overflow-add-size invariant-loop decreases-loop
+add_size : tie.Need-overflow_add-size invariant-loop decreases-loop
 add_size c =
-    let turn = c.before.before.before.before.before in
+    let turn = c.before.before.before.before.before.before in
     let s = start turn in
-    let p = 1 + turn.before.loop.i in
-    let fits : SFits w32 (get_or s.args.weights.now p (pos 0)) = record { sfits = c.before.before.weight.given } in
-    record { fits = omega (arith, c.before.magnitude.ensures, ap nat_abs (to_z-of_z fits), s.pre.small p, c.lift.ensures) }
+    let p = 1 + turn.loop-i.i in
+    let fits : SFits w32 (get_or s.args.weights.now p (pos 0)) = record { sfits = c.weight-1.given } in
+    record { fits = omega (arith, c.magnitude.ensures, ap nat_abs (to_z-of_z fits), s.requires.small p, c.lift.ensures) }
 
 pub heaviest_spec : {M : Type 1} → statement M
 heaviest_spec =

@@ -4,11 +4,9 @@ use native.Mathlib.Omega.{arith}
 use Rattle.compare_refutation.proofs.advice.listed_feed.Statement.{statement}
 use Rattle.compare_refutation.proofs.advice.listed_feed.Tie as tie
 
-open_feed_requires : tie.Need-open-feed-requires
+open_feed_requires : tie.Need-open_feed-requires
 open_feed_requires c κs =
-    let past = c.before.before in
-    let s = past.before in
-    (s.requires.gate s.args.g past.if1.false, omega (arith, s.requires.few_inputs, s.requires.few_gates, past.if1.false))
+    (c.requires.gate c.args.g c.if-gates-g.false, omega (arith, c.requires.few_inputs, c.requires.few_gates, c.if-gates-g.false))
 
 pub listed_feed_spec : {M : Type 1} → statement M
 listed_feed_spec =

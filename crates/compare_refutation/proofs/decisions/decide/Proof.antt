@@ -6,10 +6,9 @@ use Rattle.compare_refutation.proofs.decisions.decide.Tie as tie
 
 returns : tie.Need-returns
 returns c =
-    let mask = c.before.before.before.mask-of in
-    let s = c.before.before.before.before in
-    let a = s.args in
-    decision a.level a.signal a.bit mask.result s.requires.0 s.requires.2 mask.ensures c.reopen.ensures
+    let mask = c.mask_of-mask in
+    let a = c.args in
+    decision a.level a.signal a.bit mask.result c.requires.0 c.requires.2 mask.ensures c.reopen.ensures
 
 pub decide_spec : {M : Type 1} → statement M
 decide_spec =

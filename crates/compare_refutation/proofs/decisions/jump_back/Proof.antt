@@ -8,19 +8,18 @@ use Rattle.compare_theory.specs.DecisionLaws.{jumped_back, not_jumped}
 use Rattle.compare_refutation.proofs.decisions.jump_back.Statement.{statement}
 use Rattle.compare_refutation.proofs.decisions.jump_back.Tie as tie
 
-rem_mask : tie.Need-nonzero-rem-mask
-rem_mask c = omega (arith, c.mask-of.ensures, pow_pos c.before.before.before.before.before.before.args.level)
+rem_mask : tie.Need-nonzero_rem-mask
+rem_mask c = omega (arith, c.mask_of-power.ensures, pow_pos c.args.level)
 
-returns_2 : tie.Need-returns-2
+returns_2 : tie.Need-returns
 returns_2 c =
-    let power = c.before.before.before.mask-of in
-    let bit = c.before.before.before.before.other_bit in
-    let signal = c.before.before.before.before.before.before.before.signal-index in
-    let s = c.before.before.before.before.before.before.before.before.before in
-    let why = s.args.why in
+    let power = c.mask_of-power in
+    let bit = c.other_bit-bit in
+    let signal = c.signal_index-signal in
+    let why = c.args.why in
     let mask = ap (λ (n : ℕ). why % n) power.ensures in
     rw signal.ensures
-    (jumped_back s.args.level bit.result (why % power.result) why bit.ensures s.requires.1 mask c.reopen.ensures)
+    (jumped_back c.args.level bit.result (why % power.result) why bit.ensures c.requires.1 mask c.reopen.ensures)
 
 pub jump_back_spec : {M : Type 1} → statement M
 jump_back_spec =

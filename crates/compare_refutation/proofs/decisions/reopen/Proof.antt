@@ -5,20 +5,18 @@ use Rattle.compare_theory.specs.DecisionLaws.{Reopening, reopening_none, reopeni
 use Rattle.compare_refutation.proofs.decisions.reopen.Statement.{statement}
 use Rattle.compare_refutation.proofs.decisions.reopen.Tie as tie
 
-abbrev invariant-loop : tie.invariant-loop
+abbrev invariant-loop : tie.invariant-loop-k
 invariant-loop bits₀ rests level k₀ bits k = Reopening level rests bits₀ k bits
 
-abbrev decreases-loop : tie.decreases-loop
+abbrev decreases-loop : tie.decreases-loop-k
 decreases-loop bits₀ rests level k₀ bits k = 296 - k
 
-loop_again : tie.Need-loop-preserved invariant-loop decreases-loop
+loop_again : tie.Need-loop-k-preserved invariant-loop decreases-loop
 loop_again c =
-    let turn = c.before.before.before in
-    let at = turn.before in
-    reopening_next at.loop.k c.reopened-byte.result turn.loop-test.true at.loop.invariant c.reopened-byte.ensures
+    reopening_next c.loop-k.k c.reopened_byte-byte.result c.loop-k-test.true c.loop-k.invariant c.reopened_byte-byte.ensures
 
 returns : tie.Need-returns invariant-loop decreases-loop
-returns c = reopening_all c.before.loop.k c.loop-test.false c.before.loop.invariant
+returns c = reopening_all c.loop-k.k c.loop-k-test.false c.loop-k.invariant
 
 pub reopen_spec : {M : Type 1} → statement M
 reopen_spec =

@@ -5,14 +5,12 @@ use Rattle.compare_theory.specs.ReasonLaws.{of_gate}
 use Rattle.compare_refutation.proofs.rules.apply_listed.Statement.{statement}
 use Rattle.compare_refutation.proofs.rules.apply_listed.Tie as tie
 
-apply_rule_requires : tie.Need-apply-rule-requires
+apply_rule_requires : tie.Need-apply_rule-requires
 apply_rule_requires c κs =
-    let past = c.before.before.before.before in
-    let s = past.before in
-    (s.requires.gate s.args.g past.if1.false, omega (arith, s.requires.few_inputs, s.requires.few_gates, past.if1.false))
+    (c.requires.gate c.args.g c.if-gates-g.false, omega (arith, c.requires.few_inputs, c.requires.few_gates, c.if-gates-g.false))
 
-returns_2 : tie.Need-returns-2
-returns_2 c = of_gate c.before.before.before.before.before.if1.false c.apply-rule.ensures
+returns_2 : tie.Need-returns
+returns_2 c = of_gate c.if-gates-g.false c.apply_rule.ensures
 
 pub apply_listed_spec : {M : Type 1} → statement M
 apply_listed_spec =

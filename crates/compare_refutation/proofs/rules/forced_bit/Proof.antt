@@ -7,26 +7,23 @@ use Rattle.compare_theory.specs.SpanLaws.{forced_lit, forced_not}
 use Rattle.compare_refutation.proofs.rules.forced_bit.Statement.{statement}
 use Rattle.compare_refutation.proofs.rules.forced_bit.Tie as tie
 
-returns : tie.Need-returns
+returns : tie.Need-returns-then-threshold-lowest
 returns c =
-    let s = c.before in
-    sym (forced_lit _ _ _ (simp (to_z-of_z s.ranges.threshold, to_z-of_z s.ranges.lowest) at c.if1.true))
+    sym (forced_lit _ _ _ (simp (to_z-of_z c.ranges.threshold, to_z-of_z c.ranges.lowest) at c.if-threshold-lowest.true))
 
 -- past the first test
-module _ (c : tie.Else1) where
-  not_lit : le_z c.before.args.threshold c.before.args.lowest ≡ false
-  not_lit = simp (to_z-of_z c.before.ranges.threshold, to_z-of_z c.before.ranges.lowest) at c.if1.false
+module _ (c : tie.Else-threshold-lowest) where
+  not_lit : le_z c.args.threshold c.args.lowest ≡ false
+  not_lit = simp (to_z-of_z c.ranges.threshold, to_z-of_z c.ranges.lowest) at c.if-threshold-lowest.false
 
-returns_2 : tie.Need-returns-2
+returns_2 : tie.Need-returns-then-threshold-highest
 returns_2 c =
-    let s = c.before.before in
-    let test : le_z s.args.threshold s.args.highest ≡ true = simp (to_z-of_z s.ranges.threshold, to_z-of_z s.ranges.highest) at c.if2.true in
+    let test : le_z c.args.threshold c.args.highest ≡ true = simp (to_z-of_z c.ranges.threshold, to_z-of_z c.ranges.highest) at c.if-threshold-highest.true in
     sym (forced_not _ _ _ (not_lit c.before) ∙ ap (λ b. cond b 2 0) test)
 
-returns_3 : tie.Need-returns-3
+returns_3 : tie.Need-returns-else-threshold-highest
 returns_3 c =
-    let s = c.before.before in
-    let test : le_z s.args.threshold s.args.highest ≡ false = simp (to_z-of_z s.ranges.threshold, to_z-of_z s.ranges.highest) at c.if2.false in
+    let test : le_z c.args.threshold c.args.highest ≡ false = simp (to_z-of_z c.ranges.threshold, to_z-of_z c.ranges.highest) at c.if-threshold-highest.false in
     sym (forced_not _ _ _ (not_lit c.before) ∙ ap (λ b. cond b 2 0) test)
 
 pub forced_bit_spec : {M : Type 1} → statement M

@@ -7,10 +7,10 @@ use mir.Facts.{to_z-of_z}
 use Rattle.compare_refutation.proofs.rules.reason.Statement.{statement}
 use Rattle.compare_refutation.proofs.rules.reason.Tie as tie
 
-returns : tie.Need-returns
-returns c = let s = c.before in inl (sym (to_z-of_z s.ranges.share) ∙ ap (to_z w32) c.if1.true ∙ to_z-of_z s.ranges.free)
+returns : tie.Need-returns-then-share-free
+returns c = inl (sym (to_z-of_z c.ranges.share) ∙ ap (to_z w32) c.if-share-free.true ∙ to_z-of_z c.ranges.free)
 
-returns_2 : tie.Need-returns-2
+returns_2 : tie.Need-returns-else-share-free
 returns_2 c = inr refl
 
 pub reason_spec : {M : Type 1} → statement M

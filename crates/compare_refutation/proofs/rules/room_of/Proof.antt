@@ -37,28 +37,28 @@ module _ (c : tie.Start) where
   both_fit : SFits w32 (below -ℤ c.args.lowest)
   both_fit = size_fits w32 _ (omega (arith, both_small))
 
-sub_result : tie.Need-overflow-sub-result
+sub_result : tie.Need-overflow_sub-result
 sub_result c = let s = c.before in simp (to_z-of_z s.ranges.highest, to_z-of_z s.ranges.threshold) (above_fits s)
 
-returns : tie.Need-returns
+returns : tie.Need-returns-then-goal-eq1
 returns c =
     let s = c.before in
     simp (to_z-of_z s.ranges.highest, to_z-of_z s.ranges.threshold, to_z-of_z (above_fits s))
-    (sym (room_of_lit _ _ _ _ c.if1.true), omega (arith, above_small s))
+    (sym (room_of_lit _ _ _ _ c.if-goal-eq1.true), omega (arith, above_small s))
 
-sub_result_2 : tie.Need-overflow-sub-result-2
+sub_result_2 : tie.Need-overflow_sub-result-2
 sub_result_2 c = let s = c.before in simp (to_z-of_z s.ranges.threshold) (below_fits s)
 
-sub_result_3 : tie.Need-overflow-sub-result-3
+sub_result_3 : tie.Need-overflow_sub-result-3
 sub_result_3 c =
     let s = c.before in
     simp (to_z-of_z s.ranges.threshold, to_z-of_z s.ranges.lowest, to_z-of_z (below_fits s)) (both_fit s)
 
-returns_2 : tie.Need-returns-2
+returns_2 : tie.Need-returns
 returns_2 c =
     let s = c.before in
     simp (to_z-of_z s.ranges.threshold, to_z-of_z s.ranges.lowest, to_z-of_z (below_fits s), to_z-of_z (both_fit s))
-    (sym (room_of_dark _ _ _ _ c.if1.false), omega (arith, both_small s))
+    (sym (room_of_dark _ _ _ _ c.if-goal-eq1.false), omega (arith, both_small s))
 
 pub room_of_spec : {M : Type 1} → statement M
 room_of_spec = tie.close (tie.spec sub_result returns sub_result_2 sub_result_3 returns_2)

@@ -14,40 +14,39 @@ use Rattle.compare_theory.specs.SpanLaws.{settled_set, settled_heavy, settled_li
 use Rattle.compare_refutation.proofs.rules.settled_bit.Statement.{statement}
 use Rattle.compare_refutation.proofs.rules.settled_bit.Tie as tie
 
-returns : tie.Need-returns
+returns : tie.Need-returns-then-bit-lt2
 returns c = sym (settled_set _ _ _ _ (omega arith))
 
 minus_fits : (c : tie.Start) → SFits w32 (pos 0 -ℤ c.args.room)
 minus_fits c = size_fits w32 _ (omega (arith, size_minus c.args.room, c.requires.1))
 
-sub_if3 : tie.Need-overflow-sub-if3
+sub_if3 : tie.Need-overflow_sub-room
 sub_if3 c = let s = c.before.before in rw (to_z-of_z s.ranges.room) (minus_fits s)
 
 -- not above the room
-module _ (c : tie.Then2) where
-  light : let a = c.before.before.args in le_z a.weight a.room ≡ true
-  light = let s = c.before.before in simp (to_z-of_z s.ranges.weight, to_z-of_z s.ranges.room) at c.if2.true
+module _ (c : tie.Then-weight-room) where
+  light : let a = c.args in le_z a.weight a.room ≡ true
+  light = simp (to_z-of_z c.ranges.weight, to_z-of_z c.ranges.room) at c.if-weight-room.true
 
-returns_2 : tie.Need-returns-2
+returns_2 : tie.Need-returns-then-room-weight
 returns_2 c =
     let s = c.before.before.before in
     let a = s.args in
     let test : le_z (pos 0 -ℤ a.room) a.weight ≡ true =
-    simp (to_z-of_z s.ranges.weight, to_z-of_z s.ranges.room, to_z-of_z (minus_fits s)) at c.if3.true in
+    simp (to_z-of_z s.ranges.weight, to_z-of_z s.ranges.room, to_z-of_z (minus_fits s)) at c.if-room-weight.true in
     sym (settled_light _ _ _ _ (omega arith) (light c.before) ∙ ap (λ b. cond b a.bit (1 - a.goal)) test)
 
-returns_3 : tie.Need-returns-3
+returns_3 : tie.Need-returns-then-weight-room
 returns_3 c =
     let s = c.before.before.before in
     let a = s.args in
     let test : le_z (pos 0 -ℤ a.room) a.weight ≡ false =
-    simp (to_z-of_z s.ranges.weight, to_z-of_z s.ranges.room, to_z-of_z (minus_fits s)) at c.if3.false in
+    simp (to_z-of_z s.ranges.weight, to_z-of_z s.ranges.room, to_z-of_z (minus_fits s)) at c.if-room-weight.false in
     sym (settled_light _ _ _ _ (omega arith) (light c.before) ∙ ap (λ b. cond b a.bit (1 - a.goal)) test)
 
-returns_4 : tie.Need-returns-4
+returns_4 : tie.Need-returns
 returns_4 c =
-    let s = c.before.before in
-    sym (settled_heavy _ _ _ _ (omega arith) (simp (to_z-of_z s.ranges.weight, to_z-of_z s.ranges.room) at c.if2.false))
+    sym (settled_heavy _ _ _ _ (omega arith) (simp (to_z-of_z c.ranges.weight, to_z-of_z c.ranges.room) at c.if-weight-room.false))
 
 pub settled_bit_spec : {M : Type 1} → statement M
 settled_bit_spec = tie.close (tie.spec returns sub_if3 returns_2 (λ c. search rules) returns_3 returns_4)

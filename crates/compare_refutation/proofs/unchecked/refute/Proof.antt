@@ -10,50 +10,49 @@ use Rattle.compare_theory.specs.DecisionLaws.{decided_none, decided_after, decid
 use Rattle.compare_refutation.proofs.unchecked.refute.Statement.{statement}
 use Rattle.compare_refutation.proofs.unchecked.refute.Tie as tie
 
-abbrev invariant-loop : tie.invariant-loop
+abbrev invariant-loop : tie.invariant-loop-left
 invariant-loop inputs gates wires weights list count budget gates-first held₀ rests₀ chosen₀ tried₀ depth₀ left₀ held rests chosen tried depth left =
     (left ≤ budget) × Decided (joint inputs gates wires weights) held₀ chosen tried held rests
 
-abbrev decreases-loop : tie.decreases-loop
+abbrev decreases-loop : tie.decreases-loop-left
 decreases-loop inputs gates wires weights list count budget gates-first held₀ rests₀ chosen₀ tried₀ depth₀ left₀ held rests chosen tried depth left = left
 
-loop_holds : tie.Need-loop-init invariant-loop decreases-loop
+loop_holds : tie.Need-loop-left-init invariant-loop decreases-loop
 loop_holds c = (omega arith, decided_none c.args.bits)
 
 -- a step less of the budget is left
-module _ (c : tie.After-propagate invariant-loop decreases-loop) where
-  abbrev at : tie.At-loop invariant-loop decreases-loop
+module _ (c : tie.After-propagate-step invariant-loop decreases-loop) where
+  abbrev at : tie.At-loop-left invariant-loop decreases-loop
   at = c.before.before.before.before
 
-  within : at.loop.left - 1 ≤ at.before.args.budget
-  within = omega (arith, at.loop.inv.0)
+  within : at.loop-left.left - 1 ≤ at.args.budget
+  within = omega (arith, at.loop-left.inv.0)
 
-  gave_up : {code left : ℕ} {X : Type 0} → (code ≡ 2) × (left ≡ at.loop.left - 1) → (left ≤ at.before.args.budget) × (code ≡ 0 → X)
+  gave_up : {code left : ℕ} {X : Type 0} → (code ≡ 2) × (left ≡ at.loop-left.left - 1) → (left ≤ at.args.budget) × (code ≡ 0 → X)
   gave_up h = (omega (arith, within), λ e. absurd (omega arith))
 
-returns : tie.Need-returns invariant-loop decreases-loop
+returns : tie.Need-returns-then-why-eq0 invariant-loop decreases-loop
 returns c =
     let p = c.before.before in
-    (within p, λ _. decided_refuted (at p).loop.invariant.1 p.propagate.ensures c.before.if1.true c.if2.true)
+    (within p, λ _. decided_refuted (at p).loop-left.invariant.1 p.propagate-step.ensures c.if-code-eq2.true c.if-why-eq0.true)
 
-jump_back_requires : tie.Need-jump-back-requires invariant-loop decreases-loop
-jump_back_requires c κs = let past = c.before.before.before.before in (past.before.last-level.ensures, past.if3.false)
+jump_back_requires : tie.Need-jump_back-requires invariant-loop decreases-loop
+jump_back_requires c κs = (c.last_level-level.ensures, c.if-why-level-ne1.false)
 
-loop_again : tie.Need-loop-preserved invariant-loop decreases-loop
+loop_again : tie.Need-loop-left-preserved-then-code-eq2 invariant-loop decreases-loop
 loop_again c =
-    let past = c.before.before.before.before.before.before.before.before in
-    let p = past.before in
-    let step = p.propagate.ensures in
-    let inv = (at p).loop.invariant.1 in
-    (within p, c.jump_back.ensures.decided _ _ (decided_after inv step) (decided_clash inv step past.if1.true))
+    let p = c.before.before.before.before.before.before.before.before.before in
+    let step = p.propagate-step.ensures in
+    let inv = (at p).loop-left.invariant.1 in
+    (within p, c.jump_back.ensures.decided _ _ (decided_after inv step) (decided_clash inv step c.if-code-eq2.true))
 
 decide_requires : tie.Need-decide-requires invariant-loop decreases-loop
-decide_requires c κs = let bit = c.before.before.before.before in (bit.before.if5.false, bit.before.before.if4.false, bit.byte_of.ensures)
+decide_requires c κs = (c.if-depth-ge64.false, c.if-signal-ge296.false, c.byte_of-bit.ensures)
 
-loop_again_2 : tie.Need-loop-preserved-2 invariant-loop decreases-loop
+loop_again_2 : tie.Need-loop-left-preserved invariant-loop decreases-loop
 loop_again_2 c =
     let p = c.before.before.before.before.before.before.before.before.before.before.before.before in
-    (within p, c.decide.ensures.decided _ _ (decided_after (at p).loop.invariant.1 p.propagate.ensures))
+    (within p, c.decide.ensures.decided _ _ (decided_after (at p).loop-left.invariant.1 p.propagate-step.ensures))
 
 pub refute_spec : {M : Type 1} → statement M
 refute_spec =

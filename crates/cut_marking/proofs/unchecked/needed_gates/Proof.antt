@@ -6,11 +6,11 @@ use Rattle.cut_marking.specs.MarkingLaws.{closed_blank, needed_marked}
 use Rattle.cut_marking.proofs.unchecked.needed_gates.Statement.{statement}
 use Rattle.cut_marking.proofs.unchecked.needed_gates.Tie as tie
 
-mark_gate_requires : tie.Need-mark-gate-requires
+mark_gate_requires : tie.Need-mark_gate-requires
 mark_gate_requires c κs = (c.requires.0, c.requires.1, subst (Closed _ _ _ _) (sym blank_marks) (closed_blank _ 128))
 
 returns : tie.Need-returns
-returns c = needed_marked 128 c.before.requires.1 (rw blank_marks at c.mark-gate.ensures)
+returns c = needed_marked 128 c.requires.1 (rw blank_marks at c.mark_gate.ensures)
 
 pub needed_gates_spec : {M : Type 1} → statement M
 needed_gates_spec = tie.close (tie.spec mark_gate_requires returns)

@@ -5,11 +5,11 @@ use Rattle.cut_marks.specs.WordLaws.{mark_low, mark_high}
 use Rattle.cut_marks.proofs.unchecked.is_marked.Statement.{statement}
 use Rattle.cut_marks.proofs.unchecked.is_marked.Tie as tie
 
-returns : tie.Need-returns
-returns c = sym (mark_low _ _ c.before.if1.true)
+returns : tie.Need-returns-then-g-lt64
+returns c = sym (mark_low _ _ c.if-g-lt64.true)
 
-returns_2 : tie.Need-returns-2
-returns_2 c = sym (mark_high _ _ c.before.if1.false c.before.before.requires)
+returns_2 : tie.Need-returns
+returns_2 c = sym (mark_high _ _ c.if-g-lt64.false c.requires)
 
 pub is_marked_spec : {M : Type 1} → statement M
 is_marked_spec = tie.close (tie.spec (λ c. search rules) returns (λ c. search rules) returns_2)

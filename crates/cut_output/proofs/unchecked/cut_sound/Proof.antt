@@ -14,34 +14,30 @@ use Rattle.cut_output.proofs.NameLaws.{driver_gate, marked_cut}
 use Rattle.cut_output.proofs.unchecked.cut_sound.Statement.{statement}
 use Rattle.cut_output.proofs.unchecked.cut_sound.Tie as tie
 
-element_copy_out_d : tie.Need-element-copy-out-d
+element_copy_out_d : tie.Need-bounds-network-j
 element_copy_out_d c = omega (arith, (sized_of _ c.requires.0).few_outputs)
 
-sub_needed_gates : tie.Need-overflow-sub-needed-gates
+sub_needed_gates : tie.Need-overflow_sub-wide
 sub_needed_gates c =
-    let s = c.before.before.before.before.before in
-    let same : c.wide.result ≡ get_or s.args.t1.drivers s.args.j 0 = c.wide.ensures.0 in
-    omega (arith, gate_number _ _ (driver_gate s.args.t1 s.requires.0 s.args.j s.requires.1), same)
+    let same : c.wide.result ≡ get_or c.args.network.drivers c.args.j 0 = c.wide.ensures.0 in
+    omega (arith, gate_number _ _ (driver_gate c.args.network c.requires.0 c.args.j c.requires.1), same)
 
-needed_gates_requires : tie.Need-needed-gates-requires
+needed_gates_requires : tie.Need-needed_gates-marks-requires
 needed_gates_requires c κs =
-    let s = c.before.before.before.before.before in
-    let same : c.wide.result ≡ get_or s.args.t1.drivers s.args.j 0 = c.wide.ensures.0 in
-    let at = gate_number _ _ (driver_gate s.args.t1 s.requires.0 s.args.j s.requires.1) in
-    let inside : c.wide.result - s.args.t1.inputs < s.args.t1.gates = omega (arith, at, same) in
-    (omega (arith, inside, at), wired_less _ (omega (arith, inside)) (wired_sound _ s.requires.0))
+    let same : c.wide.result ≡ get_or c.args.network.drivers c.args.j 0 = c.wide.ensures.0 in
+    let at = gate_number _ _ (driver_gate c.args.network c.requires.0 c.args.j c.requires.1) in
+    let inside : c.wide.result - c.args.network.inputs < c.args.network.gates = omega (arith, at, same) in
+    (omega (arith, inside, at), wired_less _ (omega (arith, inside)) (wired_sound _ c.requires.0))
 
-marked_gates_requires : tie.Need-marked-gates-requires
-marked_gates_requires c κs = let s = c.before.before.before.before.before.before in driver_gate _ s.requires.0 _ s.requires.1
+marked_gates_requires : tie.Need-marked_gates-requires
+marked_gates_requires c κs = driver_gate _ c.requires.0 _ c.requires.1
 
 returns : tie.Need-returns
 returns c =
-    let at_marks = c.before in
-    let s = at_marks.before.before.before.before.before.before in
-    let marks = at_marks.needed-gates.result in
-    let at = ap (λ (n : ℕ). n - s.args.t1.inputs) at_marks.before.wide.ensures.0 in
-    c.marked-gates.ensures
-    ∙ marked_cut s.args.t1 s.requires.0 s.args.j s.requires.1 (marks_of marks) _ (length_marks marks) at at_marks.needed-gates.ensures
+    let marks = c.needed_gates-marks.result in
+    let at = ap (λ (n : ℕ). n - c.args.network.inputs) c.wide.ensures.0 in
+    c.marked_gates.ensures
+    ∙ marked_cut c.args.network c.requires.0 c.args.j c.requires.1 (marks_of marks) _ (length_marks marks) at c.needed_gates-marks.ensures
 
 pub cut_sound_spec : {M : Type 1} → statement M
 cut_sound_spec =

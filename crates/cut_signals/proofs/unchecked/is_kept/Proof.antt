@@ -5,11 +5,11 @@ use Rattle.cut_signals.proofs.SignalLaws.{stays_input, stays_gate}
 use Rattle.cut_signals.proofs.unchecked.is_kept.Statement.{statement}
 use Rattle.cut_signals.proofs.unchecked.is_kept.Tie as tie
 
-returns : tie.Need-returns
-returns c = sym (stays_input _ _ _ c.if1.true)
+returns : tie.Need-returns-then-s-inputs
+returns c = sym (stays_input _ _ _ c.if-s-inputs.true)
 
-returns_2 : tie.Need-returns-2
-returns_2 c = c.is-marked.ensures ∙ sym (stays_gate _ _ _ c.before.if1.false)
+returns_2 : tie.Need-returns
+returns_2 c = c.is_marked.ensures ∙ sym (stays_gate _ _ _ c.if-s-inputs.false)
 
 pub is_kept_spec : {M : Type 1} → statement M
 is_kept_spec = tie.close (tie.spec returns (λ c κs. search rules) returns_2)

@@ -12,30 +12,30 @@ use Rattle.network_places.specs.PasteLaws.{pasted_none, pasted_more, pasted_tab}
 use Rattle.cut_signals.proofs.unchecked.renamed_row.Statement.{statement}
 use Rattle.cut_signals.proofs.unchecked.renamed_row.Tie as tie
 
-abbrev invariant-loop : tie.invariant-loop
+abbrev invariant-loop : tie.invariant-loop-i
 invariant-loop numbers row result₀ i₀ result i = (i ≤ 16) × Pasted 0 0 i (λ k. get_or numbers (get_or row k 0) 0) result₀ result
 
-abbrev decreases-loop : tie.decreases-loop
+abbrev decreases-loop : tie.decreases-loop-i
 decreases-loop numbers row result₀ i₀ result i = 16 - i
 
-loop_holds : tie.Need-loop-init invariant-loop decreases-loop
+loop_holds : tie.Need-loop-i-init invariant-loop decreases-loop
 loop_holds c = (omega arith, pasted_none _ _ _ _)
 
-element_copy_out_signal : tie.Need-element-copy-out-signal invariant-loop decreases-loop
+element_copy_out_signal : tie.Need-bounds-numbers-wide invariant-loop decreases-loop
 element_copy_out_signal c = c.wide.ensures.1
 
-loop_again : tie.Need-loop-preserved invariant-loop decreases-loop
+loop_again : tie.Need-loop-i-preserved invariant-loop decreases-loop
 loop_again c =
-    let a = c.before.before.before.before.args in
-    let loop = c.before.before.before.loop in
-    (omega arith, pasted_more _ _ loop.invariant.1 (omega arith) (ap (λ (s : ℕ). get_or a.numbers.now s 0) c.before.wide.ensures.0))
+    let a = c.args in
+    let loop = c.loop-i in
+    (omega arith, pasted_more _ _ loop.invariant.1 (omega arith) (ap (λ (s : ℕ). get_or a.numbers.now s 0) c.wide.ensures.0))
 
 returns : tie.Need-returns invariant-loop decreases-loop
 returns c =
-    let a = c.before.before.args in
-    let full : c.before.loop.i ≡ 16 = omega arith in
+    let a = c.args in
+    let full : c.loop-i.i ≡ 16 = omega arith in
     let long : length a.t2 ≡ 16 = search rules in
-    pasted_tab (rw full at c.before.loop.invariant.1) refl
+    pasted_tab (rw full at c.loop-i.invariant.1) refl
     ∙ sym (map_tab (λ s. get_or a.numbers.now s 0) 16 (λ i. get_or a.t2 i 0))
     ∙ ap (map (λ s. get_or a.numbers.now s 0)) (tab_of 0 16 (λ i. get_or a.t2 i 0) a.t2 (sym long) (λ i h. refl))
 

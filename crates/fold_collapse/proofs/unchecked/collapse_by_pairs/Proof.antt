@@ -15,12 +15,12 @@ use Rattle.fold_collapse.proofs.PartLaws.{part_lent, part_joined, part_mergeable
 use Rattle.fold_collapse.proofs.unchecked.collapse_by_pairs.Statement.{statement}
 use Rattle.fold_collapse.proofs.unchecked.collapse_by_pairs.Tie as tie
 
-abbrev invariant-loop : tie.invariant-loop
+abbrev invariant-loop : tie.invariant-loop-g
 invariant-loop head fanins₀ thresholds₀ signals₀ weights₀ drivers u pairs g₀ g_end fanins thresholds signals weights g =
     let r = from_parts head fanins₀ thresholds₀ signals₀ weights₀ drivers in
     (g ≤ g_end) × (from_parts head fanins thresholds signals weights drivers ≡ layout (part_net r u pairs g))
 
-abbrev decreases-loop : tie.decreases-loop
+abbrev decreases-loop : tie.decreases-loop-g
 decreases-loop head fanins₀ thresholds₀ signals₀ weights₀ drivers u pairs g₀ g_end fanins thresholds signals weights g =
     g_end - g
 
@@ -28,7 +28,7 @@ decreases-loop head fanins₀ thresholds₀ signals₀ weights₀ drivers u pair
 abbrev record_at : tie.Start invariant-loop decreases-loop → Network
 record_at c = let a = c.args in from_parts a.head a.fanins.now a.thresholds.now a.signals.now a.weights.now a.drivers.now
 
-abbrev so_far : tie.At-loop invariant-loop decreases-loop → Network
+abbrev so_far : tie.At-loop-g invariant-loop decreases-loop → Network
 so_far c = let a = c.before.args in from_parts a.head c.loop.fanins c.loop.thresholds c.loop.signals c.loop.weights a.drivers.now
 
 shaped : (c : tie.Start invariant-loop decreases-loop) → ArrayLengths (record_at c)
@@ -38,114 +38,105 @@ shaped c = shaped_parts c.args.head c.requires.0
 number : (c : tie.Start invariant-loop decreases-loop) → let a = c.args in (a.head.inputs ≤ a.u) × (a.u - a.head.inputs < a.head.gates) × (a.head.gates ≤ 128)
 number c = gate_number (record_at c) c.args.u c.requires.1.own
 
-under : (c : tie.In-loop invariant-loop decreases-loop) → c.before.loop.g < 128
-under c = omega (arith, number c.before.before, c.loop-test.true)
+under : (c : tie.In-loop-g invariant-loop decreases-loop) → c.loop-g.g < 128
+under c = omega (arith, number c.before.before, c.loop-g-test.true)
 
 -- the turn in which gate g has a pair
-abbrev turn_of : tie.Else1 invariant-loop decreases-loop → tie.In-loop invariant-loop decreases-loop
+abbrev turn_of : tie.Else-k-eq0 invariant-loop decreases-loop → tie.In-loop-g invariant-loop decreases-loop
 turn_of c = c.before.before.before
 
 -- a pair fits a word
-small : (c : tie.In-loop invariant-loop decreases-loop) → let p = c.before.before.args.t8 in
-    (get_or p.ks c.before.loop.g 0 ≤ 32) × (get_or p.ls c.before.loop.g 0 ≤ 32)
-small c = pair_small _ _ (c.before.before.requires.1.pairs.each _ c.loop-test.true)
+small : (c : tie.In-loop-g invariant-loop decreases-loop) → let p = c.args.pairs in
+    (get_or p.ks c.loop-g.g 0 ≤ 32) × (get_or p.ls c.loop-g.g 0 ≤ 32)
+small c = pair_small _ _ (c.requires.1.pairs.each _ c.loop-g-test.true)
 
-loop_holds : tie.Need-loop-init invariant-loop decreases-loop
-loop_holds c = (omega arith, part_none (record_at c) c.args.u c.args.t8 c.requires.1.own c.requires.1.pairs (shaped c))
+loop_holds : tie.Need-loop-g-init invariant-loop decreases-loop
+loop_holds c = (omega arith, part_none (record_at c) c.args.u c.args.pairs c.requires.1.own c.requires.1.pairs (shaped c))
 
-element_copy_out_k : tie.Need-element-copy-out-k invariant-loop decreases-loop
+element_copy_out_k : tie.Need-bounds-pairs-g invariant-loop decreases-loop
 element_copy_out_k c = under c
 
-element_copy_out_l : tie.Need-element-copy-out-l invariant-loop decreases-loop
+element_copy_out_l : tie.Need-bounds-pairs-g-in-loop-g invariant-loop decreases-loop
 element_copy_out_l c = under c.before
 
-add_g : tie.Need-overflow-add-g invariant-loop decreases-loop
+add_g : tie.Need-overflow_step-g invariant-loop decreases-loop
 add_g c = omega (arith, under c.before.before.before)
 
-loop_less : tie.Need-loop-smaller invariant-loop decreases-loop
-loop_less c = omega (arith, c.before.before.before.loop-test.true)
+loop_less : tie.Need-loop-g-smaller-then-k-eq0 invariant-loop decreases-loop
+loop_less c = omega (arith, c.loop-g-test.true)
 
-loop_again : tie.Need-loop-preserved invariant-loop decreases-loop
+loop_again : tie.Need-loop-g-preserved-then-k-eq0 invariant-loop decreases-loop
 loop_again c =
-    let turn = c.before.before.before in
-    let loop = turn.before.loop in
-    let s = turn.before.before in (
-      omega (arith, turn.loop-test.true),
+    let loop = c.loop-g in
+    (
+      omega (arith, c.loop-g-test.true),
       loop.invariant.1
-          ∙ ap layout (sym (part_same (record_at s) s.args.u s.args.t8 s.requires.1.own s.requires.1.pairs loop.g turn.loop-test.true
-          c.if1.true)),
+          ∙ ap layout (sym (part_same (record_at c) c.args.u c.args.pairs c.requires.1.own c.requires.1.pairs loop.g c.loop-g-test.true
+          c.if-k-eq0.true)),
     )
 
-cast_merge_reader : tie.Need-overflow-cast-merge-reader invariant-loop decreases-loop
+cast_merge_reader : tie.Need-overflow_cast-k invariant-loop decreases-loop
 cast_merge_reader c = omega (arith, small (turn_of c.before.before.before.before))
 
-cast_merge_reader_2 : tie.Need-overflow-cast-merge-reader-2 invariant-loop decreases-loop
+cast_merge_reader_2 : tie.Need-overflow_cast-l invariant-loop decreases-loop
 cast_merge_reader_2 c = omega (arith, small (turn_of c.before.before.before.before))
 
-merge_reader_requires : tie.Need-merge-reader-requires invariant-loop decreases-loop
+merge_reader_requires : tie.Need-merge_reader-requires invariant-loop decreases-loop
 merge_reader_requires c κs =
-    let else = c.before.before.before.before in
-    let turn = turn_of else in
+    let turn = turn_of c in
     let loop = turn.before.loop in
     let s = turn.before.before in
     let r = record_at s in
     record {
-      lent = part_lent r s.args.u s.args.t8 s.pre.1.own s.pre.1.pairs (so_far turn.before) loop.g loop.inv.1;
-      joined = part_joined r s.args.u s.args.t8 s.pre.1.own s.pre.1.pairs (so_far turn.before) loop.g loop.inv.1
-          turn.loop-test.taken else.if1.false;
-      board_ok_lem = sound_board r s.pre.1.own.sound;
-      mergeable = part_mergeable r s.args.u s.args.t8 s.pre.1.own s.pre.1.pairs (so_far turn.before) loop.g loop.inv.1
-          turn.loop-test.taken else.if1.false;
+      lent = part_lent r s.args.u s.args.pairs s.requires.1.own s.requires.1.pairs (so_far turn.before) loop.g loop.inv.1;
+      joined = part_joined r s.args.u s.args.pairs s.requires.1.own s.requires.1.pairs (so_far turn.before) loop.g loop.inv.1
+          turn.loop-test.taken c.if-k-eq0.false;
+      board_ok_lem = sound_board r s.requires.1.own.sound;
+      mergeable = part_mergeable r s.args.u s.args.pairs s.requires.1.own s.requires.1.pairs (so_far turn.before) loop.g loop.inv.1
+          turn.loop-test.taken c.if-k-eq0.false;
       place = under turn;
     }
 
-add_g_2 : tie.Need-overflow-add-g-2 invariant-loop decreases-loop
+add_g_2 : tie.Need-overflow_step-g-in-loop-g invariant-loop decreases-loop
 add_g_2 c = omega (arith, under (turn_of c.before.before.before.before.before))
 
-loop_less_2 : tie.Need-loop-smaller-2 invariant-loop decreases-loop
-loop_less_2 c = omega (arith, (turn_of c.before.before.before.before.before).loop-test.taken)
+loop_less_2 : tie.Need-loop-g-smaller invariant-loop decreases-loop
+loop_less_2 c = omega (arith, (turn_of c.before.before.before.before.before).loop-g-test.taken)
 
-loop_again_2 : tie.Need-loop-preserved-2 invariant-loop decreases-loop
+loop_again_2 : tie.Need-loop-g-preserved invariant-loop decreases-loop
 loop_again_2 c =
-    let else = c.before.before.before.before.before in
-    let turn = turn_of else in
+    let turn = turn_of c in
     let loop = turn.before.loop in
     let s = turn.before.before in
     let r = record_at s in (
       omega (arith, turn.loop-test.taken),
-      part_next r s.args.u s.args.t8 s.pre.1.own s.pre.1.pairs (so_far turn.before) loop.g loop.inv.1 turn.loop-test.taken
-          else.if1.false _
-          (part_made r s.args.u s.args.t8 s.pre.1.own s.pre.1.pairs (so_far turn.before) loop.g loop.inv.1 turn.loop-test.taken
-          else.if1.false)
-          c.merge-reader.ensures,
+      part_next r s.args.u s.args.pairs s.requires.1.own s.requires.1.pairs (so_far turn.before) loop.g loop.inv.1 turn.loop-test.taken
+          c.if-k-eq0.false _
+          (part_made r s.args.u s.args.pairs s.requires.1.own s.requires.1.pairs (so_far turn.before) loop.g loop.inv.1 turn.loop-test.taken
+          c.if-k-eq0.false)
+          c.merge_reader.ensures,
     )
 
-sub_remove_places : tie.Need-overflow-sub-remove-places invariant-loop decreases-loop
-sub_remove_places c = let at_left = c.before.before.before.before.before.before in omega (arith, number at_left.before.before)
+sub_remove_places : tie.Need-overflow_sub-u invariant-loop decreases-loop
+sub_remove_places c = omega (arith, number c.before.before.before.before.before.before.before.before)
 
-remove_places_requires : tie.Need-remove-places-requires invariant-loop decreases-loop
+remove_places_requires : tie.Need-remove_places-requires invariant-loop decreases-loop
 remove_places_requires c κs =
-    let at_left = c.before.before.before.before.before.before in
-    let at = at_left.before in
-    let s = at.before in (
+    let s = c.before.before.before.before.before.before.before.before in (
       omega (arith, number s),
-      lengths (so_far at) (part_shape (record_at s) s.args.u s.args.t8 s.requires.1.own s.requires.1.pairs (so_far at) at.loop.g at.loop.invariant.1),
+      lengths (so_far c) (part_shape (record_at s) s.args.u s.args.pairs s.requires.1.own s.requires.1.pairs (so_far c) c.loop-g.g c.loop-g.invariant.1),
     )
 
 returns : tie.Need-returns invariant-loop decreases-loop
 returns c =
-    let lent = c.before in
-    let at_left = lent.before.before.before.before.before.before in
-    let at = at_left.before in
-    let s = at.before in
-    let loop = at.loop in
-    let r = record_at s in
-    let now_record = so_far at in
-    let own = part_own r s.args.u s.args.t8 s.requires.1.own s.requires.1.pairs now_record loop.g loop.invariant.1 in
-    let shape = part_shape r s.args.u s.args.t8 s.requires.1.own s.requires.1.pairs now_record loop.g loop.invariant.1 in
-    removed_parts s.args.head shape own c.remove_places.ensures
-    ∙ part_left r s.args.u s.args.t8 s.requires.1.own s.requires.1.pairs now_record loop.g loop.invariant.1
-    (omega (arith, at_left.loop-test.false))
+    let loop = c.loop-g in
+    let r = record_at c in
+    let now_record = so_far c in
+    let own = part_own r c.args.u c.args.pairs c.requires.1.own c.requires.1.pairs now_record loop.g loop.invariant.1 in
+    let shape = part_shape r c.args.u c.args.pairs c.requires.1.own c.requires.1.pairs now_record loop.g loop.invariant.1 in
+    removed_parts c.args.head shape own c.remove_places.ensures
+    ∙ part_left r c.args.u c.args.pairs c.requires.1.own c.requires.1.pairs now_record loop.g loop.invariant.1
+    (omega (arith, c.loop-g-test.false))
 
 pub collapse_by_pairs_spec : {M : Type 1} → statement M
 collapse_by_pairs_spec =

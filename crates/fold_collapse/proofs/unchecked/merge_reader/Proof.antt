@@ -7,29 +7,24 @@ use Rattle.pair_theory.specs.declared.Alignment.{Alignment}
 use Rattle.fold_collapse.proofs.unchecked.merge_reader.Statement.{statement}
 use Rattle.fold_collapse.proofs.unchecked.merge_reader.Tie as tie
 
-add_aligned_at : tie.Need-overflow-add-aligned-at
-add_aligned_at c = let start = c.before.before.before.before.before in omega (arith, start.requires.lent.few_inputs, start.requires.place)
+add_aligned_at : tie.Need-overflow_add-inputs
+add_aligned_at c = omega (arith, c.requires.lent.few_inputs, c.requires.place)
 
-aligned_at_requires : tie.Need-aligned-at-requires
-aligned_at_requires c κs = let start = c.before.before.before.before.before in (start.requires.lent, (start.requires.joined, start.requires.board_ok_lem))
+aligned_at_requires : tie.Need-aligned_at-a-requires
+aligned_at_requires c κs = (c.requires.lent, (c.requires.joined, c.requires.board_ok_lem))
 
-merged_gate_requires : tie.Need-merged-gate-requires
+merged_gate_requires : tie.Need-merged_gate-gate-requires
 merged_gate_requires c κs =
-    let start = c.before.before.before.before.before.before in
-    subst (λ (x : Alignment). Mergeable x start.args.k start.args.l) (sym c.aligned_at.ensures) start.requires.mergeable
+    subst (λ (x : Alignment). Mergeable x c.args.k c.args.l) (sym c.aligned_at-a.ensures) c.requires.mergeable
 
-store_gate_requires : tie.Need-store-gate-requires
+store_gate_requires : tie.Need-store_gate-requires
 store_gate_requires c κs =
-    let at_Aligned = c.before.before.before.before.before in
-    at_Aligned.before.before.before.before.before.before.requires.place
+    c.requires.place
 
 returns : tie.Need-returns
 returns c =
-    let at_merged = c.before.before.before.before.before in
-    let at_Aligned = at_merged.before in
-    let start = at_Aligned.before.before.before.before.before.before in
-    let gate = ap (λ (x : Alignment). gate_record (merged_of x start.args.k start.args.l)) at_Aligned.aligned_at.ensures in
-    rw (at_merged.merged-gate.ensures ∙ gate) at c.store-gate.ensures
+    let gate = ap (λ (x : Alignment). gate_record (merged_of x c.args.k c.args.l)) c.aligned_at-a.ensures in
+    rw (c.merged_gate-gate.ensures ∙ gate) at c.store_gate.ensures
 
 pub merge_reader_spec : {M : Type 1} → statement M
 merge_reader_spec =

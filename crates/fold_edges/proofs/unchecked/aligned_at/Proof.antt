@@ -8,23 +8,22 @@ use borrow.Author.Rules.{rules}
 use Rattle.fold_edges.proofs.unchecked.aligned_at.Statement.{statement}
 use Rattle.fold_edges.proofs.unchecked.aligned_at.Tie as tie
 
-gate_at_requires : tie.Need-gate-at-requires
+gate_at_requires : tie.Need-gate_at-gate_u-requires
 gate_at_requires c κs = signal_place c.requires.0 c.args.u c.requires.1.0.u_gate
 
-gate_at_requires_2 : tie.Need-gate-at-requires-2
-gate_at_requires_2 c κs = signal_place c.before.requires.0 c.before.args.v c.before.requires.1.0.v_gate
+gate_at_requires_2 : tie.Need-gate_at-gate_v-requires
+gate_at_requires_2 c κs = signal_place c.requires.0 c.args.v c.requires.1.0.v_gate
 
 -- the two gates taken out are those of the arrays
-same : (c : tie.After-gate-at2) → let a = c.before.before.args in
-    alignments.edge_between a.board c.before.gate-at.result c.gate-at2.result a.u a.v
+same : (c : tie.After-gate_at-gate_v) → let a = c.args in
+    alignments.edge_between a.board c.gate_at-gate_u.result c.gate_at-gate_v.result a.u a.v
     ≡ edge_in a.board a.fanins.now a.thresholds.now a.signals.now a.weights.now a.inputs a.u a.v
 same c =
-    let s = c.before.before in
-    joined_rows s.requires.0 s.requires.1.0 s.requires.1.1 c.before.gate-at.result c.gate-at2.result c.before.gate-at.ensures
-    c.gate-at2.ensures
+    joined_rows c.requires.0 c.requires.1.0 c.requires.1.1 c.gate_at-gate_u.result c.gate_at-gate_v.result c.gate_at-gate_u.ensures
+    c.gate_at-gate_v.ensures
 
 align_requires : tie.Need-align-requires
-align_requires c κs = let s = c.before.before in subst Alignable (sym (same c)) (joined_alignable s.requires.0 s.requires.1.0 s.requires.1.1)
+align_requires c κs = subst Alignable (sym (same c)) (joined_alignable c.requires.0 c.requires.1.0 c.requires.1.1)
 
 returns : tie.Need-returns
 returns c = c.align.ensures ∙ ap alignment_of (same c.before)

@@ -9,27 +9,25 @@ use Rattle.fold_feeds.specs.FileLaws.{distinct_few, distinct_answer}
 use Rattle.fold_feeds.proofs.files.distinct_of_file.Statement.{statement}
 use Rattle.fold_feeds.proofs.files.distinct_of_file.Tie as tie
 
-refusal_requires : tie.Need-refusal-requires
-refusal_requires c κs = (λ i. (c.before.before.shared-slice-known.given i).fits, c.read.ensures)
+refusal_requires : tie.Need-refusal-code-requires
+refusal_requires c κs = (λ i. (c.shared_slice_known-1.given i).fits, c.read-loaded.ensures)
 
-returns : tie.Need-returns
+returns : tie.Need-returns-then-code-ne0
 unfolding distinct_places
-returns c = refused_one c.before.before.before.before.before.args.answer.now (open_refused c.before.refusal.ensures _ c.if1.true)
+returns c = refused_one c.args.answer.now (open_refused c.refusal-code.ensures _ c.if-code-ne0.true)
 
-put_feeds_requires : tie.Need-put-feeds-requires
+put_feeds_requires : tie.Need-put_feeds-requires
 put_feeds_requires c κs =
-    let s = c.before.before in
-    let a = s.before.before.before.before.before.args in
-    let file = s.before.refusal.ensures.gives s.if1.false in
-    (file.room, distinct_few a.answer.now file a.u a.v c.before.distinct-feeds.ensures)
+    let a = c.args in
+    let file = c.refusal-code.ensures.gives c.if-code-ne0.false in
+    (file.room, distinct_few a.answer.now file a.u a.v c.distinct_feeds-listed.ensures)
 
-returns_2 : tie.Need-returns-2
+returns_2 : tie.Need-returns
 returns_2 c =
-    let d = c.before.before.before.before.distinct-feeds in
-    let s = c.before.before.before.before.before in
-    let a = s.before.before.before.before.before.args in
+    let d = c.distinct_feeds-listed in
+    let a = c.args in
     placed d.result.code (feed_places d.result) a.answer.now
-    (distinct_answer a.answer.now (s.before.refusal.ensures.gives s.if1.false) a.u a.v d.ensures) c.before.before.put-feeds.ensures
+    (distinct_answer a.answer.now (c.refusal-code.ensures.gives c.if-code-ne0.false) a.u a.v d.ensures) c.put_feeds.ensures
 
 pub distinct_of_file_spec : {M : Type 1} → statement M
 distinct_of_file_spec =

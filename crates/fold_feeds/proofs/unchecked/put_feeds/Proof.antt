@@ -12,60 +12,55 @@ use Rattle.fold_feeds.specs.FileLaws.{pasted}
 use Rattle.fold_feeds.proofs.unchecked.put_feeds.Statement.{statement}
 use Rattle.fold_feeds.proofs.unchecked.put_feeds.Tie as tie
 
-abbrev invariant-loop : tie.invariant-loop
+abbrev invariant-loop : tie.invariant-loop-i
 invariant-loop answer₀ listed code count i₀ answer i =
     (i ≤ count) × (answer ≡ paste answer₀ 1 listed.signals i) × (length answer ≡ length answer₀)
 
-abbrev decreases-loop : tie.decreases-loop
+abbrev decreases-loop : tie.decreases-loop-i
 decreases-loop answer₀ listed code count i₀ answer i = count - i
 
-returns : tie.Need-returns invariant-loop decreases-loop
+returns : tie.Need-returns-then-code-ne0 invariant-loop decreases-loop
 returns c =
-    let a = c.before.before.args in
-    (refl, keep_places a.t2.code (a.t2.count ∷ take a.t2.count a.t2.signals) a.answer.now c.if1.true)
+    let a = c.args in
+    (refl, keep_places a.t2.code (a.t2.count ∷ take a.t2.count a.t2.signals) a.answer.now c.if-code-ne0.true)
 
-loop_holds : tie.Need-loop-init invariant-loop decreases-loop
+loop_holds : tie.Need-loop-i-init invariant-loop decreases-loop
 loop_holds c =
-    let a = c.before.before.args in
+    let a = c.args in
     (omega arith, paste-zero (set a.answer.now 0 a.t2.count) 1 a.t2.signals, refl)
 
-slice_write_answer_2 : tie.Need-slice-write-answer-2 invariant-loop decreases-loop
+slice_write_answer_2 : tie.Need-bounds-answer-i invariant-loop decreases-loop
 slice_write_answer_2 c =
-    let l = c.before.before.before in
-    let a = l.before.before.before.args in
-    omega (arith, l.loop.invariant.2, length-set a.answer.now 0 a.t2.count)
+    let a = c.args in
+    omega (arith, c.loop-i.invariant.2, length-set a.answer.now 0 a.t2.count)
 
-loop_again : tie.Need-loop-preserved invariant-loop decreases-loop
+loop_again : tie.Need-loop-i-preserved invariant-loop decreases-loop
 loop_again c =
-    let t = c.before.before in
-    let l = t.before.loop in
-    let s = t.before.before.before.before in
-    let a = s.args in
+    let l = c.loop-i in
+    let a = c.args in
     let d = set a.answer.now 0 a.t2.count in
     let many : length a.t2.signals ≡ 16 = search rules in (
       omega arith,
-      ap (λ (x : List ℕ). set x (1 + l.i) c.wide.result) l.invariant.1
-          ∙ ap (λ (x : ℕ). set (paste d 1 a.t2.signals l.i) (1 + l.i) x) c.wide.ensures.0
+      ap (λ (x : List ℕ). set x (1 + l.i) c.wide-signal.result) l.invariant.1
+          ∙ ap (λ (x : ℕ). set (paste d 1 a.t2.signals l.i) (1 + l.i) x) c.wide-signal.ensures.0
           ∙ paste-suc d 1 a.t2.signals l.i 0 (omega (arith, length-set a.answer.now 0 a.t2.count)) (omega (arith, many))
           ∙ ap (λ (n : ℕ). paste d 1 a.t2.signals n) (sym (add-one l.i)),
-      length-set l.answer (1 + l.i) c.wide.result ∙ l.invariant.2,
+      length-set l.answer (1 + l.i) c.wide-signal.result ∙ l.invariant.2,
     )
 
-same_length : tie.Need-same-length invariant-loop decreases-loop
-same_length c = let a = c.before.before.before.before.args in c.before.loop.invariant.2 ∙ length-set a.answer.now 0 a.t2.count
+same_length : tie.Need-shape_of-answer invariant-loop decreases-loop
+same_length c = let a = c.args in c.loop-i.invariant.2 ∙ length-set a.answer.now 0 a.t2.count
 
-returns_2 : tie.Need-returns-2 invariant-loop decreases-loop
+returns_2 : tie.Need-returns invariant-loop decreases-loop
 returns_2 c =
-    let l = c.before.loop in
-    let e = c.before.before in
-    let s = e.before.before in
-    let a = s.args in
+    let l = c.loop-i in
+    let a = c.args in
     let many : length a.t2.signals ≡ 16 = search rules in
     let n : l.i ≡ a.t2.count = omega arith in (
       refl,
       l.invariant.1
           ∙ ap (λ (m : ℕ). paste (set a.answer.now 0 a.t2.count) 1 a.t2.signals m) n
-          ∙ pasted a.answer.now a.t2.signals a.t2.count (omega arith) (omega (arith, many)) e.if1.false,
+          ∙ pasted a.answer.now a.t2.signals a.t2.count (omega arith) (omega (arith, many)) c.if-code-ne0.false,
     )
 
 pub put_feeds_spec : {M : Type 1} → statement M

@@ -7,19 +7,15 @@ use lib.ListN.{get_or}
 use Rattle.fold_memory.proofs.unchecked.kept_refuser.Statement.{statement}
 use Rattle.fold_memory.proofs.unchecked.kept_refuser.Tie as tie
 
-returns_5 : tie.Need-returns-5
+returns_5 : tie.Need-returns
 returns_5 c =
-    let else4 = c.before in
-    let else3 = else4.before.before in
-    let else2 = else3.before.before in
-    let read = else2.before.before in
-    let same = read.wide.ensures.0 in
+    let same = c.wide-reader.ensures.0 in
     λ l. record {
-      known = omega (arith, else2.before.if1.false, same);
-      other_gate = λ e. else2.if2.false (same ∙ e);
-      gate_silent = else3.if3.false;
-      reader_silent = ap (λ (n : ℕ). get_or read.before.args.ks.now n 0) (sym same) ∙ else4.if4.false;
-      moved = c.lowered-number.ensures;
+      known = omega (arith, c.if-reader-ge128.false, same);
+      other_gate = λ e. c.if-reader-g.false (same ∙ e);
+      gate_silent = c.if-ks-w-ne0.false;
+      reader_silent = ap (λ (n : ℕ). get_or c.args.ks.now n 0) (sym same) ∙ c.if-ks-reader-ne0.false;
+      moved = c.lowered_number.ensures;
     }
 
 pub kept_refuser_spec : {M : Type 1} → statement M

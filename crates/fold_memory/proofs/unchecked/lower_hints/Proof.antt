@@ -9,35 +9,33 @@ use Rattle.fold_memory.specs.KeepingLaws.{lowered_to, lowered_none, lowered_more
 use Rattle.fold_memory.proofs.unchecked.lower_hints.Statement.{statement}
 use Rattle.fold_memory.proofs.unchecked.lower_hints.Tie as tie
 
-abbrev invariant-loop : tie.invariant-loop
+abbrev invariant-loop : tie.invariant-loop-i
 invariant-loop hints₀ g i₀ hints i = (i ≤ 127) × (hints ≡ lowered_to hints₀ g i)
 
-abbrev decreases-loop : tie.decreases-loop
+abbrev decreases-loop : tie.decreases-loop-i
 decreases-loop hints₀ g i₀ hints i = 127 - i
 
-loop_holds : tie.Need-loop-init invariant-loop decreases-loop
+loop_holds : tie.Need-loop-i-init invariant-loop decreases-loop
 loop_holds c = (omega arith, lowered_none _ _)
 
-element_copy_out_lowered_number : tie.Need-element-copy-out-lowered-number invariant-loop decreases-loop
+element_copy_out_lowered_number : tie.Need-bounds-hints-from invariant-loop decreases-loop
 element_copy_out_lowered_number c =
-    let at = c.before.before in
-    omega (arith, c.former-number.ensures, raised_near at.before.args.g at.loop.i, c.before.loop-test.true)
+    omega (arith, c.former_number-from.ensures, raised_near c.args.g c.loop-i.i, c.loop-i-test.true)
 
-loop_again : tie.Need-loop-preserved invariant-loop decreases-loop
+loop_again : tie.Need-loop-i-preserved invariant-loop decreases-loop
 loop_again c =
-    let turn = c.before.before in
-    let loop = turn.before.before.loop in
-    let a = turn.before.before.before.args in (
-      omega (arith, turn.before.loop-test.true),
-      lowered_more a.hints.now a.g loop.i loop.invariant.1 turn.former-number.ensures c.lowered-number.ensures,
+    let loop = c.loop-i in
+    let a = c.args in (
+      omega (arith, c.loop-i-test.true),
+      lowered_more a.hints.now a.g loop.i loop.invariant.1 c.former_number-from.ensures c.lowered_number-hint.ensures,
     )
 
 returns : tie.Need-returns invariant-loop decreases-loop
 unfolding lowered_hints
 returns c =
-    let loop = c.before.loop in
-    let a = c.before.before.args in
-    loop.invariant.1 ∙ ap (lowered_to a.hints.now a.g) (let e : loop.i ≡ 127 = omega (arith, loop.invariant.0, c.loop-test.false) in e)
+    let loop = c.loop-i in
+    let a = c.args in
+    loop.invariant.1 ∙ ap (lowered_to a.hints.now a.g) (let e : loop.i ≡ 127 = omega (arith, loop.invariant.0, c.loop-i-test.false) in e)
 
 pub lower_hints_spec : {M : Type 1} → statement M
 lower_hints_spec =

@@ -6,10 +6,10 @@ use Rattle.network.specs.ChangeLaws.{lowered_high, lowered_low}
 use Rattle.fold_memory.proofs.unchecked.lowered_number.Statement.{statement}
 use Rattle.fold_memory.proofs.unchecked.lowered_number.Tie as tie
 
-returns : tie.Need-returns
+returns : tie.Need-returns-then-g-wide
 returns c = sym (lowered_high _ _ (omega arith))
 
-returns_2 : tie.Need-returns-2
+returns_2 : tie.Need-returns-else-g-wide
 returns_2 c = sym (lowered_low _ _ (omega arith))
 
 pub lowered_number_spec : {M : Type 1} → statement M

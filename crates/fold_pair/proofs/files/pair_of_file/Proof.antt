@@ -9,26 +9,25 @@ use Rattle.fold_pair.specs.FileLaws.{pair_answer}
 use Rattle.fold_pair.proofs.files.pair_of_file.Statement.{statement}
 use Rattle.fold_pair.proofs.files.pair_of_file.Tie as tie
 
-refusal_requires : tie.Need-refusal-requires
-refusal_requires c κs = (λ i. (c.before.before.shared-slice-known.given i).fits, c.read.ensures)
+refusal_requires : tie.Need-refusal-code-requires
+refusal_requires c κs = (λ i. (c.shared_slice_known-1.given i).fits, c.read-loaded.ensures)
 
-returns : tie.Need-returns
+returns : tie.Need-returns-then-code-ne0
 unfolding pair_places
-returns c = refused_one c.before.before.before.before.before.args.answer.now (open_refused c.before.refusal.ensures _ c.if1.true)
+returns c = refused_one c.args.answer.now (open_refused c.refusal-code.ensures _ c.if-code-ne0.true)
 
-pair_sound_requires : tie.Need-pair-sound-requires
-pair_sound_requires c κs = file_sound (c.before.refusal.ensures.gives c.if1.false)
+pair_sound_requires : tie.Need-pair_sound-found-requires
+pair_sound_requires c κs = file_sound (c.refusal-code.ensures.gives c.if-code-ne0.false)
 
-put_two_requires : tie.Need-put-two-requires
-put_two_requires c κs = let s = c.before.before in (s.before.refusal.ensures.gives s.if1.false).room
+put_two_requires : tie.Need-put_two-requires
+put_two_requires c κs = (c.refusal-code.ensures.gives c.if-code-ne0.false).room
 
-returns_2 : tie.Need-returns-2
+returns_2 : tie.Need-returns
 returns_2 c =
-    let p = c.before.before.before.before.pair-sound in
-    let s = c.before.before.before.before.before in
-    let a = s.before.before.before.before.before.args in
+    let p = c.pair_sound-found in
+    let a = c.args in
     placed p.result.code (p.result.k ∷ p.result.l ∷ []) a.answer.now
-    (pair_answer a.answer.now (s.before.refusal.ensures.gives s.if1.false) a.u a.v p.ensures) c.before.before.put_two.ensures
+    (pair_answer a.answer.now (c.refusal-code.ensures.gives c.if-code-ne0.false) a.u a.v p.ensures) c.put_two.ensures
 
 pub pair_of_file_spec : {M : Type 1} → statement M
 pair_of_file_spec =

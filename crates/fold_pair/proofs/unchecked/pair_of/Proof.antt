@@ -8,16 +8,16 @@ use borrow.Author.Rules.{rules}
 use Rattle.fold_pair.proofs.unchecked.pair_of.Statement.{statement}
 use Rattle.fold_pair.proofs.unchecked.pair_of.Tie as tie
 
-returns : tie.Need-returns
+returns : tie.Need-returns-then-count-gt16
 unfolding pair_of_alignment checks
-returns c = c.no-pair.ensures ∙ rw (lt-leb _ 16 c.before.if1.true)
+returns c = c.no_pair.ensures ∙ rw (lt-leb _ 16 c.if-count-gt16.true)
 
-find_pair_requires : tie.Need-find-pair-requires
-find_pair_requires c κs = record { few = c.if1.false; fair = c.before.requires }
+find_pair_requires : tie.Need-find_pair-found-requires
+find_pair_requires c κs = record { few = c.if-count-gt16.false; fair = c.requires }
 
-returns_2 : tie.Need-returns-2
+returns_2 : tie.Need-returns
 unfolding pair_of_alignment checks
-returns_2 c = c.answered.ensures ∙ ap as_pair c.before.find-pair.ensures ∙ rw (le-leb _ 16 c.before.before.if1.false)
+returns_2 c = c.answered.ensures ∙ ap as_pair c.find_pair-found.ensures ∙ rw (le-leb _ 16 c.if-count-gt16.false)
 
 pub pair_of_spec : {M : Type 1} → statement M
 pair_of_spec =

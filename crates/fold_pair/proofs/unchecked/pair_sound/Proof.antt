@@ -19,55 +19,49 @@ use Rattle.fold_pair.proofs.unchecked.pair_sound.Statement.{statement}
 use Rattle.fold_pair.proofs.unchecked.pair_sound.Tie as tie
 
 -- the record lends its arrays
-lent : (c : tie.Start) → let r = c.args.t1 in SoundArrays r.fanins r.thresholds r.signals r.weights r.inputs r.gates
+lent : (c : tie.Start) → let r = c.args.network in SoundArrays r.fanins r.thresholds r.signals r.weights r.inputs r.gates
 lent c = lent_of _ (T_is _ c.requires)
 
-edge_code_requires : tie.Need-edge-code-requires
-edge_code_requires c κs = lent c.before.before.before.before.before
+edge_code_requires : tie.Need-edge_code-code-requires
+edge_code_requires c κs = lent c.before.before.before.before
 
-returns : tie.Need-returns
+returns : tie.Need-returns-then-code-ne0
 returns c =
-    let t = c.before in
-    let at_code = t.before in
-    let s = at_code.before.before.before.before.before.before in
-    let a = s.args in
-    c.no-pair.ensures ∙ sym (pair_apart a.t1 s.requires a.u a.v _ t.before.edge-code.ensures t.if1.true)
+    let a = c.args in
+    c.no_pair.ensures ∙ sym (pair_apart a.t1 c.requires a.u a.v _ c.edge_code-code.ensures c.if-code-ne0.true)
 
 -- past the test u feeds v
-abbrev start : tie.Else1 → tie.Start
+abbrev start : tie.Else-code-ne0 → tie.Start
 start c = let at_code = c.before in at_code.before.before.before.before.before.before
 
-abbrev here : tie.Else1 → Edge
+abbrev here : tie.Else-code-ne0 → Edge
 here c = let a = (start c).args in
     edge_in a.t1.board a.t1.fanins a.t1.thresholds a.t1.signals a.t1.weights a.t1.inputs a.u a.v
 
-joined : (c : tie.Else1) → let a = (start c).args in
+joined : (c : tie.Else-code-ne0) → let a = (start c).args in
     GateReads a.t1.fanins a.t1.thresholds a.t1.signals a.t1.weights a.t1.inputs a.t1.gates a.u a.v
 joined c =
     let a = (start c).args in
-    apart_none a.t1 (start c).requires a.u a.v _ c.before.edge-code.ensures c.if1.false
+    apart_none a.t1 (start c).requires a.u a.v _ c.edge_code-code.ensures c.if-code-ne0.false
 
-edge_ok : (c : tie.Else1) → EdgeOk (here c)
+edge_ok : (c : tie.Else-code-ne0) → EdgeOk (here c)
 edge_ok c = joined_ok (lent (start c)) (joined c) (sound_board _ (start c).requires)
 
-aligned_at_requires : tie.Need-aligned-at-requires
-aligned_at_requires c κs = let t = c.before.before.before.before.before.before in (lent (start t), (joined t, sound_board _ (start t).requires))
+aligned_at_requires : tie.Need-aligned_at-a-requires
+aligned_at_requires c κs = let t = c.before.before.before.before.before in (lent (start t), (joined t, sound_board _ (start t).requires))
 
-pair_of_requires : tie.Need-pair-of-requires
+pair_of_requires : tie.Need-pair_of-requires
 pair_of_requires c κs =
-    let at_call = c.before in
-    let t = at_call.before.before.before.before.before.before in
-    subst AlignmentOnScale (sym c.aligned_at.ensures) (aligned_fair (here t) (edge_ok t))
+    let t = c.before.before.before.before.before.before in
+    subst AlignmentOnScale (sym c.aligned_at-a.ensures) (aligned_fair (here t) (edge_ok t))
 
-returns_2 : tie.Need-returns-2
+returns_2 : tie.Need-returns
 returns_2 c =
-    let at_Aligned = c.before in
-    let at_call = at_Aligned.before in
-    let t = at_call.before.before.before.before.before.before in
+    let t = c.before.before.before.before.before.before.before in
     let a = (start t).args in
     c.pair_of.ensures
-    ∙ ap as_pair (ap pair_of_alignment at_Aligned.aligned_at.ensures ∙ pair_on_lem (here t) (edge_ok t))
-    ∙ sym (pair_joined a.t1 (start t).requires a.u a.v _ t.before.edge-code.ensures t.if1.false)
+    ∙ ap as_pair (ap pair_of_alignment c.aligned_at-a.ensures ∙ pair_on_lem (here t) (edge_ok t))
+    ∙ sym (pair_joined a.t1 (start t).requires a.u a.v _ t.edge_code-code.ensures t.if-code-ne0.false)
 
 pub pair_sound_spec : {M : Type 1} → statement M
 pair_sound_spec =

@@ -9,23 +9,22 @@ use Rattle.fold_preview.specs.FileLaws.{preview_answer}
 use Rattle.fold_preview.proofs.files.preview_of_file.Statement.{statement}
 use Rattle.fold_preview.proofs.files.preview_of_file.Tie as tie
 
-refusal_requires : tie.Need-refusal-requires
-refusal_requires c κs = (λ i. (c.before.before.shared-slice-known.given i).fits, c.read.ensures)
+refusal_requires : tie.Need-refusal-code-requires
+refusal_requires c κs = (λ i. (c.shared_slice_known-1.given i).fits, c.read-loaded.ensures)
 
-returns : tie.Need-returns
+returns : tie.Need-returns-then-code-ne0
 unfolding preview_places
-returns c = refused_one c.before.before.before.before.before.args.answer.now (open_refused c.before.refusal.ensures _ c.if1.true)
+returns c = refused_one c.args.answer.now (open_refused c.refusal-code.ensures _ c.if-code-ne0.true)
 
-put_three_requires : tie.Need-put-three-requires
-put_three_requires c κs = let s = c.before.before in (s.before.refusal.ensures.gives s.if1.false).room
+put_three_requires : tie.Need-put_three-requires
+put_three_requires c κs = (c.refusal-code.ensures.gives c.if-code-ne0.false).room
 
-returns_2 : tie.Need-returns-2
+returns_2 : tie.Need-returns
 returns_2 c =
-    let g = c.before.before.before.before.preview in
-    let s = c.before.before.before.before.before in
-    let a = s.before.before.before.before.before.args in
+    let g = c.preview-size in
+    let a = c.args in
     placed g.result.code (g.result.gates ∷ g.result.cost ∷ g.result.levels ∷ []) a.answer.now
-    (preview_answer a.answer.now (s.before.refusal.ensures.gives s.if1.false) a.signal g.ensures) c.before.before.put_three.ensures
+    (preview_answer a.answer.now (c.refusal-code.ensures.gives c.if-code-ne0.false) a.signal g.ensures) c.put_three.ensures
 
 pub preview_of_file_spec : {M : Type 1} → statement M
 preview_of_file_spec =

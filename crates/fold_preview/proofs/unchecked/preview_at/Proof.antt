@@ -19,50 +19,45 @@ abbrev record_at : tie.Start → Network
 record_at c = let a = c.args in from_parts a.head a.fanins.now a.thresholds.now a.signals.now a.weights.now a.drivers.now
 
 -- past the test the collapse is accepted
-left : (c : tie.Else1) → let start = c.before.before in
-    collapse (net_of (record_at start)) start.args.s ≡ accepted (collapsed_by (record_at start) start.args.s c.before.collapse-pairs.result)
-left c = c.before.collapse-pairs.ensures.accepts c.if1.false
+left : (c : tie.Else-code-ne0) → 
+    collapse (net_of (record_at c)) c.args.s ≡ accepted (collapsed_by (record_at c) c.args.s c.collapse_pairs-pairs.result)
+left c = c.collapse_pairs-pairs.ensures.accepts c.if-code-ne0.false
 
-number : (c : tie.Else1) → let a = c.before.before.args in
+number : (c : tie.Else-code-ne0) → let a = c.args in
     (a.head.inputs ≤ a.s) × (a.s - a.head.inputs < a.head.gates) × (a.head.gates ≤ 128)
 number c =
-    let start = c.before.before in
-    gate_number (record_at start) start.args.s (c.before.collapse-pairs.ensures.folds c.if1.false).own
+    gate_number (record_at c) c.args.s (c.collapse_pairs-pairs.ensures.folds c.if-code-ne0.false).own
 
-collapse_pairs_requires : tie.Need-collapse-pairs-requires
+collapse_pairs_requires : tie.Need-collapse_pairs-pairs-requires
 collapse_pairs_requires c κs = c.requires.1
 
-returns : tie.Need-returns
+returns : tie.Need-returns-then-code-ne0
 returns c =
-    let start = c.before.before in
-    sym (preview_refused (record_at start) start.args.s start.requires.1 _ (c.before.collapse-pairs.ensures.refuses c.if1.true))
+    sym (preview_refused (record_at c) c.args.s c.requires.1 _ (c.collapse_pairs-pairs.ensures.refuses c.if-code-ne0.true))
 
 -- the test's other side, from the collapse of the copied arrays
-abbrev at_else : tie.After-collapse-by-pairs → tie.Else1
+abbrev at_else : tie.After-collapse_by_pairs → tie.Else-code-ne0
 at_else c = let lent = c.before.before.before.before.before in lent.before.before.before.before.before.before
 
-collapse_by_pairs_requires : tie.Need-collapse-by-pairs-requires
+collapse_by_pairs_requires : tie.Need-collapse_by_pairs-requires
 collapse_by_pairs_requires c κs =
-    let copied = c.before.before.before.before.before in
-    let else = copied.before.before.before.before.before in
-    (else.before.before.requires.0, else.before.collapse-pairs.ensures.folds else.if1.false)
+    (c.requires.0, c.collapse_pairs-pairs.ensures.folds c.if-code-ne0.false)
 
-sub_t29 : tie.Need-overflow-sub-t29
+sub_t29 : tie.Need-overflow_sub-left
 sub_t29 c = omega (arith, number (at_else c.before.before))
 
-size_of_requires : tie.Need-size-of-requires
+size_of_requires : tie.Need-size_of-requires
 size_of_requires c κs =
     let else = at_else c.before.before in
     let start = else.before.before in
-    ap sound_record c.before.before.collapse-by-pairs.ensures ∙ preview_sound (record_at start) start.args.s start.pre.1 _ (left else)
+    ap sound_record c.collapse_by_pairs.ensures ∙ preview_sound (record_at start) start.args.s start.requires.1 _ (left else)
 
-returns_2 : tie.Need-returns-2
+returns_2 : tie.Need-returns
 returns_2 c =
-    let at_left = c.before.before.before in
-    let else = at_else at_left in
+    let else = at_else c in
     let start = else.before.before in
-    c.type_size.ensures ∙ ap reported at_left.collapse-by-pairs.ensures
-    ∙ sym (preview_shown (record_at start) start.args.s start.pre.1 _ (left else))
+    c.type_size.ensures ∙ ap reported c.collapse_by_pairs.ensures
+    ∙ sym (preview_shown (record_at start) start.args.s start.requires.1 _ (left else))
 
 pub preview_at_spec : {M : Type 1} → statement M
 preview_at_spec =

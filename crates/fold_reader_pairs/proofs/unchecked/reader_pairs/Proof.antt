@@ -12,74 +12,74 @@ use Rattle.fold_reader_pairs.proofs.PairingLaws.{Found, found_none, found_more}
 use Rattle.fold_reader_pairs.proofs.unchecked.reader_pairs.Statement.{statement}
 use Rattle.fold_reader_pairs.proofs.unchecked.reader_pairs.Tie as tie
 
-abbrev invariant-loop : tie.invariant-loop
+abbrev invariant-loop : tie.invariant-loop-g
 invariant-loop board fanins thresholds signals weights inputs gates u ks₀ ls₀ g₀ ks ls g =
     (g ≤ gates) × Found board (gate_from fanins thresholds signals weights) inputs u g ks ls
 
-abbrev decreases-loop : tie.decreases-loop
+abbrev decreases-loop : tie.decreases-loop-g
 decreases-loop board fanins thresholds signals weights inputs gates u ks₀ ls₀ g₀ ks ls g = gates - g
 
-loop_holds : tie.Need-loop-init invariant-loop decreases-loop
+loop_holds : tie.Need-loop-g-init invariant-loop decreases-loop
 loop_holds c = (omega arith, found_none _ _ _ _)
 
-reader_pair_requires : tie.Need-reader-pair-requires invariant-loop decreases-loop
-reader_pair_requires c κs = let pre = c.before.before.requires in (pre.0, pre.1, c.loop-test.true, pre.2)
+reader_pair_requires : tie.Need-reader_pair-found-requires invariant-loop decreases-loop
+reader_pair_requires c κs = let pre = c.requires in (pre.0, pre.1, c.loop-g-test.true, pre.2)
 
 -- the lent gates, and gates u and g as they are tried
-abbrev gate : tie.In-loop invariant-loop decreases-loop → ℕ → Gate
+abbrev gate : tie.In-loop-g invariant-loop decreases-loop → ℕ → Gate
 gate c = let a = c.before.before.args in gate_from a.fanins.now a.thresholds.now a.signals.now a.weights.now
 
-abbrev tried : tie.In-loop invariant-loop decreases-loop → Edge
+abbrev tried : tie.In-loop-g invariant-loop decreases-loop → Edge
 tried c = let a = c.before.before.args in edge_to a.board (gate c) a.inputs a.u c.before.loop.g
 
-returns : tie.Need-returns invariant-loop decreases-loop
+returns : tie.Need-returns-then-code-ne0 invariant-loop decreases-loop
 returns c =
-    let found = c.before.reader-pair in
-    let loop = c.before.before.before.loop in
+    let found = c.reader_pair-found in
+    let loop = c.loop-g in
     record {
       found = loop.invariant.1.each;
       spare = loop.invariant.1.spare;
-      all = λ z. absurd (c.if1.true z);
+      all = λ z. absurd (c.if-code-ne0.true z);
       refuses = λ n. record {
-        within = c.before.before.loop-test.true;
+        within = c.loop-g-test.true;
         refusal = as_pair_refused (reader_pair (tried c.before.before)) found.result found.ensures n;
       };
     }
 
 -- past the test gate g has its pair
-paired : (c : tie.Else1 invariant-loop decreases-loop) → let found = c.before.reader-pair.result in
+paired : (c : tie.Else-code-ne0 invariant-loop decreases-loop) → let found = c.reader_pair-found.result in
     reader_pair (tried c.before.before) ≡ accepted (record { k = found.k; l = found.l })
-paired c = let found = c.before.reader-pair in
-    as_pair_accepted (reader_pair (tried c.before.before)) found.result found.ensures (reader_pair_numbered (tried c.before.before)) c.if1.false
+paired c = let found = c.reader_pair-found in
+    as_pair_accepted (reader_pair (tried c.before.before)) found.result found.ensures (reader_pair_numbered (tried c.before.before)) c.if-code-ne0.false
 
-cast_ks : tie.Need-overflow-cast-ks invariant-loop decreases-loop
+cast_ks : tie.Need-overflow_cast-ks invariant-loop decreases-loop
 cast_ks c = omega (arith, pair_small _ _ (paired c.before))
 
-array_write_ks : tie.Need-array-write-ks invariant-loop decreases-loop
-array_write_ks c = omega (arith, c.before.before.before.before.before.requires.0.few_gates)
+array_write_ks : tie.Need-bounds-ks-g invariant-loop decreases-loop
+array_write_ks c = omega (arith, c.requires.0.few_gates)
 
-cast_ls : tie.Need-overflow-cast-ls invariant-loop decreases-loop
+cast_ls : tie.Need-overflow_cast-ls invariant-loop decreases-loop
 cast_ls c = omega (arith, pair_small _ _ (paired c.before.before))
 
-array_write_ls : tie.Need-array-write-ls invariant-loop decreases-loop
-array_write_ls c = omega (arith, c.before.before.before.before.before.before.requires.0.few_gates)
+array_write_ls : tie.Need-bounds-ls-g invariant-loop decreases-loop
+array_write_ls c = omega (arith, c.requires.0.few_gates)
 
-add_g : tie.Need-overflow-add-g invariant-loop decreases-loop
+add_g : tie.Need-overflow_step-g invariant-loop decreases-loop
 add_g c = omega arith
 
-loop_less : tie.Need-loop-smaller invariant-loop decreases-loop
+loop_less : tie.Need-loop-g-smaller invariant-loop decreases-loop
 loop_less c = omega arith
 
-loop_again : tie.Need-loop-preserved invariant-loop decreases-loop
+loop_again : tie.Need-loop-g-preserved invariant-loop decreases-loop
 loop_again c =
-    let loop = c.before.before.before.before.before.loop in
-    let few = c.before.before.before.before.before.before.requires.0.few_gates in
+    let loop = c.loop-g in
+    let few = c.requires.0.few_gates in
     (omega arith, found_more loop.invariant.1 _ _ (omega arith) (paired c.before.before))
 
-returns_2 : tie.Need-returns-2 invariant-loop decreases-loop
-returns_2 c = let loop = c.before.loop in record {
-  found = λ g h. loop.invariant.1.each g (omega (arith, loop.invariant.0, c.loop-test.false));
-  spare = λ g h. loop.invariant.1.spare g (omega (arith, loop.invariant.0, c.loop-test.false));
+returns_2 : tie.Need-returns invariant-loop decreases-loop
+returns_2 c = let loop = c.loop-g in record {
+  found = λ g h. loop.invariant.1.each g (omega (arith, loop.invariant.0, c.loop-g-test.false));
+  spare = λ g h. loop.invariant.1.spare g (omega (arith, loop.invariant.0, c.loop-g-test.false));
   all = λ z. refl;
   refuses = λ n. absurd (n refl);
 }

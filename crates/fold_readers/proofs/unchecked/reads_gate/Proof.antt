@@ -6,7 +6,7 @@ use Rattle.fold_readers.proofs.unchecked.reads_gate.Statement.{statement}
 use Rattle.fold_readers.proofs.unchecked.reads_gate.Tie as tie
 
 returns : tie.Need-returns
-returns c = λ ts ws. c.has-feed.ensures ∙ rw c.before.before.wide.ensures.0 (sym (reads_places _ ts _ ws _ _))
+returns c = λ ts ws. c.has_feed.ensures ∙ rw c.wide-count.ensures.0 (sym (reads_places _ ts _ ws _ _))
 
 pub reads_gate_spec : {M : Type 1} → statement M
 reads_gate_spec =

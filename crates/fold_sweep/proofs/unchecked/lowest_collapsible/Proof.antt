@@ -21,155 +21,152 @@ use Rattle.fold_sweep.proofs.TurnLaws.{reader_refused, lower_none, lower_more, s
 use Rattle.fold_sweep.proofs.unchecked.lowest_collapsible.Statement.{statement}
 use Rattle.fold_sweep.proofs.unchecked.lowest_collapsible.Tie as tie
 
-abbrev invariant-loop : tie.invariant-loop
+abbrev invariant-loop : tie.invariant-loop-g
 invariant-loop head fanins thresholds signals weights drivers b hints₀ refusers₀ board g₀ g_end hints refusers g =
     let N = net_of (from_parts head fanins thresholds signals weights drivers) in
     (g ≤ g_end) × LowerRefused N b head.inputs g × Remembered N refusers
 
-abbrev decreases-loop : tie.decreases-loop
+abbrev decreases-loop : tie.decreases-loop-g
 decreases-loop head fanins thresholds signals weights drivers b hints₀ refusers₀ board g₀ g_end hints refusers g = g_end - g
 
 -- the record whose arrays are lent
 abbrev record_at : tie.Start invariant-loop decreases-loop → Network
 record_at c = let a = c.args in from_parts a.head a.fanins.now a.thresholds.now a.signals.now a.weights.now a.drivers.now
 
-sizes : (c : tie.At-loop invariant-loop decreases-loop) → CountsInArrays (record_at c.before.before)
-sizes c = sized_of (record_at c.before.before) c.before.before.requires.0
+sizes : (c : tie.At-loop-g invariant-loop decreases-loop) → CountsInArrays (record_at c.before.before)
+sizes c = sized_of (record_at c.before.before) c.requires.0
 
 -- every place of the hints and of the refusers fits
-under : (c : tie.In-loop invariant-loop decreases-loop) → c.before.loop.g < 128
-under c = omega (arith, c.loop-test.true, (sizes c.before).few_gates)
+under : (c : tie.In-loop-g invariant-loop decreases-loop) → c.loop-g.g < 128
+under c = omega (arith, c.loop-g-test.true, (sizes c.before).few_gates)
 
 -- the turn of a gate without a known refuser, of one that is tested, and of one that is tried
-abbrev turn_of : tie.Else1 invariant-loop decreases-loop → tie.In-loop invariant-loop decreases-loop
+abbrev turn_of : tie.Else-wide-lt128 invariant-loop decreases-loop → tie.In-loop-g invariant-loop decreases-loop
 turn_of c = c.before.before.before
 
-abbrev tested : tie.After-is-output invariant-loop decreases-loop → tie.In-loop invariant-loop decreases-loop
+abbrev tested : tie.After-is_output invariant-loop decreases-loop → tie.In-loop-g invariant-loop decreases-loop
 tested c = turn_of c.before.before.before
 
-abbrev tried : tie.After-hinted-pairs invariant-loop decreases-loop → tie.Else2 invariant-loop decreases-loop
+abbrev tried : tie.After-hinted_pairs-pairs invariant-loop decreases-loop → tie.Else-b-readers invariant-loop decreases-loop
 tried c = c.before.before.before
 
-abbrev turn : tie.Else3 invariant-loop decreases-loop → tie.In-loop invariant-loop decreases-loop
+abbrev turn : tie.Else-code-eq0 invariant-loop decreases-loop → tie.In-loop-g invariant-loop decreases-loop
 turn c = tested (tried c.before).before
 
 -- the test, of the network
-test : (c : tie.After-is-output invariant-loop decreases-loop) → let at = tested c in
+test : (c : tie.After-is_output invariant-loop decreases-loop) → let at = tested c in
     let start = at.before.before.before in
     let r = record_at start in
     let u = r.inputs + at.before.loop.g in
-    ltb start.args.b c.before.count-readers.result || c.is-output.result
+    ltb start.args.b c.count_readers-readers.result || c.is_output.result
     ≡ ltb start.args.b (readers (net_of r) u) || occurs r.drivers 0 r.outputs u
 unfolding readers net_of
 test c =
-    let a = (tested c).before.before.before.args in
-    rw (c.before.count-readers.ensures a.thresholds.now a.weights.now, c.is-output.ensures)
+    let a = (tested c).args in
+    rw (c.count_readers-readers.ensures a.thresholds.now a.weights.now, c.is_output.ensures)
 
-loop_holds : tie.Need-loop-init invariant-loop decreases-loop
-loop_holds c = (omega arith, lower_none _ _ _, c.before.requires.1)
+loop_holds : tie.Need-loop-g-init invariant-loop decreases-loop
+loop_holds c = (omega arith, lower_none _ _ _, c.requires.1)
 
 -- ---- a gate with a known refuser
-element_copy_out_wide : tie.Need-element-copy-out-wide invariant-loop decreases-loop
-element_copy_out_wide c = under c
+element_copy_out_wide : tie.Need-bounds-refusers-g invariant-loop decreases-loop
+element_copy_out_wide c = under c.before
 
-add_g : tie.Need-overflow-add-g invariant-loop decreases-loop
-add_g c = omega (arith, under c.before.before.before)
+add_g : tie.Need-overflow_step-g invariant-loop decreases-loop
+add_g c = omega (arith, under c.before.before.before.before)
 
-loop_less : tie.Need-loop-smaller invariant-loop decreases-loop
-loop_less c = omega (arith, c.before.before.before.loop-test.true)
+loop_less : tie.Need-loop-g-smaller-then-wide-lt128 invariant-loop decreases-loop
+loop_less c = omega (arith, c.loop-g-test.true)
 
-loop_again : tie.Need-loop-preserved invariant-loop decreases-loop
+loop_again : tie.Need-loop-g-preserved-then-wide-lt128 invariant-loop decreases-loop
 loop_again c =
-    let at = c.before.before.before in
-    let start = at.before.before.before in
-    let loop = at.before.loop in
-    let known = remembered_at (record_at start) loop.invariant.2 loop.g at.loop-test.true (omega (arith, c.if1.true, c.before.wide.ensures.0)) in (
-      omega (arith, at.loop-test.true),
+    let loop = c.loop-g in
+    let known = remembered_at (record_at c) loop.invariant.2 loop.g c.loop-g-test.true (omega (arith, c.if-wide-lt128.true, c.wide.ensures.0)) in (
+      omega (arith, c.loop-g-test.true),
       lower_more _ _ _ loop.g loop.invariant.1 (reader_refused _ _ _ _ known),
       loop.invariant.2,
     )
 
 -- ---- a gate with too many readers, or an output
-add_u : tie.Need-overflow-add-u invariant-loop decreases-loop
+add_u : tie.Need-overflow_add-u invariant-loop decreases-loop
 add_u c = let at = turn_of c.before in let z = sizes at.before in omega (arith, z.few_inputs, z.few_gates, at.loop-test.taken)
 
-count_readers_requires : tie.Need-count-readers-requires invariant-loop decreases-loop
-count_readers_requires c κs = lent_counted (lent_of _ (T_is (sound_record _) (turn_of c.before).before.before.before.pre.0))
+count_readers_requires : tie.Need-count_readers-readers-requires invariant-loop decreases-loop
+count_readers_requires c κs = lent_counted (lent_of _ (T_is (sound_record _) (turn_of c.before).requires.0))
 
-is_output_requires : tie.Need-is-output-requires invariant-loop decreases-loop
-is_output_requires c κs = (sizes (turn_of c.before.before).before).few_outputs
+is_output_requires : tie.Need-is_output-requires invariant-loop decreases-loop
+is_output_requires c κs = (sizes (turn_of.before c.before.before).before).few_outputs
 
-add_g_2 : tie.Need-overflow-add-g-2 invariant-loop decreases-loop
+add_g_2 : tie.Need-overflow_step-g-then-b-readers invariant-loop decreases-loop
 add_g_2 c = omega (arith, under (tested c.before))
 
-loop_less_2 : tie.Need-loop-smaller-2 invariant-loop decreases-loop
-loop_less_2 c = omega (arith, (tested c.before).loop-test.taken)
+loop_less_2 : tie.Need-loop-g-smaller-then-b-readers invariant-loop decreases-loop
+loop_less_2 c = omega (arith, (tested c.before).loop-g-test.taken)
 
-loop_again_2 : tie.Need-loop-preserved-2 invariant-loop decreases-loop
+loop_again_2 : tie.Need-loop-g-preserved-then-b-readers invariant-loop decreases-loop
 loop_again_2 c =
     let at = tested c.before in
     let start = at.before.before.before in
     let loop = at.before.loop in
-    let barred = sym (test c.before) ∙ c.if2.true in (
+    let barred = sym (test c.before) ∙ c.if-b-readers.true in (
       omega (arith, at.loop-test.taken),
-      lower_more _ _ _ loop.g loop.inv.1 (barred_refused (record_at start) start.args.b loop.g start.pre.0 at.loop-test.taken barred),
+      lower_more _ _ _ loop.g loop.inv.1 (barred_refused (record_at start) start.args.b loop.g start.requires.0 at.loop-test.taken barred),
       loop.inv.2,
     )
 
 -- ---- a gate that is tried
-element_copy_out_wide_2 : tie.Need-element-copy-out-wide-2 invariant-loop decreases-loop
+element_copy_out_wide_2 : tie.Need-bounds-hints-g invariant-loop decreases-loop
 element_copy_out_wide_2 c = under (tested c.before)
 
-hinted_pairs_requires : tie.Need-hinted-pairs-requires invariant-loop decreases-loop
+hinted_pairs_requires : tie.Need-hinted_pairs-pairs-requires invariant-loop decreases-loop
 hinted_pairs_requires c κs =
     let at = tested c.before.before.before in
     let start = at.before.before.before in
-    let lent = lent_of _ (T_is (sound_record _) start.pre.0) in
-    (lent, (omega arith, omega (arith, at.loop-test.taken)), sound_board (record_at start) start.pre.0)
+    let lent = lent_of _ (T_is (sound_record _) start.requires.0) in
+    (lent, (omega arith, omega (arith, at.loop-test.taken)), sound_board (record_at start) start.requires.0)
 
-kept_refusers_requires : tie.Need-kept-refusers-requires invariant-loop decreases-loop
-kept_refusers_requires c κs = let then = c.before.before.before.before.before in (tested (tried then.before).before).before.loop.inv.2.long
+kept_refusers_requires : tie.Need-kept_refusers-requires invariant-loop decreases-loop
+kept_refusers_requires c κs = (tested (tried c.before).before).before.loop.inv.2.long
 
-returns : tie.Need-returns invariant-loop decreases-loop
+returns : tie.Need-returns-then-code-eq0 invariant-loop decreases-loop
 returns c =
-    let then = c.before.before.before.before.before.before in
-    let else = tried then.before in
+    let else = tried c.before in
     let at = tested else.before in
     let start = at.before.before.before in
     let loop = at.before.loop in
-    let pairs = then.before.hinted-pairs in
-    let next = taken (record_at start) start.args.b loop.g start.pre.0 at.loop-test.taken (sym (test else.before) ∙ else.if2.left)
-    pairs.result (pairs.ensures.found then.if3.true) loop.inv.1 in (
+    let pairs = c.hinted_pairs-pairs in
+    let next = taken (record_at start) start.args.b loop.g start.requires.0 at.loop-test.taken (sym (test else.before) ∙ else.if2.left)
+    pairs.result (pairs.ensures.found c.if-code-eq0.true) loop.inv.1 in (
       record { next = λ t. next; none = λ t. absurd (true≢false t) },
-      record { next = λ t. remembered_after (record_at start) start.args.b loop.g pairs.result next loop.inv.2 c.kept-refusers.ensures },
+      record { next = λ t. remembered_after (record_at start) start.args.b loop.g pairs.result next loop.inv.2 c.kept_refusers.ensures },
     )
 
 -- the reader that refused it
-refuser : (c : tie.Else3 invariant-loop decreases-loop) → let at = turn c in
+refuser : (c : tie.Else-code-eq0 invariant-loop decreases-loop) → let at = turn c in
     let r = record_at at.before.before.before in
-    RefusedBy (net_of r) (r.inputs + at.before.loop.g) (r.inputs + c.before.hinted-pairs.result.last)
+    RefusedBy (net_of r) (r.inputs + at.before.loop.g) (r.inputs + c.hinted_pairs-pairs.result.last)
 refuser c =
     let at = turn c in
     let start = at.before.before.before in
-    refused_of (record_at start) _ (own_gate (record_at start) start.args.b at.before.loop.g start.pre.0 at.loop-test.taken) _
-    (c.before.hinted-pairs.ensures.refuses c.if3.false)
+    refused_of (record_at start) _ (own_gate (record_at start) start.args.b at.before.loop.g start.requires.0 at.loop-test.taken) _
+    (c.hinted_pairs-pairs.ensures.refuses c.if-code-eq0.false)
 
-cast_last : tie.Need-overflow-cast-last invariant-loop decreases-loop
-cast_last c = omega (arith, (c.before.hinted-pairs.ensures.refuses c.if3.false).within, (sizes (turn c).before).few_gates)
+cast_last : tie.Need-overflow_cast-last invariant-loop decreases-loop
+cast_last c = omega (arith, (c.hinted_pairs-pairs.ensures.refuses c.if-code-eq0.false).within, (sizes (turn.before c).before).few_gates)
 
-element_write_hints : tie.Need-element-write-hints invariant-loop decreases-loop
+element_write_hints : tie.Need-bounds-hints-g-in-loop-g invariant-loop decreases-loop
 element_write_hints c = under (turn c)
 
-element_write_refusers : tie.Need-element-write-refusers invariant-loop decreases-loop
+element_write_refusers : tie.Need-bounds-refusers-g-in-loop-g invariant-loop decreases-loop
 element_write_refusers c = under (turn c)
 
-add_g_3 : tie.Need-overflow-add-g-3 invariant-loop decreases-loop
+add_g_3 : tie.Need-overflow_step-g-in-loop-g invariant-loop decreases-loop
 add_g_3 c = omega (arith, under (turn c))
 
-loop_less_3 : tie.Need-loop-smaller-3 invariant-loop decreases-loop
-loop_less_3 c = omega (arith, (turn c).loop-test.true)
+loop_less_3 : tie.Need-loop-g-smaller invariant-loop decreases-loop
+loop_less_3 c = omega (arith, (turn c).loop-g-test.true)
 
-loop_again_3 : tie.Need-loop-preserved-3 invariant-loop decreases-loop
+loop_again_3 : tie.Need-loop-g-preserved invariant-loop decreases-loop
 loop_again_3 c =
     let at = turn c in
     let start = at.before.before.before in
@@ -180,13 +177,12 @@ loop_again_3 c =
     )
 
 -- ---- no gate is left
-returns_2 : tie.Need-returns-2 invariant-loop decreases-loop
+returns_2 : tie.Need-returns invariant-loop decreases-loop
 returns_2 c =
-    let start = c.before.before.before.before in
-    let loop = c.before.before.loop in (
+    let loop = c.loop-g in (
       record {
         next = λ t. absurd (false≢true t);
-        none = λ t. sweep_none (record_at start) start.args.b loop.g loop.invariant.0 c.before.loop-test.false loop.invariant.1;
+        none = λ t. sweep_none (record_at c) c.args.b loop.g loop.invariant.0 c.loop-g-test.false loop.invariant.1;
       },
       record { next = λ t. absurd (false≢true t) },
     )

@@ -5,13 +5,13 @@ use borrow.Author.Rules.{rules}
 use Rattle.fold_witness.proofs.unchecked.shown.Statement.{statement}
 use Rattle.fold_witness.proofs.unchecked.shown.Tie as tie
 
-returns : tie.Need-returns
+returns : tie.Need-returns-in-At
 unfolding as_witness
-returns c = sym (ap as_witness c.before.found.given.1)
+returns c = sym (ap as_witness c.found-1.given.1)
 
-returns_2 : tie.Need-returns-2
+returns_2 : tie.Need-returns-in-Nowhere
 unfolding as_witness
-returns_2 c = c.none.ensures ∙ sym (ap as_witness c.before.enum_told.given.1)
+returns_2 c = c.none.ensures ∙ sym (ap as_witness c.enum_told-1.given.1)
 
 pub shown_spec : {M : Type 1} → statement M
 shown_spec = tie.close (tie.spec (λ c. search rules) (λ c. search rules) (λ c κs. search rules) returns returns_2)

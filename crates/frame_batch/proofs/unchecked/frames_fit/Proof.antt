@@ -12,20 +12,20 @@ use Rattle.frame_batch.proofs.RoomLaws.{all_next, all_done}
 use Rattle.frame_batch.proofs.unchecked.frames_fit.Statement.{statement}
 use Rattle.frame_batch.proofs.unchecked.frames_fit.Tie as tie
 
-abbrev invariant-loop : tie.invariant-loop
+abbrev invariant-loop : tie.invariant-loop-f
 invariant-loop inputs frames ok₀ f₀ f-end ok f = (f ≤ length frames) × (ok && all (fits_frame inputs) (drop f frames) ≡ all (fits_frame inputs) frames)
 
-abbrev decreases-loop : tie.decreases-loop
+abbrev decreases-loop : tie.decreases-loop-f
 decreases-loop inputs frames ok₀ f₀ f-end ok f = length frames - f
 
-loop_holds : tie.Need-loop-init invariant-loop decreases-loop
+loop_holds : tie.Need-loop-f-init invariant-loop decreases-loop
 loop_holds c = (omega arith, refl)
 
-loop_again : tie.Need-loop-preserved invariant-loop decreases-loop
+loop_again : tie.Need-loop-f-preserved invariant-loop decreases-loop
 unfolding fits_frame
 loop_again c =
-    let a = c.before.before.before.args in
-    let loop = c.before.before.loop in (
+    let a = c.args in
+    let loop = c.loop-f in (
       omega arith,
       and_assoc loop.ok (fits_frame a.inputs (get_or a.frames.now loop.f 0)) _
           ∙ ap (λ (t : Bool). loop.ok && t) (sym (all_next (fits_frame a.inputs) a.frames.now loop.f (omega arith)))
@@ -34,8 +34,8 @@ loop_again c =
 
 returns : tie.Need-returns invariant-loop decreases-loop
 returns c =
-    let a = c.before.before.args in
-    let loop = c.before.loop in
+    let a = c.args in
+    let loop = c.loop-f in
     let none = all_done (fits_frame a.inputs) a.frames.now loop.f (omega arith) in
     sym (and_true loop.ok) ∙ ap (λ (t : Bool). loop.ok && t) (sym none) ∙ loop.invariant.1
 

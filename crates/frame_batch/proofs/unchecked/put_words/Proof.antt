@@ -11,21 +11,21 @@ use Rattle.basics.specs.WriteLaws.{store_on}
 use Rattle.frame_batch.proofs.unchecked.put_words.Statement.{statement}
 use Rattle.frame_batch.proofs.unchecked.put_words.Tie as tie
 
-abbrev invariant-loop : tie.invariant-loop
+abbrev invariant-loop : tie.invariant-loop-f
 invariant-loop words answers₀ count f₀ answers f = (f ≤ count) × (answers ≡ take f words ++ drop f answers₀) × (length answers ≡ length answers₀)
 
-abbrev decreases-loop : tie.decreases-loop
+abbrev decreases-loop : tie.decreases-loop-f
 decreases-loop words answers₀ count f₀ answers f = count - f
 
-loop_holds : tie.Need-loop-init invariant-loop decreases-loop
+loop_holds : tie.Need-loop-f-init invariant-loop decreases-loop
 loop_holds c = (omega arith, refl, refl)
 
 -- one word more
-loop_again : tie.Need-loop-preserved invariant-loop decreases-loop
+loop_again : tie.Need-loop-f-preserved invariant-loop decreases-loop
 loop_again c =
-    let loop = c.before.before.loop in
-    let words = c.before.before.before.args.words.now in
-    let lent = c.before.before.before.args.answers.now in
+    let loop = c.loop-f in
+    let words = c.args.words.now in
+    let lent = c.args.answers.now in
     let one = get_or words loop.f 0 in
     let front = length-take-le loop.f words (omega arith) in
     let more : take loop.f words ++ (one ∷ []) ≡ take (loop.f + 1) words = sym (rw (add-one loop.f) (take-suc words loop.f 0 (omega arith))) in (
@@ -35,13 +35,13 @@ loop_again c =
       simp length-set loop.invariant.2,
     )
 
-same_length : tie.Need-same-length invariant-loop decreases-loop
-same_length c = c.before.loop.invariant.2
+same_length : tie.Need-shape_of-answers invariant-loop decreases-loop
+same_length c = c.loop-f.invariant.2
 
 returns : tie.Need-returns invariant-loop decreases-loop
 returns c =
-    let e : c.before.loop.f ≡ c.before.before.args.count = omega arith in
-    c.before.loop.invariant.1 ∙ ap (λ (k : ℕ). take k c.before.before.args.words.now ++ drop k c.before.before.args.answers.now) e
+    let e : c.loop-f.f ≡ c.args.count = omega arith in
+    c.loop-f.invariant.1 ∙ ap (λ (k : ℕ). take k c.args.words.now ++ drop k c.args.answers.now) e
 
 pub put_words_spec : {M : Type 1} → statement M
 put_words_spec =

@@ -10,50 +10,45 @@ use Rattle.frame_batch.proofs.AnswerLaws.{answer_crowded, answer_long, answer_wo
 use Rattle.frame_batch.proofs.unchecked.read_sound.Statement.{statement}
 use Rattle.frame_batch.proofs.unchecked.read_sound.Tie as tie
 
-returns : tie.Need-returns
+returns : tie.Need-returns-then-count-answers
 returns c =
-    let s = c.before.before.before in
-    let full = no_room s.args.frames.now s.args.answers.now c.if1.true in
-    refused_one _ (answer_crowded s.args.network s.args.frames.now s.args.answers.now s.requires full)
+    let full = no_room c.args.frames.now c.args.answers.now c.if-count-answers.true in
+    refused_one _ (answer_crowded c.args.network c.args.frames.now c.args.answers.now c.requires full)
 
-frames_fit_requires : tie.Need-frames-fit-requires
-frames_fit_requires c κs = (sized_of _ c.before.before.before.requires).few_inputs
+frames_fit_requires : tie.Need-frames_fit-requires
+frames_fit_requires c κs = (sized_of _ c.requires).few_inputs
 
-returns_2 : tie.Need-returns-2
+returns_2 : tie.Need-returns-then-not-frames_fit
 returns_2 c =
-    let s = c.before.before.before.before.before in
-    let room = room_yes s.args.frames.now s.args.answers.now c.before.before.if1.false in
-    let long = sym c.before.frames-fit.ensures ∙ not-true _ c.if2.true in
-    refused_one _ (answer_long s.args.network s.args.frames.now s.args.answers.now s.requires room long)
+    let room = room_yes c.args.frames.now c.args.answers.now c.if-count-answers.false in
+    let long = sym c.frames_fit.ensures ∙ not-true _ c.if-not-frames_fit.true-raw in
+    refused_one _ (answer_long c.args.network c.args.frames.now c.args.answers.now c.requires room long)
 
 -- past both tests the frames may be read
-readable : (c : tie.Else2) → Readable c.before.before.before.before.before.args.network c.before.before.before.before.before.args.frames.now
+readable : (c : tie.Else-not-frames_fit) → Readable c.args.network c.args.frames.now
 readable c =
-    let s = c.before.before.before.before.before in
     record {
-      sound = s.requires;
-      few = room_few s.args.frames.now s.args.answers.now c.before.before.if1.false;
-      fit = sym c.before.frames-fit.ensures ∙ not-false _ c.if2.false;
+      sound = c.requires;
+      few = room_few c.args.frames.now c.args.answers.now c.if-count-answers.false;
+      fit = sym c.frames_fit.ensures ∙ not-false _ c.if-not-frames_fit.false-raw;
     }
 
-frame_words_requires : tie.Need-frame-words-requires
+frame_words_requires : tie.Need-frame_words-words-requires
 frame_words_requires c κs = readable c
 
-put_words_requires : tie.Need-put-words-requires
+put_words_requires : tie.Need-put_words-requires
 put_words_requires c κs =
     let left = c.before.before.before in
-    let s = left.before.before.before.before.before in
-    let fits = room_fits s.args.frames.now s.args.answers.now left.before.before.if1.false in
-    (c.before.before.frame-words.ensures.long, (readable left).few, fits)
+    let fits = room_fits c.args.frames.now c.args.answers.now left.if-count-answers.false in
+    (c.frame_words-words.ensures.long, (readable left).few, fits)
 
-returns_3 : tie.Need-returns-3
+returns_3 : tie.Need-returns
 returns_3 c =
-    let read = c.before.before.before.before.before in
-    let left = read.before in
-    let a = left.before.before.before.before.before.args in
-    let room = room_yes a.frames.now a.answers.now left.before.before.if1.false in
-    left_words a.network (readable left).few read.frame-words.ensures a.answers.now
-    (answer_words a.network a.frames.now a.answers.now (readable left) room) c.before.before.put-words.ensures
+    let left = c.before.before.before.before.before.before in
+    let a = left.args in
+    let room = room_yes a.frames.now a.answers.now left.if-count-answers.false in
+    left_words a.network (readable left).few c.frame_words-words.ensures a.answers.now
+    (answer_words a.network a.frames.now a.answers.now (readable left) room) c.put_words.ensures
 
 pub read_sound_spec : {M : Type 1} → statement M
 read_sound_spec =

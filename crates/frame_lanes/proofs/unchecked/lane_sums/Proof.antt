@@ -11,39 +11,36 @@ use Rattle.frame_lanes.proofs.LaneSumLaws.{LanesAdded, lanes_none, lanes_small, 
 use Rattle.frame_lanes.proofs.unchecked.lane_sums.Statement.{statement}
 use Rattle.frame_lanes.proofs.unchecked.lane_sums.Tie as tie
 
-abbrev invariant-loop : tie.invariant-loop
+abbrev invariant-loop : tie.invariant-loop-i
 invariant-loop signals weights masks base count block sums₀ i₀ sums i = LanesAdded masks signals weights base count block i sums
 
-abbrev decreases-loop : tie.decreases-loop
+abbrev decreases-loop : tie.decreases-loop-i
 decreases-loop signals weights masks base count block sums₀ i₀ sums i = count - i
 
-loop_holds : tie.Need-loop-init invariant-loop decreases-loop
+loop_holds : tie.Need-loop-i-init invariant-loop decreases-loop
 loop_holds c = lanes_none _ _ _ _ _ _
 
-add_feed_requires : tie.Need-add-feed-requires invariant-loop decreases-loop
+add_feed_requires : tie.Need-add_feed-requires invariant-loop decreases-loop
 add_feed_requires c κs =
-    let s = c.before.before.before.before.before.before in
-    let loop = c.before.before.before.before.before.loop in
-    let fits : SFits w32 (get_or s.args.weights.now (s.args.base + loop.i) (pos 0)) = record { sfits = c.add-feed-arg.given } in
+    let loop = c.loop-i in
+    let fits : SFits w32 (get_or c.args.weights.now (c.args.base + loop.i) (pos 0)) = record { sfits = c.add_feed-arg-1.given } in
     record {
-      masked = s.requires.masked;
+      masked = c.requires.masked;
       within = omega arith;
-      light = rw (to_z-of_z fits) (s.requires.light loop.i (omega arith));
-      small = lanes_small loop.invariant (omega arith) s.requires.few;
+      light = rw (to_z-of_z fits) (c.requires.light loop.i (omega arith));
+      small = lanes_small loop.invariant (omega arith) c.requires.few;
     }
 
-loop_again : tie.Need-loop-preserved invariant-loop decreases-loop
+loop_again : tie.Need-loop-i-preserved invariant-loop decreases-loop
 loop_again c =
-    let at_loop = c.before.before.before.before.before.before in
-    let s = at_loop.before in
-    let loop = at_loop.loop in
-    let signal = c.before.before.before.wide in
-    let fits : SFits w32 (get_or s.args.weights.now (s.args.base + loop.i) (pos 0)) = record { sfits = c.before.add-feed-arg.given } in
-    lanes_next loop.invariant s.requires (omega arith) signal.result _ signal.ensures.1 signal.ensures.0 (to_z-of_z fits) c.add_feed.ensures
+    let loop = c.loop-i in
+    let signal = c.wide-signal in
+    let fits : SFits w32 (get_or c.args.weights.now (c.args.base + loop.i) (pos 0)) = record { sfits = c.add_feed-arg-1.given } in
+    lanes_next loop.invariant c.requires (omega arith) signal.result _ signal.ensures.1 signal.ensures.0 (to_z-of_z fits) c.add_feed.ensures
 
 returns : tie.Need-returns invariant-loop decreases-loop
 returns c =
-    lanes_all c.before.loop.invariant (omega arith)
+    lanes_all c.loop-i.invariant (omega arith)
 
 pub lane_sums_spec : {M : Type 1} → statement M
 lane_sums_spec =

@@ -16,26 +16,26 @@ use Rattle.frame_lanes.specs.Lanes.{mask_of}
 use Rattle.frame_lanes.proofs.unchecked.put_bits.Statement.{statement}
 use Rattle.frame_lanes.proofs.unchecked.put_bits.Tie as tie
 
-abbrev invariant-loop : tie.invariant-loop
+abbrev invariant-loop : tie.invariant-loop-f
 invariant-loop masks₀ sums threshold from f₀ masks f = (f ≤ 32) × Pasted (pos 0) from f (λ k. mask_of (le_z (to_z w32 threshold) (get_or sums k (pos 0)))) masks₀ masks
 
-abbrev decreases-loop : tie.decreases-loop
+abbrev decreases-loop : tie.decreases-loop-f
 decreases-loop masks₀ sums threshold from f₀ masks f = 32 - f
 
-loop_holds : tie.Need-loop-init invariant-loop decreases-loop
+loop_holds : tie.Need-loop-f-init invariant-loop decreases-loop
 loop_holds c = (omega arith, pasted_none _ _ _ _)
 
-loop_again : tie.Need-loop-preserved invariant-loop decreases-loop
+loop_again : tie.Need-loop-f-preserved invariant-loop decreases-loop
 loop_again c =
-    let sums = c.before.before.before.before.args.sums.now in
-    let fits : SFits w32 (get_or sums c.before.before.before.loop.f (pos 0)) = record { sfits = c.before.mask-of-arg.given } in
-    let on = rw (to_z-of_z fits) at c.mask-of.ensures in
-    (omega arith, pasted_more _ _ c.before.before.before.loop.invariant.1 refl (read_back w32 c.mask-of.type-inv on))
+    let sums = c.args.sums.now in
+    let fits : SFits w32 (get_or sums c.loop-f.f (pos 0)) = record { sfits = c.mask_of-arg-1.given } in
+    let on = rw (to_z-of_z fits) at c.mask_of.ensures in
+    (omega arith, pasted_more _ _ c.loop-f.invariant.1 refl (read_back w32 c.mask_of.type_inv on))
 
 returns : tie.Need-returns invariant-loop decreases-loop
 returns c =
-    let e : c.before.loop.f ≡ 32 = omega arith in
-    rw (e, to_z-of_z c.before.before.ranges.threshold) at c.before.loop.invariant.1
+    let e : c.loop-f.f ≡ 32 = omega arith in
+    rw (e, to_z-of_z c.ranges.threshold) at c.loop-f.invariant.1
 
 pub put_bits_spec : {M : Type 1} → statement M
 put_bits_spec =

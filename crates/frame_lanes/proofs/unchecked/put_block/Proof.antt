@@ -10,10 +10,10 @@ use Rattle.frame_lanes.proofs.LaneSumLaws.{block_put}
 use Rattle.frame_lanes.proofs.unchecked.put_block.Statement.{statement}
 use Rattle.frame_lanes.proofs.unchecked.put_block.Tie as tie
 
-lane_sums_requires : tie.Need-lane-sums-requires
+lane_sums_requires : tie.Need-lane_sums-sums-requires
 lane_sums_requires c κs =
-    let pre = c.before.before.before.requires in
-    let count = c.before.wide in
+    let pre = c.requires in
+    let count = c.wide-count in
     record {
       masked = pre.masked;
       places = omega (arith, pre.gate.place, pre.gate.few, count.ensures.0);
@@ -24,11 +24,9 @@ lane_sums_requires c κs =
 
 returns : tie.Need-returns
 returns c =
-    let sums = c.before.before.before.before in
-    let s = sums.before.before.before.before in
-    let fits : SFits w32 (get_or s.args.thresholds.now s.args.g (pos 0)) = record { sfits = c.before.put-bits-arg2.given } in
-    block_put s.args.fanins.now s.args.thresholds.now s.args.g sums.lane-sums.ensures sums.before.before.wide.ensures.0
-    (to_z-of_z fits) c.put-bits.ensures
+    let fits : SFits w32 (get_or c.args.thresholds.now c.args.g (pos 0)) = record { sfits = c.put_bits-arg-2-1.given } in
+    block_put c.args.fanins.now c.args.thresholds.now c.args.g c.lane_sums-sums.ensures c.wide-count.ensures.0
+    (to_z-of_z fits) c.put_bits.ensures
 
 pub put_block_spec : {M : Type 1} → statement M
 put_block_spec =

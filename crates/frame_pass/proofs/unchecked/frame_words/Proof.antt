@@ -6,32 +6,31 @@ use Rattle.frame_pass.proofs.unchecked.frame_words.Statement.{statement}
 use Rattle.frame_pass.proofs.unchecked.frame_words.Tie as tie
 
 -- the inputs in the lanes, from where the gates are run
-abbrev inputs_put : tie.After-masks2 → tie.After-put-inputs
+abbrev inputs_put : tie.After-masks-2-1 → tie.After-put_inputs
 inputs_put c = c.before.before.before.before.before.before
 
-put_inputs_requires : tie.Need-put-inputs-requires
+put_inputs_requires : tie.Need-put_inputs-requires
 put_inputs_requires c κs =
-    let pre = c.before.before.requires in
+    let pre = c.requires in
     record { blank = blank_all; few = pre.few; few_inputs = (sized_of _ pre.sound).few_inputs; fit = pre.fit }
 
-run_gates_requires : tie.Need-run-gates-requires
+run_gates_requires : tie.Need-run_gates-requires
 run_gates_requires c κs =
     let put = inputs_put c in
-    let pre = put.before.before.before.pre in
+    let pre = put.before.before.before.requires in
     can_run _ pre.sound put.put-inputs.ensures.masked pre.few
 
-lane_words_requires : tie.Need-lane-words-requires
+lane_words_requires : tie.Need-lane_words-requires
 lane_words_requires c κs =
     let put = inputs_put c.before.before.before.before in
-    let pre = put.before.before.before.pre in
+    let pre = put.before.before.before.requires in
     ((sized_of _ pre.sound).few_outputs, pre.few)
 
 returns : tie.Need-returns
 returns c =
-    let ran = c.before.before.before.before in
-    let put = inputs_put ran.before in
+    let put = inputs_put c.before in
     let s = put.before.before.before in
-    first_words s.args.t1 s.pre put.put-inputs.ensures ran.run-gates.ensures c.lane-words.ensures
+    first_words s.args.network s.requires put.put-inputs.ensures c.run_gates.ensures c.lane_words.ensures
 
 pub frame_words_spec : {M : Type 1} → statement M
 frame_words_spec =

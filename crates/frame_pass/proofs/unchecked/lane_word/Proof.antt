@@ -19,49 +19,49 @@ use Rattle.frame_lanes.specs.LaneLaws.{lane_bit}
 use Rattle.frame_pass.proofs.unchecked.lane_word.Statement.{statement}
 use Rattle.frame_pass.proofs.unchecked.lane_word.Tie as tie
 
-abbrev invariant-loop : tie.invariant-loop
+abbrev invariant-loop : tie.invariant-loop-j
 invariant-loop drivers masks outputs f word₀ j₀ word j = WordFrom (bits_in (lane masks f)) (λ k. get_or drivers k 0) outputs j word
 
-abbrev decreases-loop : tie.decreases-loop
+abbrev decreases-loop : tie.decreases-loop-j
 decreases-loop drivers masks outputs f word₀ j₀ word j = j
 
-loop_holds : tie.Need-loop-init invariant-loop decreases-loop
+loop_holds : tie.Need-loop-j-init invariant-loop decreases-loop
 loop_holds c = word_none _ _ _
 
 -- a turn: the mask of lane f at the output's signal
-module _ (c : tie.After-on invariant-loop decreases-loop) where
+module _ (c : tie.After-on-1 invariant-loop decreases-loop) where
   abbrev start : tie.Start invariant-loop decreases-loop
-  start = c.before.before.before.before.before
+  start = c.before.before.before.before.before.before
 
   abbrev mask : ℤ
-  mask = get_or start.args.masks.now (64 * c.before.wide.result + start.args.f) (pos 0)
+  mask = get_or start.args.masks.now (64 * c.wide-driver.result + start.args.f) (pos 0)
 
   mask_fits : SFits w32 mask
-  mask_fits = record { sfits = c.on.given }
+  mask_fits = record { sfits = c.on-1.given }
 
   abbrev bits : Assignment
   bits = bits_in (lane start.args.masks.now start.args.f)
 
-  on_is : lt_z (to_z w32 (of_z w32 mask)) (pos 0) ≡ bits (get_or start.args.drivers.now (c.before.before.before.before.loop.j - 1) 0)
+  on_is : lt_z (to_z w32 (of_z w32 mask)) (pos 0) ≡ bits (get_or start.args.drivers.now (c.loop-j.j - 1) 0)
   on_is =
       ap (λ (z : ℤ). lt_z z (pos 0)) (to_z-of_z mask_fits)
       ∙ on_sign mask
-      ∙ sym (lane_bit start.args.masks.now start.args.f c.before.wide.result c.before.wide.ensures.1)
-      ∙ ap bits c.before.wide.ensures.0
+      ∙ sym (lane_bit start.args.masks.now start.args.f c.wide-driver.result c.wide-driver.ensures.1)
+      ∙ ap bits c.wide-driver.ensures.0
 
-mul_word : tie.Need-overflow-mul-word invariant-loop decreases-loop
-mul_word c = record { fits = omega (arith, word_fits c.before.before.before.before.loop.invariant (start c).requires.0) }
+mul_word : tie.Need-overflow_mul-word invariant-loop decreases-loop
+mul_word c = record { fits = omega (arith, word_fits c.loop-j.invariant (start c).requires.0) }
 
-add_word : tie.Need-overflow-add-word invariant-loop decreases-loop
+add_word : tie.Need-overflow_add-word invariant-loop decreases-loop
 add_word c =
-    let small = word_fits c.before.before.before.before.loop.invariant (start c).requires.0 in
+    let small = word_fits c.loop-j.invariant (start c).requires.0 in
     record { fits = omega (arith, small, byte_below (lt_z (to_z w32 (of_z w32 (mask c))) (pos 0))) }
 
-loop_again : tie.Need-loop-preserved invariant-loop decreases-loop
-loop_again c = rw (on_is c) (word_next c.before.before.before.before.loop.invariant (omega arith))
+loop_again : tie.Need-loop-j-preserved invariant-loop decreases-loop
+loop_again c = rw (on_is c) (word_next c.loop-j.invariant (omega arith))
 
 returns : tie.Need-returns invariant-loop decreases-loop
-returns c = word_all c.before.loop.invariant (omega arith)
+returns c = word_all c.loop-j.invariant (omega arith)
 
 pub lane_word_spec : {M : Type 1} → statement M
 lane_word_spec =

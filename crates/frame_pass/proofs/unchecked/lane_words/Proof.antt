@@ -14,24 +14,24 @@ use Rattle.frame_pass.proofs.LaneLaws.{words_all}
 use Rattle.frame_pass.proofs.unchecked.lane_words.Statement.{statement}
 use Rattle.frame_pass.proofs.unchecked.lane_words.Tie as tie
 
-abbrev invariant-loop : tie.invariant-loop
+abbrev invariant-loop : tie.invariant-loop-f
 invariant-loop drivers masks outputs lanes words₀ f₀ words f =
     (f ≤ lanes) × Pasted 0 0 f (λ k. word_of (map (bits_in (lane masks k)) (tab outputs (λ j. get_or drivers j 0)))) (replicate 64 0) words
 
-abbrev decreases-loop : tie.decreases-loop
+abbrev decreases-loop : tie.decreases-loop-f
 decreases-loop drivers masks outputs lanes words₀ f₀ words f = lanes - f
 
-loop_holds : tie.Need-loop-init invariant-loop decreases-loop
+loop_holds : tie.Need-loop-f-init invariant-loop decreases-loop
 loop_holds c = (omega arith, pasted_none _ _ _ _)
 
-lane_word_requires : tie.Need-lane-word-requires invariant-loop decreases-loop
-lane_word_requires c κs = (c.before.before.requires.0, omega arith)
+lane_word_requires : tie.Need-lane_word-requires invariant-loop decreases-loop
+lane_word_requires c κs = (c.requires.0, omega arith)
 
-loop_again : tie.Need-loop-preserved invariant-loop decreases-loop
-loop_again c = (omega arith, pasted_more _ _ c.before.before.loop.invariant.1 (omega arith) c.lane_word.ensures)
+loop_again : tie.Need-loop-f-preserved invariant-loop decreases-loop
+loop_again c = (omega arith, pasted_more _ _ c.loop-f.invariant.1 (omega arith) c.lane_word.ensures)
 
 returns : tie.Need-returns invariant-loop decreases-loop
-returns c = words_all c.before.loop.invariant.1 (omega arith) (omega arith)
+returns c = words_all c.loop-f.invariant.1 (omega arith) (omega arith)
 
 pub lane_words_spec : {M : Type 1} → statement M
 lane_words_spec =

@@ -15,27 +15,26 @@ use Rattle.frame_pass.proofs.LaneLaws.{put_all}
 use Rattle.frame_pass.proofs.unchecked.put_input.Statement.{statement}
 use Rattle.frame_pass.proofs.unchecked.put_input.Tie as tie
 
-abbrev invariant-loop : tie.invariant-loop
+abbrev invariant-loop : tie.invariant-loop-f
 invariant-loop masks₀ frames i f₀ f-end masks f =
     (f ≤ length frames) × Pasted (pos 0) (64 * i) f (λ k. mask_of (frame (get_or frames k 0) i)) masks₀ masks
 
-abbrev decreases-loop : tie.decreases-loop
+abbrev decreases-loop : tie.decreases-loop-f
 decreases-loop masks₀ frames i f₀ f-end masks f = length frames - f
 
-loop_holds : tie.Need-loop-init invariant-loop decreases-loop
+loop_holds : tie.Need-loop-f-init invariant-loop decreases-loop
 loop_holds c = (omega arith, pasted_none _ _ _ _)
 
-loop_again : tie.Need-loop-preserved invariant-loop decreases-loop
+loop_again : tie.Need-loop-f-preserved invariant-loop decreases-loop
 unfolding frame
 loop_again c =
-    (omega arith, pasted_more _ _ c.before.before.before.loop.invariant.1 refl (read_back w32 c.mask-of.type-inv c.mask-of.ensures))
+    (omega arith, pasted_more _ _ c.loop-f.invariant.1 refl (read_back w32 c.mask_of.type_inv c.mask_of.ensures))
 
 returns : tie.Need-returns invariant-loop decreases-loop
 returns c =
-    let s = c.before.before.before in
-    let e : c.before.loop.f ≡ length s.args.frames.now = omega arith in
-    put_all (λ k. frame (get_or s.args.frames.now k 0) s.args.i) s.requires.masked (rw e at c.before.loop.invariant.1)
-    (omega arith) (omega arith) s.requires.few
+    let e : c.loop-f.f ≡ length c.args.frames.now = omega arith in
+    put_all (λ k. frame (get_or c.args.frames.now k 0) c.args.i) c.requires.masked (rw e at c.loop-f.invariant.1)
+    (omega arith) (omega arith) c.requires.few
 
 pub put_input_spec : {M : Type 1} → statement M
 put_input_spec =

@@ -7,30 +7,28 @@ use Rattle.frame_pass.proofs.SignalLaneLaws.{InputLanes, input_lanes_none, input
 use Rattle.frame_pass.proofs.unchecked.put_inputs.Statement.{statement}
 use Rattle.frame_pass.proofs.unchecked.put_inputs.Tie as tie
 
-abbrev invariant-loop : tie.invariant-loop
+abbrev invariant-loop : tie.invariant-loop-i
 invariant-loop masks₀ frames inputs i₀ masks i = (i ≤ inputs) × InputLanes frames i masks
 
-abbrev decreases-loop : tie.decreases-loop
+abbrev decreases-loop : tie.decreases-loop-i
 decreases-loop masks₀ frames inputs i₀ masks i = inputs - i
 
-loop_holds : tie.Need-loop-init invariant-loop decreases-loop
-loop_holds c = (omega arith, input_lanes_none c.before.args.frames.now c.before.requires.blank)
+loop_holds : tie.Need-loop-i-init invariant-loop decreases-loop
+loop_holds c = (omega arith, input_lanes_none c.args.frames.now c.requires.blank)
 
-put_input_requires : tie.Need-put-input-requires invariant-loop decreases-loop
+put_input_requires : tie.Need-put_input-requires invariant-loop decreases-loop
 put_input_requires c κs =
-    let s = c.before.before.before.before in
-    record { masked = c.before.before.loop.invariant.1.masked; few = s.requires.few; input = omega (arith, s.requires.few_inputs) }
+    record { masked = c.loop-i.invariant.1.masked; few = c.requires.few; input = omega (arith, c.requires.few_inputs) }
 
-loop_again : tie.Need-loop-preserved invariant-loop decreases-loop
+loop_again : tie.Need-loop-i-preserved invariant-loop decreases-loop
 loop_again c =
-    let few = c.before.before.before.before.before.requires.few_inputs in
-    (omega arith, input_lanes_next c.before.before.before.loop.invariant.1 (omega (arith, few)) c.put-input.ensures)
+    let few = c.requires.few_inputs in
+    (omega arith, input_lanes_next c.loop-i.invariant.1 (omega (arith, few)) c.put_input.ensures)
 
 returns : tie.Need-returns invariant-loop decreases-loop
 returns c =
-    let s = c.before.before.before in
-    let e : c.before.loop.i ≡ s.args.inputs = omega arith in
-    input_lanes_all (rw e at c.before.loop.invariant.1) s.requires
+    let e : c.loop-i.i ≡ c.args.inputs = omega arith in
+    input_lanes_all (rw e at c.loop-i.invariant.1) c.requires
 
 pub put_inputs_spec : {M : Type 1} → statement M
 put_inputs_spec =

@@ -18,12 +18,11 @@ use Rattle.frame_reading.proofs.unchecked.gate_bit.Tie as tie
 returns : tie.Need-returns
 unfolding bit gate_from
 returns c =
-    let a = c.before.before.before.before.before.args in
-    let t = c.before.before.before in
-    let threshold_fits : SFits w32 (get_or a.thresholds.now a.g (pos 0)) = record { sfits = t.before.widened-arg.given } in
-    ap₂ le_z (read_back w64 t.widened.type-inv (t.widened.ensures ∙ to_z-of_z threshold_fits))
-    (read_back w64 c.gate-sum.type-inv (c.gate-sum.ensures
-    ∙ ap (λ (n : ℕ). sum (bits_in a.values.now) (feeds_from a.signals.now a.weights.now (16 * a.g) n)) c.before.wide.ensures.0))
+    let a = c.args in
+    let threshold_fits : SFits w32 (get_or a.thresholds.now a.g (pos 0)) = record { sfits = c.widened-arg-1.given } in
+    ap₂ le_z (read_back w64 c.widened-threshold.type_inv (c.widened-threshold.ensures ∙ to_z-of_z threshold_fits))
+    (read_back w64 c.gate_sum-total.type_inv (c.gate_sum-total.ensures
+    ∙ ap (λ (n : ℕ). sum (bits_in a.values.now) (feeds_from a.signals.now a.weights.now (16 * a.g) n)) c.wide-count.ensures.0))
 
 pub gate_bit_spec : {M : Type 1} → statement M
 gate_bit_spec =

@@ -17,19 +17,19 @@ use Rattle.frame_reading.proofs.SumLaws.{share, share_is, share_fits, Added, add
 use Rattle.frame_reading.proofs.unchecked.gate_sum.Statement.{statement}
 use Rattle.frame_reading.proofs.unchecked.gate_sum.Tie as tie
 
-abbrev invariant-loop : tie.invariant-loop
+abbrev invariant-loop : tie.invariant-loop-i
 invariant-loop signals weights values base count total₀ i₀ total i = Added 2147483648 (bits_in values) signals weights base count i (to_z w64 total)
 
-abbrev decreases-loop : tie.decreases-loop
+abbrev decreases-loop : tie.decreases-loop-i
 decreases-loop signals weights values base count total₀ i₀ total i = count - i
 
-loop_holds : tie.Need-loop-init invariant-loop decreases-loop
+loop_holds : tie.Need-loop-i-init invariant-loop decreases-loop
 loop_holds c = added_none _ _ _ _ _ _
 
 -- a turn: the weight at this place, and the bit times the weight, which is what the feed adds
-module _ (c : tie.After-total invariant-loop decreases-loop) where
-  abbrev at : tie.At-loop invariant-loop decreases-loop
-  at = c.before.before.before.before.before.before
+module _ (c : tie.After-total-1 invariant-loop decreases-loop) where
+  abbrev at : tie.At-loop-i invariant-loop decreases-loop
+  at = c.before.before.before.before.before.before.before.before
 
   abbrev start : tie.Start invariant-loop decreases-loop
   start = at.before
@@ -38,7 +38,7 @@ module _ (c : tie.After-total invariant-loop decreases-loop) where
   bits = start.args.values.now
 
   abbrev place : ℕ
-  place = start.args.base + at.loop.i
+  place = start.args.base + at.loop-i.i
 
   abbrev w : ℤ
   w = get_or start.args.weights.now place (pos 0)
@@ -47,37 +47,37 @@ module _ (c : tie.After-total invariant-loop decreases-loop) where
   x = share (bits_in bits) start.args.signals.now start.args.weights.now place
 
   w_fits : SFits w32 w
-  w_fits = record { sfits = c.before.before.widened-arg.given }
+  w_fits = record { sfits = c.widened-arg-1.given }
 
-  w_is : to_z w64 (of_z w64 c.before.widened.result) ≡ w
-  w_is = read_back w64 c.before.widened.type-inv (c.before.widened.ensures ∙ to_z-of_z w_fits)
+  w_is : to_z w64 (of_z w64 c.widened-weight.result) ≡ w
+  w_is = read_back w64 c.widened-weight.type_inv (c.widened-weight.ensures ∙ to_z-of_z w_fits)
 
-  x_is : to_z w64 (bool_byte (get_or bits c.before.before.before.wide.result false)) *ℤ to_z w64 (of_z w64 c.before.widened.result) ≡ x
+  x_is : to_z w64 (bool_byte (get_or bits c.wide-signal.result false)) *ℤ to_z w64 (of_z w64 c.widened-weight.result) ≡ x
   x_is =
-      let signal = c.before.before.before.wide in
+      let signal = c.wide-signal in
       share_is bits start.args.signals.now start.args.weights.now place signal.result _ signal.ensures.0 w_is
 
   x_fits : SFits w64 x
   x_fits = share_fits (bits_in bits) start.args.signals.now start.args.weights.now place (fits_size w_fits)
 
   added : Added 2147483648 (bits_in bits) start.args.signals.now start.args.weights.now start.args.base start.args.count
-      (at.loop.i + 1) (to_z w64 at.loop.total +ℤ x)
-  added = added_next at.loop.inv (omega arith) (fits_size w_fits)
+      (at.loop-i.i + 1) (to_z w64 at.loop-i.total-bits +ℤ x)
+  added = added_next at.loop-i.inv (omega arith) (fits_size w_fits)
 
-  sum_fits : SFits w64 (to_z w64 at.loop.total +ℤ x)
-  sum_fits = added_fits added start.pre.1
+  sum_fits : SFits w64 (to_z w64 at.loop-i.total-bits +ℤ x)
+  sum_fits = added_fits added start.requires.1
 
-mul_total : tie.Need-overflow-mul-total invariant-loop decreases-loop
+mul_total : tie.Need-overflow_mul-total invariant-loop decreases-loop
 mul_total c = rw (x_is c) (x_fits c)
 
-add_total : tie.Need-overflow-add-total invariant-loop decreases-loop
+add_total : tie.Need-overflow_add-total invariant-loop decreases-loop
 add_total c = rw (x_is c, to_z-of_z (x_fits c)) (sum_fits c)
 
-loop_again : tie.Need-loop-preserved invariant-loop decreases-loop
+loop_again : tie.Need-loop-i-preserved invariant-loop decreases-loop
 loop_again c = rw (x_is c, to_z-of_z (x_fits c), to_z-of_z (sum_fits c)) (added c)
 
 returns : tie.Need-returns invariant-loop decreases-loop
-returns c = added_all c.before.loop.invariant (omega arith)
+returns c = added_all c.loop-i.invariant (omega arith)
 
 pub gate_sum_spec : {M : Type 1} → statement M
 gate_sum_spec =

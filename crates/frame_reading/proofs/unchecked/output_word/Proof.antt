@@ -9,29 +9,27 @@ use Rattle.basics.specs.TestLaws.{byte_below}
 use Rattle.frame_reading.proofs.unchecked.output_word.Statement.{statement}
 use Rattle.frame_reading.proofs.unchecked.output_word.Tie as tie
 
-abbrev invariant-loop : tie.invariant-loop
+abbrev invariant-loop : tie.invariant-loop-j
 invariant-loop drivers values outputs word₀ j₀ word j = WordFrom (bits_in values) (λ k. get_or drivers k 0) outputs j word
 
-abbrev decreases-loop : tie.decreases-loop
+abbrev decreases-loop : tie.decreases-loop-j
 decreases-loop drivers values outputs word₀ j₀ word j = j
 
-loop_holds : tie.Need-loop-init invariant-loop decreases-loop
+loop_holds : tie.Need-loop-j-init invariant-loop decreases-loop
 loop_holds c = word_none _ _ _
 
-mul_word : tie.Need-overflow-mul-word invariant-loop decreases-loop
-mul_word c = omega (arith, word_fits c.before.before.before.loop.invariant c.before.before.before.before.requires)
+mul_word : tie.Need-overflow_mul-word invariant-loop decreases-loop
+mul_word c = omega (arith, word_fits c.loop-j.invariant c.requires)
 
-add_word : tie.Need-overflow-add-word invariant-loop decreases-loop
+add_word : tie.Need-overflow_add-word invariant-loop decreases-loop
 add_word c =
-    let at_loop = c.before.before.before.before in
-    let s = at_loop.before in
-    omega (arith, word_fits at_loop.loop.invariant s.requires, byte_below (get_or s.args.values.now c.before.wide.result false))
+    omega (arith, word_fits c.loop-j.invariant c.requires, byte_below (get_or c.args.values.now c.wide-driver.result false))
 
-loop_again : tie.Need-loop-preserved invariant-loop decreases-loop
-loop_again c = rw c.before.wide.ensures.0 (word_next c.before.before.before.before.loop.invariant (omega arith))
+loop_again : tie.Need-loop-j-preserved invariant-loop decreases-loop
+loop_again c = rw c.wide-driver.ensures.0 (word_next c.loop-j.invariant (omega arith))
 
 returns : tie.Need-returns invariant-loop decreases-loop
-returns c = word_all c.before.loop.invariant (omega arith)
+returns c = word_all c.loop-j.invariant (omega arith)
 
 pub output_word_spec : {M : Type 1} → statement M
 output_word_spec =

@@ -16,17 +16,14 @@ use Rattle.frame_reading.specs.declared.Reading.{Reading}
 use Rattle.frame_reading.proofs.unchecked.read_outputs.Statement.{statement}
 use Rattle.frame_reading.proofs.unchecked.read_outputs.Tie as tie
 
-signal_values_requires : tie.Need-signal-values-requires
+signal_values_requires : tie.Need-signal_values-values-requires
 signal_values_requires c κs =
-    let s = c.before.before.before.before.before in
-    let sized = sized_of _ s.requires.0 in
-    record { few_inputs = sized.few_inputs; few_gates = sized.few_gates; few_feeds = sized.few_feeds; fits = s.requires.1 }
+    let sized = sized_of _ c.requires.0 in
+    record { few_inputs = sized.few_inputs; few_gates = sized.few_gates; few_feeds = sized.few_feeds; fits = c.requires.1 }
 
-output_word_requires : tie.Need-output-word-requires
+output_word_requires : tie.Need-output_word-word-requires
 output_word_requires c κs =
-    let at_values = c.before.before.before in
-    let s = at_values.before.before.before.before.before.before in
-    (sized_of _ s.requires.0).few_outputs
+    (sized_of _ c.requires.0).few_outputs
 
 -- the word of some bits, with the count of its ones, is the reading of these bits
 as_reading_lem : (bs : List Bool) (w : ℕ) → w ≡ word_of bs
@@ -36,11 +33,10 @@ as_reading_lem bs w e = rw (e, ones_word)
 returns : tie.Need-returns
 unfolding as_reading output_bits values net_of
 returns c =
-    let at_values = c.before.before.before.before in
-    let a = at_values.before.before.before.before.before.before.args in
+    let a = c.args in
     as_reading_lem (output_bits (net_of a.t1) (frame a.x)) _
-    (c.output-word.ensures
-    ∙ ap (λ (ρ : Assignment). word_of (map ρ (tab a.t1.outputs (λ j. get_or a.t1.drivers j 0)))) at_values.signal-values.ensures)
+    (c.output_word-word.ensures
+    ∙ ap (λ (ρ : Assignment). word_of (map ρ (tab a.t1.outputs (λ j. get_or a.t1.drivers j 0)))) c.signal_values-values.ensures)
 
 pub read_outputs_spec : {M : Type 1} → statement M
 read_outputs_spec = tie.close (tie.spec signal_values_requires output_word_requires returns)

@@ -6,10 +6,7 @@ use Rattle.journal_entry.proofs.unchecked.enter_bytes.Tie as tie
 
 returns : tie.Need-returns
 returns c =
-    let at_store = c.before.before in
-    let at_raise = at_store.before.before.before.before in
-    let start = at_raise.before.before.before.before in
-    raised_entered start.args.front.now start.requires at_raise.raise-bytes.ensures at_store.store_Bytes.ensures
+    raised_entered c.args.front.now c.requires c.raise_bytes.ensures c.store_bytes.ensures
 
 pub enter_bytes_spec : {M : Type 1} → statement M
 enter_bytes_spec =

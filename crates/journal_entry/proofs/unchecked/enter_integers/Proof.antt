@@ -6,9 +6,7 @@ use Rattle.journal_entry.proofs.unchecked.enter_integers.Tie as tie
 
 returns : tie.Need-returns
 returns c =
-    let start = c.before.before.before.before.before.before in
-    let store = c.before in
-    raised_entered start.args.front.now start.requires store.before.before.before.raise-integers.ensures store.store-integers.ensures
+    raised_entered c.args.front.now c.requires c.raise_integers.ensures c.store_integers.ensures
 
 pub enter_integers_spec : {M : Type 1} → statement M
 enter_integers_spec =

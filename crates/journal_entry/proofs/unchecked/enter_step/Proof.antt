@@ -24,47 +24,39 @@ threshold_back : (c : tie.Start) → to_z w32 (of_z w32 c.args.gate.threshold) �
 threshold_back c = read_back w32 {r = c.args.gate.threshold} (search rules) refl
 
 -- the start, from where the threshold is entered
-abbrev start_of : tie.After-enter-integers → tie.Start
+abbrev start_of : tie.After-enter_integers → tie.Start
 start_of c =
     let fanins = c.before.before.before.before in
     let signals = fanins.before.before.before in
     let kinds = signals.before.before.before in
     kinds.before.before.before
 
-enter_bytes_requires_4 : tie.Need-enter-bytes-requires-4
+enter_bytes_requires_4 : tie.Need-enter_bytes-requires-4
 enter_bytes_requires_4 c κs =
-    let thresholds = c.before.before.before in
-    omega (arith, c.before.enter-bytes-arg4.given.0.1, long_row_signals (start_of thresholds))
+    omega (arith, c.enter_bytes-arg-4-1.given.0.1, long_row_signals (start_of c))
 
-enter_integers_requires_2 : tie.Need-enter-integers-requires-2
+enter_integers_requires_2 : tie.Need-enter_integers-requires-2
 enter_integers_requires_2 c κs =
-    let feeds = c.before.before.before in
-    let thresholds = feeds.before.before.before.before in
-    omega (arith, c.before.enter-integers-arg2.given.0.1, long_row_weights (start_of thresholds))
+    omega (arith, c.enter_integers-arg-2-1.given.0.1, long_row_weights (start_of c))
 
 returns : tie.Need-returns
 returns c =
-    let feeds = c.before.before.before.before in
-    let thresholds = feeds.before.before.before.before in
-    let fanins = thresholds.before.before.before.before in
-    let signals = fanins.before.before.before in
-    let kinds = signals.before.before.before in
-    let start = kinds.before.before.before in
+    let start = c.before.before.before.before.before.before.before.before.before.before.before.before.before.before.before.before.before.before.before.before.before in
     let a = start.args in
     record {
-      kinds_are = kinds.enter-bytes.ensures
-          ∙ ap (λ (k : ℕ). take k (a.kind ∷ a.kinds.now)) kinds.before.before.enter-bytes-arg.given.0.1;
-      signals_are = signals.enter-bytes2.ensures
-          ∙ ap (λ (k : ℕ). take k (a.signal ∷ a.signals.now)) signals.before.before.enter-bytes-arg2.given.0.1;
-      fanins_are = fanins.enter-bytes3.ensures
-          ∙ ap (λ (k : ℕ). take k (a.gate.fanin ∷ a.fanins.now)) fanins.before.before.enter-bytes-arg3.given.0.1;
-      thresholds_are = thresholds.enter-integers.ensures
-          ∙ ap (λ (k : ℕ). take k (to_z w32 (of_z w32 a.gate.threshold) ∷ a.thresholds.now)) thresholds.before.before.enter-integers-arg.given.0.1
+      kinds_are = c.enter_bytes.ensures
+          ∙ ap (λ (k : ℕ). take k (a.kind ∷ a.kinds.now)) c.enter_bytes-arg-1.given.0.1;
+      signals_are = c.enter_bytes-2.ensures
+          ∙ ap (λ (k : ℕ). take k (a.signal ∷ a.signals.now)) c.enter_bytes-arg-2-1.given.0.1;
+      fanins_are = c.enter_bytes-3.ensures
+          ∙ ap (λ (k : ℕ). take k (a.gate.fanin ∷ a.fanins.now)) c.enter_bytes-arg-3-1.given.0.1;
+      thresholds_are = c.enter_integers.ensures
+          ∙ ap (λ (k : ℕ). take k (to_z w32 (of_z w32 a.gate.threshold) ∷ a.thresholds.now)) c.enter_integers-arg-1.given.0.1
           ∙ ap (λ (z : ℤ). take 64 (z ∷ a.thresholds.now)) (threshold_back start);
-      feeds_are = feeds.enter-bytes4.ensures
-          ∙ ap (λ (k : ℕ). take k (a.gate.signals ++ a.feeds.now)) feeds.before.before.enter-bytes-arg4.given.0.1;
-      weights_are = c.enter-integers2.ensures
-          ∙ ap (λ (k : ℕ). take k (a.gate.weights ++ a.weights.now)) c.before.before.enter-integers-arg2.given.0.1;
+      feeds_are = c.enter_bytes-4.ensures
+          ∙ ap (λ (k : ℕ). take k (a.gate.signals ++ a.feeds.now)) c.enter_bytes-arg-4-1.given.0.1;
+      weights_are = c.enter_integers-2.ensures
+          ∙ ap (λ (k : ℕ). take k (a.gate.weights ++ a.weights.now)) c.enter_integers-arg-2-1.given.0.1;
     }
 
 pub enter_step_spec : {M : Type 1} → statement M

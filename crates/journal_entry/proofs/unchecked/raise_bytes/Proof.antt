@@ -9,25 +9,25 @@ use Rattle.journal_entry.specs.EnteringLaws.{raised_none, raised_more}
 use Rattle.journal_entry.proofs.unchecked.raise_bytes.Statement.{statement}
 use Rattle.journal_entry.proofs.unchecked.raise_bytes.Tie as tie
 
-abbrev invariant-loop : tie.invariant-loop
+abbrev invariant-loop : tie.invariant-loop-p
 invariant-loop bytes₀ gap p₀ bytes p = (gap ≤ p) × (p ≤ length bytes₀) × ShiftedUp 0 gap p bytes₀ bytes
 
-abbrev decreases-loop : tie.decreases-loop
+abbrev decreases-loop : tie.decreases-loop-p
 decreases-loop bytes₀ gap p₀ bytes p = p
 
-loop_holds : tie.Need-loop-init invariant-loop decreases-loop
+loop_holds : tie.Need-loop-p-init invariant-loop decreases-loop
 loop_holds c = (omega arith, omega arith, raised_none _ _ _)
 
-loop_again : tie.Need-loop-preserved invariant-loop decreases-loop
+loop_again : tie.Need-loop-p-preserved invariant-loop decreases-loop
 loop_again c =
-    let inv = c.before.before.loop.invariant in
-    (omega arith, omega arith, raised_more _ _ _ inv.2 inv.1 c.before.loop-test.true refl refl refl)
+    let inv = c.loop-p.invariant in
+    (omega arith, omega arith, raised_more _ _ _ inv.2 inv.1 c.loop-p-test.true refl refl refl)
 
-same_length : tie.Need-same-length invariant-loop decreases-loop
-same_length c = c.before.loop.invariant.2.long
+same_length : tie.Need-shape_of-bytes invariant-loop decreases-loop
+same_length c = c.loop-p.invariant.2.long
 
 returns : tie.Need-returns invariant-loop decreases-loop
-returns c = let low : c.before.loop.p ≡ c.before.before.args.gap = omega arith in rw low at c.before.loop.invariant.2
+returns c = let low : c.loop-p.p ≡ c.args.gap = omega arith in rw low at c.loop-p.invariant.2
 
 pub raise_bytes_spec : {M : Type 1} → statement M
 raise_bytes_spec =

@@ -12,25 +12,25 @@ use Rattle.journal_entry.specs.EnteringLaws.{raised_none, raised_more}
 use Rattle.journal_entry.proofs.unchecked.raise_integers.Statement.{statement}
 use Rattle.journal_entry.proofs.unchecked.raise_integers.Tie as tie
 
-abbrev invariant-loop : tie.invariant-loop
+abbrev invariant-loop : tie.invariant-loop-p
 invariant-loop integers₀ gap p₀ integers p = (gap ≤ p) × (p ≤ length integers₀) × ShiftedUp (pos 0) gap p integers₀ integers
 
-abbrev decreases-loop : tie.decreases-loop
+abbrev decreases-loop : tie.decreases-loop-p
 decreases-loop integers₀ gap p₀ integers p = p
 
-loop_holds : tie.Need-loop-init invariant-loop decreases-loop
+loop_holds : tie.Need-loop-p-init invariant-loop decreases-loop
 loop_holds c = (omega arith, omega arith, raised_none _ _ _)
 
-loop_again : tie.Need-loop-preserved invariant-loop decreases-loop
+loop_again : tie.Need-loop-p-preserved invariant-loop decreases-loop
 loop_again c =
-    let inv = c.before.before.loop.invariant in
-    (omega arith, omega arith, raised_more _ _ _ inv.2 inv.1 c.before.loop-test.true refl refl (read_back w32 c.integer.given refl))
+    let inv = c.loop-p.invariant in
+    (omega arith, omega arith, raised_more _ _ _ inv.2 inv.1 c.loop-p-test.true refl refl (read_back w32 c.integer-1.given refl))
 
-same_length : tie.Need-same-length invariant-loop decreases-loop
-same_length c = c.before.loop.invariant.2.long
+same_length : tie.Need-shape_of-integers invariant-loop decreases-loop
+same_length c = c.loop-p.invariant.2.long
 
 returns : tie.Need-returns invariant-loop decreases-loop
-returns c = let low : c.before.loop.p ≡ c.before.before.args.gap = omega arith in rw low at c.before.loop.invariant.2
+returns c = let low : c.loop-p.p ≡ c.args.gap = omega arith in rw low at c.loop-p.invariant.2
 
 pub raise_integers_spec : {M : Type 1} → statement M
 raise_integers_spec =

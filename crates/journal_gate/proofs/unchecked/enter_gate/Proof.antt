@@ -5,8 +5,7 @@ use Rattle.journal_gate.proofs.unchecked.enter_gate.Tie as tie
 
 returns : tie.Need-returns
 returns c =
-    let lent = c.before.before.before.before.before.before in
-    rw lent.before.gate-at.ensures at c.enter_step.ensures
+    rw c.gate_at-row.ensures at c.enter_step.ensures
 
 pub enter_gate_spec : {M : Type 1} → statement M
 enter_gate_spec = tie.close (tie.spec (λ c κs. search rules) (λ c κs. search rules) returns)

@@ -10,33 +10,32 @@ use Rattle.journal.specs.ShiftLaws.{tab_drop}
 use Rattle.journal_newest.proofs.unchecked.bytes_after.Statement.{statement}
 use Rattle.journal_newest.proofs.unchecked.bytes_after.Tie as tie
 
-abbrev invariant-loop : tie.invariant-loop
+abbrev invariant-loop : tie.invariant-loop-p
 invariant-loop bytes gap out₀ p₀ p-end out p = (p ≤ p-end) × Pasted 0 0 p (λ k. get_or bytes (k + gap) 0) out₀ out
 
-abbrev decreases-loop : tie.decreases-loop
+abbrev decreases-loop : tie.decreases-loop-p
 decreases-loop bytes gap out₀ p₀ p-end out p = p-end - p
 
-loop_holds : tie.Need-loop-init invariant-loop decreases-loop
+loop_holds : tie.Need-loop-p-init invariant-loop decreases-loop
 loop_holds c = (omega arith, pasted_none _ _ _ _)
 
-slice_write_out : tie.Need-slice-write-out invariant-loop decreases-loop
-slice_write_out c = omega (arith, c.before.before.loop.invariant.1.long)
+slice_write_out : tie.Need-bounds-out-p invariant-loop decreases-loop
+slice_write_out c = omega (arith, c.loop-p.invariant.1.long)
 
-loop_again : tie.Need-loop-preserved invariant-loop decreases-loop
+loop_again : tie.Need-loop-p-preserved invariant-loop decreases-loop
 loop_again c =
-    let loop = c.before.before.loop in
-    (omega arith, pasted_more _ _ loop.invariant.1 (omega arith) c.byte_at.ensures)
+    let loop = c.loop-p in
+    (omega arith, pasted_more _ _ loop.invariant.1 (omega arith) c.byte_at-byte.ensures)
 
-same_length : tie.Need-same-length invariant-loop decreases-loop
-same_length c = c.before.loop.invariant.1.long
+same_length : tie.Need-shape_of-out invariant-loop decreases-loop
+same_length c = c.loop-p.invariant.1.long
 
 returns : tie.Need-returns invariant-loop decreases-loop
 returns c =
-    let start = c.before.before.before.before in
-    let a = start.args in
-    let full : c.before.loop.p ≡ length a.bytes.now = omega arith in
-    pasted_tab (rw full at c.before.loop.invariant.1) start.requires.0
-    ∙ tab_drop 0 (length a.bytes.now) a.gap a.bytes.now refl start.requires.1
+    let a = c.args in
+    let full : c.loop-p.p ≡ length a.bytes.now = omega arith in
+    pasted_tab (rw full at c.loop-p.invariant.1) c.requires.0
+    ∙ tab_drop 0 (length a.bytes.now) a.gap a.bytes.now refl c.requires.1
 
 pub bytes_after_spec : {M : Type 1} → statement M
 bytes_after_spec =

@@ -13,33 +13,32 @@ use Rattle.journal.specs.ShiftLaws.{tab_drop}
 use Rattle.journal_newest.proofs.unchecked.integers_after.Statement.{statement}
 use Rattle.journal_newest.proofs.unchecked.integers_after.Tie as tie
 
-abbrev invariant-loop : tie.invariant-loop
+abbrev invariant-loop : tie.invariant-loop-p
 invariant-loop integers gap out₀ p₀ p-end out p = (p ≤ p-end) × Pasted (pos 0) 0 p (λ k. get_or integers (k + gap) (pos 0)) out₀ out
 
-abbrev decreases-loop : tie.decreases-loop
+abbrev decreases-loop : tie.decreases-loop-p
 decreases-loop integers gap out₀ p₀ p-end out p = p-end - p
 
-loop_holds : tie.Need-loop-init invariant-loop decreases-loop
+loop_holds : tie.Need-loop-p-init invariant-loop decreases-loop
 loop_holds c = (omega arith, pasted_none _ _ _ _)
 
-slice_set_from_integer : tie.Need-slice-set-from-integer invariant-loop decreases-loop
-slice_set_from_integer c = omega (arith, c.before.before.loop.invariant.1.long)
+slice_set_from_integer : tie.Need-bounds-out-p invariant-loop decreases-loop
+slice_set_from_integer c = omega (arith, c.loop-p.invariant.1.long)
 
-loop_again : tie.Need-loop-preserved invariant-loop decreases-loop
+loop_again : tie.Need-loop-p-preserved invariant-loop decreases-loop
 loop_again c =
-    let loop = c.before.before.loop in
-    (omega arith, pasted_more _ _ loop.invariant.1 (omega arith) (read_back w32 c.integer-at.type-inv c.integer-at.ensures))
+    let loop = c.loop-p in
+    (omega arith, pasted_more _ _ loop.invariant.1 (omega arith) (read_back w32 c.integer_at-integer.type_inv c.integer_at-integer.ensures))
 
-same_length : tie.Need-same-length invariant-loop decreases-loop
-same_length c = c.before.loop.invariant.1.long
+same_length : tie.Need-shape_of-out invariant-loop decreases-loop
+same_length c = c.loop-p.invariant.1.long
 
 returns : tie.Need-returns invariant-loop decreases-loop
 returns c =
-    let start = c.before.before in
-    let a = start.args in
-    let full : c.before.loop.p ≡ length a.integers.now = omega arith in
-    pasted_tab (rw full at c.before.loop.invariant.1) start.requires.0
-    ∙ tab_drop (pos 0) (length a.integers.now) a.gap a.integers.now refl start.requires.1
+    let a = c.args in
+    let full : c.loop-p.p ≡ length a.integers.now = omega arith in
+    pasted_tab (rw full at c.loop-p.invariant.1) c.requires.0
+    ∙ tab_drop (pos 0) (length a.integers.now) a.gap a.integers.now refl c.requires.1
 
 pub integers_after_spec : {M : Type 1} → statement M
 integers_after_spec =

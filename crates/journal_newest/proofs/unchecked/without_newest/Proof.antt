@@ -7,20 +7,14 @@ use Rattle.journal_newest.proofs.unchecked.without_newest.Tie as tie
 returns : tie.Need-returns
 unfolding without_newest
 returns c =
-    let weights = c.before in
-    let feeds = weights.before.before.before.before.before.before in
-    let thresholds = feeds.before.before.before.before.before.before in
-    let fanins = thresholds.before.before.before.before.before in
-    let signals = fanins.before.before.before in
-    let kinds = signals.before.before.before in
     λ x. record {
-      count = kinds.before.before.before.one_less.ensures x;
-      kinds = kinds.later-bytes.ensures x;
-      signals = signals.later-bytes2.ensures x;
-      fanins = fanins.later-bytes3.ensures x;
-      thresholds = thresholds.integers-after.ensures x;
-      feeds = feeds.bytes_after.ensures x;
-      weights = weights.integers-after2.ensures x;
+      count = c.one_less-count.ensures x;
+      c = c.later_bytes-kinds.ensures x;
+      c = c.later_bytes-signals.ensures x;
+      c = c.later_bytes-fanins.ensures x;
+      c = c.integers_after.ensures x;
+      c = c.bytes_after.ensures x;
+      c = c.integers_after-2.ensures x;
     }
 
 pub without_newest_spec : {M : Type 1} → statement M

@@ -8,9 +8,8 @@ use Rattle.network_gaps.proofs.unchecked.fanins_with_gap.Tie as tie
 
 returns : tie.Need-returns
 returns c =
-    let start = c.before.before.before.before in
-    let a = start.args in
-    c.before.bytes-with-gap.ensures ∙ ap (λ (k : ℕ). with_places 0 k a.g 1 a.fanins.now) start.requires.1
+    let a = c.args in
+    c.bytes_with_gap.ensures ∙ ap (λ (k : ℕ). with_places 0 k a.g 1 a.fanins.now) c.requires.1
 
 pub fanins_with_gap_spec : {M : Type 1} → statement M
 fanins_with_gap_spec = tie.close (tie.spec (λ c. search rules) (λ c κs. search rules) returns)

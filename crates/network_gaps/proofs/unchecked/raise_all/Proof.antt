@@ -13,41 +13,41 @@ use Rattle.network_places.specs.PasteLaws.{pasted_none, pasted_more, pasted_tab}
 use Rattle.network_gaps.proofs.unchecked.raise_all.Statement.{statement}
 use Rattle.network_gaps.proofs.unchecked.raise_all.Tie as tie
 
-abbrev invariant-loop : tie.invariant-loop
+abbrev invariant-loop : tie.invariant-loop-p
 invariant-loop signals₀ u p₀ p-end signals p = (p ≤ p-end) × Pasted 0 0 p (λ k. raised u (get_or signals₀ k 0)) signals₀ signals
 
-abbrev decreases-loop : tie.decreases-loop
+abbrev decreases-loop : tie.decreases-loop-p
 decreases-loop signals₀ u p₀ p-end signals p = p-end - p
 
-loop_holds : tie.Need-loop-init invariant-loop decreases-loop
+loop_holds : tie.Need-loop-p-init invariant-loop decreases-loop
 loop_holds c = (omega arith, pasted_none _ _ _ _)
 
-slice_read_signal : tie.Need-slice-read-signal invariant-loop decreases-loop
-slice_read_signal c = omega (arith, c.before.before.loop.invariant.1.long)
+slice_read_signal : tie.Need-bounds-signals-p invariant-loop decreases-loop
+slice_read_signal c = omega (arith, c.loop-p.invariant.1.long)
 
-raise_requires : tie.Need-raise-requires invariant-loop decreases-loop
+raise_requires : tie.Need-raise-higher-requires invariant-loop decreases-loop
 raise_requires c κs =
-    let loop = c.before.before.loop in
-    omega (arith, loop.invariant.1.after loop.p (omega arith), c.before.before.before.before.requires.each loop.p)
+    let loop = c.loop-p in
+    omega (arith, loop.invariant.1.after loop.p (omega arith), c.requires.each loop.p)
 
-slice_write_signals : tie.Need-slice-write-signals invariant-loop decreases-loop
-slice_write_signals c = omega (arith, c.before.before.before.loop.invariant.1.long)
+slice_write_signals : tie.Need-bounds-signals-p-in-loop-p invariant-loop decreases-loop
+slice_write_signals c = omega (arith, c.loop-p.invariant.1.long)
 
-loop_again : tie.Need-loop-preserved invariant-loop decreases-loop
+loop_again : tie.Need-loop-p-preserved invariant-loop decreases-loop
 loop_again c =
-    let loop = c.before.before.before.loop in
-    let a = c.before.before.before.before.before.args in
-    (omega arith, pasted_more _ _ loop.invariant.1 (omega arith) (c.raise.ensures ∙ ap (raised a.u) (loop.invariant.1.after loop.p (omega arith))))
+    let loop = c.loop-p in
+    let a = c.args in
+    (omega arith, pasted_more _ _ loop.invariant.1 (omega arith) (c.raise-higher.ensures ∙ ap (raised a.u) (loop.invariant.1.after loop.p (omega arith))))
 
-same_length : tie.Need-same-length invariant-loop decreases-loop
-same_length c = c.before.loop.invariant.1.long
+same_length : tie.Need-shape_of-signals invariant-loop decreases-loop
+same_length c = c.loop-p.invariant.1.long
 
 returns : tie.Need-returns invariant-loop decreases-loop
 returns c =
-    let a = c.before.before.before.args in
+    let a = c.args in
     let signals = a.signals.now in
-    let full : c.before.loop.p ≡ length signals = omega arith in
-    pasted_tab (rw full at c.before.loop.invariant.1) refl
+    let full : c.loop-p.p ≡ length signals = omega arith in
+    pasted_tab (rw full at c.loop-p.invariant.1) refl
     ∙ sym (map_tab (raised a.u) (length signals) (λ j. get_or signals j 0))
     ∙ ap (map (raised a.u)) (tab_of 0 (length signals) (λ j. get_or signals j 0) signals refl (λ i h. refl))
 

@@ -10,19 +10,16 @@ use Rattle.network_gaps.specs.GapLaws.{low_places}
 use Rattle.network_gaps.proofs.unchecked.signals_with_gap.Statement.{statement}
 use Rattle.network_gaps.proofs.unchecked.signals_with_gap.Tie as tie
 
-raise_all_requires : tie.Need-raise-all-requires
+raise_all_requires : tie.Need-raise_all-requires
 raise_all_requires c κs =
-    let start = c.before.before.before.before.before in
-    subst (MembersBelow 255) (sym c.before.before.bytes-with-gap.ensures)
-    (low_places 255 _ start.args.first 16 _ (omega arith) start.requires.2)
+    subst (MembersBelow 255) (sym c.bytes_with_gap.ensures)
+    (low_places 255 _ c.args.first 16 _ (omega arith) c.requires.2)
 
 returns : tie.Need-returns
 returns c =
-    let gap = c.before.before.before.before in
-    let start = gap.before.before.before in
-    let a = start.args in
-    c.before.raise-all.ensures
-    ∙ ap (map (raised a.u)) (gap.bytes-with-gap.ensures ∙ ap (λ (k : ℕ). with_places 0 k a.first 16 a.signals.now) start.requires.1)
+    let a = c.args in
+    c.raise_all.ensures
+    ∙ ap (map (raised a.u)) (c.bytes_with_gap.ensures ∙ ap (λ (k : ℕ). with_places 0 k a.first 16 a.signals.now) c.requires.1)
 
 pub signals_with_gap_spec : {M : Type 1} → statement M
 signals_with_gap_spec =

@@ -9,9 +9,8 @@ use Rattle.network_gaps.proofs.unchecked.weights_with_gap.Tie as tie
 
 returns : tie.Need-returns
 returns c =
-    let start = c.before.before.before.before in
-    let a = start.args in
-    c.before.integers-with-gap.ensures ∙ ap (λ (k : ℕ). with_places (pos 0) k a.first 16 a.weights.now) start.requires.1
+    let a = c.args in
+    c.integers_with_gap.ensures ∙ ap (λ (k : ℕ). with_places (pos 0) k a.first 16 a.weights.now) c.requires.1
 
 pub weights_with_gap_spec : {M : Type 1} → statement M
 weights_with_gap_spec = tie.close (tie.spec (λ c. search rules) (λ c κs. search rules) returns)

@@ -7,62 +7,58 @@ use Rattle.network_insertion.proofs.unchecked.insert_gate.Statement.{statement}
 use Rattle.network_insertion.proofs.unchecked.insert_gate.Tie as tie
 
 -- the lengths of the record's arrays
-shaped : (c : tie.Start) → ArrayLengths c.args.t1
+shaped : (c : tie.Start) → ArrayLengths c.args.network
 shaped c = record { fanins = search rules; signals = search rules; weights = search rules; thresholds = search rules; drivers = search rules }
 
 -- from where the gate is stored: the gaps, and the start
-abbrev weights_done : tie.After-weights → tie.After-weights-with-gap
+abbrev weights_done : tie.After-weights-1 → tie.After-weights_with_gap-weights
 weights_done c = c.before.before.before.before
 
-abbrev signals_done : tie.After-weights → tie.After-signals-with-gap
+abbrev signals_done : tie.After-weights-1 → tie.After-signals_with_gap-signals
 signals_done c = (weights_done c).before.before.before
 
-abbrev thresholds_done : tie.After-weights → tie.After-thresholds-with-gap
+abbrev thresholds_done : tie.After-weights-1 → tie.After-thresholds_with_gap-thresholds
 thresholds_done c = (signals_done c).before.before.before
 
-abbrev fanins_done : tie.After-weights → tie.After-fanins-with-gap
+abbrev fanins_done : tie.After-weights-1 → tie.After-fanins_with_gap-fanins
 fanins_done c = (thresholds_done c).before.before.before
 
-abbrev start_of : tie.After-weights → tie.Start
+abbrev start_of : tie.After-weights-1 → tie.Start
 start_of c = (fanins_done c).before.before.before
 
-fanins_with_gap_requires : tie.Need-fanins-with-gap-requires
-fanins_with_gap_requires c κs = let start = c.before.before in (omega (arith, start.requires.0), (shaped start).fanins)
+fanins_with_gap_requires : tie.Need-fanins_with_gap-fanins-requires
+fanins_with_gap_requires c κs = let start = c.before in (omega (arith, start.requires.0), (shaped start).fanins)
 
-thresholds_with_gap_requires : tie.Need-thresholds-with-gap-requires
+thresholds_with_gap_requires : tie.Need-thresholds_with_gap-thresholds-requires
 thresholds_with_gap_requires c κs =
-    let start = c.before.before.before.before.before in
+    let start = c.before.before.before in
     (omega (arith, start.requires.0), (shaped start).thresholds)
 
-signals_with_gap_requires : tie.Need-signals-with-gap-requires
+signals_with_gap_requires : tie.Need-signals_with_gap-signals-requires
 signals_with_gap_requires c κs =
-    let at_thresholds = c.before.before in
-    let start = at_thresholds.before.before.before.before.before.before in
-    (omega (arith, start.requires.0), (shaped start).signals, low_signals start.args.t1 (shaped start) start.requires.0.sound)
+    let start = c.before.before.before.before.before in
+    (omega (arith, start.requires.0), (shaped start).signals, low_signals start.args.network (shaped start) start.requires.0.sound)
 
-weights_with_gap_requires : tie.Need-weights-with-gap-requires
+weights_with_gap_requires : tie.Need-weights_with_gap-weights-requires
 weights_with_gap_requires c κs =
-    let at_signals = c.before.before in
-    let at_thresholds = at_signals.before.before.before in
-    let start = at_thresholds.before.before.before.before.before.before in
+    let start = c.before.before.before.before.before.before.before in
     (omega (arith, start.requires.0), (shaped start).weights)
 
-store_gate_requires : tie.Need-store-gate-requires
+store_gate_requires : tie.Need-store_gate-requires
 store_gate_requires c κs = omega (arith, (start_of c).requires.0)
 
-raised_drivers_requires : tie.Need-raised-drivers-requires
+raised_drivers_requires : tie.Need-raised_drivers-drivers-requires
 raised_drivers_requires c κs =
     let start = start_of c.before.before in
-    low_drivers start.args.t1 (shaped start) start.pre.0.sound
+    low_drivers start.args.network (shaped start) start.requires.0.sound
 
 returns : tie.Need-returns
 returns c =
-    let gaps = c.before.before.before in
-    let start = start_of gaps in
-    inserted_record start.args.t1 start.args.u start.args.gate (shaped start) start.pre.0 start.pre.1
-    (fanins_done gaps).fanins-with-gap.ensures (thresholds_done gaps).thresholds-with-gap.ensures
-    (signals_done gaps).signals-with-gap.ensures (weights_done gaps).weights-with-gap.ensures
-    c.before.before.store-gate.ensures c.raised-drivers.ensures
+    let start = start_of c in
+    inserted_record start.args.network start.args.u start.args.gate (shaped start) start.requires.0 start.requires.1
+    (fanins_done c).fanins_with_gap-fanins.ensures (thresholds_done c).thresholds_with_gap-thresholds.ensures
+    (signals_done c).signals_with_gap-signals.ensures (weights_done c).weights_with_gap-weights.ensures
+    c.store_gate.ensures c.raised_drivers-drivers.ensures
 
 pub insert_gate_spec : {M : Type 1} → statement M
 insert_gate_spec =

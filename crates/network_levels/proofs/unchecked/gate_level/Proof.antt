@@ -13,30 +13,29 @@ use Rattle.network_levels.proofs.LevelLaws.{highest_most, above_none, above_some
 use Rattle.network_levels.proofs.unchecked.gate_level.Statement.{statement}
 use Rattle.network_levels.proofs.unchecked.gate_level.Tie as tie
 
-returns : tie.Need-returns
+returns : tie.Need-returns-then-count-eq0
 unfolding gate_level gate_from
 returns c = λ ts ws.
-    let a = c.before.before.before.args in
-    sym (above_none (levels_in a.levels.now) a.signals.now ws (16 * a.g) _ (omega (arith, c.before.wide.ensures.0)))
+    let a = c.args in
+    sym (above_none (levels_in a.levels.now) a.signals.now ws (16 * a.g) _ (omega (arith, c.wide-count.ensures.0)))
 
-add_result : tie.Need-overflow-add-result
+add_result : tie.Need-overflow_add-result
 add_result c =
-    let s = c.before.before.before.before in
     omega (
       arith,
-      s.requires.0.0,
-      c.highest-level.ensures [],
-      highest_most (levels_in s.args.levels.now) s.args.g
-          (feeds_from s.args.signals.now [] (16 * s.args.g) c.before.before.wide.result) s.requires.1,
+      c.requires.0.0,
+      c.highest_level-most.ensures [],
+      highest_most (levels_in c.args.levels.now) c.args.g
+          (feeds_from c.args.signals.now [] (16 * c.args.g) c.wide-count.result) c.requires.1,
     )
 
-returns_2 : tie.Need-returns-2
+returns_2 : tie.Need-returns
 unfolding gate_level gate_from
 returns_2 c = λ ts ws.
-    let a = c.before.before.before.before.args in
-    let counted = c.before.before.wide.ensures.0 in
+    let a = c.args in
+    let counted = c.wide-count.ensures.0 in
     add-one _
-    ∙ ap suc (c.highest-level.ensures ws
+    ∙ ap suc (c.highest_level-most.ensures ws
     ∙ ap (λ (n : ℕ). highest (levels_in a.levels.now) (feeds_from a.signals.now ws (16 * a.g) n)) counted)
     ∙ sym (above_some (levels_in a.levels.now) a.signals.now ws (16 * a.g) _ (omega (arith, counted)))
 

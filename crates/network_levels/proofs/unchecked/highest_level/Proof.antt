@@ -10,24 +10,23 @@ use Rattle.network_levels.proofs.LevelLaws.{FeedsSeen, feeds_none, feeds_next, f
 use Rattle.network_levels.proofs.unchecked.highest_level.Statement.{statement}
 use Rattle.network_levels.proofs.unchecked.highest_level.Tie as tie
 
-abbrev invariant-loop : tie.invariant-loop
+abbrev invariant-loop : tie.invariant-loop-i
 invariant-loop signals levels base count most₀ i₀ most i = FeedsSeen (levels_in levels) signals base count i most
 
-abbrev decreases-loop : tie.decreases-loop
+abbrev decreases-loop : tie.decreases-loop-i
 decreases-loop signals levels base count most₀ i₀ most i = count - i
 
-loop_holds : tie.Need-loop-init invariant-loop decreases-loop
+loop_holds : tie.Need-loop-i-init invariant-loop decreases-loop
 loop_holds c = feeds_none _ _ _ _
 
-loop_again : tie.Need-loop-preserved invariant-loop decreases-loop
+loop_again : tie.Need-loop-i-preserved invariant-loop decreases-loop
 loop_again c =
-    let at = c.before.before.before.before.before in
-    let levels = at.before.args.levels.now in
-    feeds_next at.loop.invariant _ (c.higher.ensures ∙ ap (λ (s : ℕ). max at.loop.most (get_or levels s 0)) c.before.before.wide.ensures.0)
+    let levels = c.args.levels.now in
+    feeds_next c.loop-i.invariant _ (c.higher-most.ensures ∙ ap (λ (s : ℕ). max c.loop-i.most (get_or levels s 0)) c.wide-signal.ensures.0)
     (omega arith)
 
 returns : tie.Need-returns invariant-loop decreases-loop
-returns c = feeds_all c.before.loop.invariant (omega arith)
+returns c = feeds_all c.loop-i.invariant (omega arith)
 
 pub highest_level_spec : {M : Type 1} → statement M
 highest_level_spec =

@@ -7,25 +7,24 @@ use Rattle.network_levels.proofs.LevelLaws.{LevelsLeft, levels_none, levels_next
 use Rattle.network_levels.proofs.unchecked.network_levels.Statement.{statement}
 use Rattle.network_levels.proofs.unchecked.network_levels.Tie as tie
 
-abbrev invariant-loop : tie.invariant-loop
+abbrev invariant-loop : tie.invariant-loop-g
 invariant-loop fanins signals inputs gates levels₀ most₀ g₀ levels most g = LevelsLeft fanins signals inputs gates g most levels
 
-abbrev decreases-loop : tie.decreases-loop
+abbrev decreases-loop : tie.decreases-loop-g
 decreases-loop fanins signals inputs gates levels₀ most₀ g₀ levels most g = gates - g
 
-loop_holds : tie.Need-loop-init invariant-loop decreases-loop
+loop_holds : tie.Need-loop-g-init invariant-loop decreases-loop
 loop_holds c = levels_none _ _ _ _
 
-gate_level_requires : tie.Need-gate-level-requires invariant-loop decreases-loop
+gate_level_requires : tie.Need-gate_level-level-requires invariant-loop decreases-loop
 gate_level_requires c κs =
-    let at = c.before.before in
-    ((omega arith, at.before.requires.1.few_feeds _ (omega arith)), at.loop.invariant.small)
+    ((omega arith, c.requires.1.few_feeds _ (omega arith)), c.loop-g.invariant.small)
 
-loop_again : tie.Need-loop-preserved invariant-loop decreases-loop
-loop_again c = levels_next c.before.before.before.before.loop.invariant _ _ c.before.gate-level.ensures c.higher.ensures (omega arith) (omega arith)
+loop_again : tie.Need-loop-g-preserved invariant-loop decreases-loop
+loop_again c = levels_next c.loop-g.invariant _ _ c.gate_level-level.ensures c.higher-most.ensures (omega arith) (omega arith)
 
 returns : tie.Need-returns invariant-loop decreases-loop
-returns c = levels_all c.before.loop.invariant (omega arith)
+returns c = levels_all c.loop-g.invariant (omega arith)
 
 pub network_levels_spec : {M : Type 1} → statement M
 network_levels_spec =

@@ -13,37 +13,37 @@ use Rattle.network_places.specs.PasteLaws.{pasted_none, pasted_more, pasted_tab}
 use Rattle.network_places.proofs.unchecked.gate_at.Statement.{statement}
 use Rattle.network_places.proofs.unchecked.gate_at.Tie as tie
 
-abbrev invariant-loop : tie.invariant-loop
+abbrev invariant-loop : tie.invariant-loop-i
 invariant-loop fanins thresholds signals weights g fanin threshold row-signals₀ row-weights₀ base i₀ row_signals row_weights i =
     (i ≤ 16)
     × Pasted 0 0 i (λ k. get_or signals (base + k) 0) row-signals₀ row_signals
     × Pasted (pos 0) 0 i (λ k. get_or weights (base + k) (pos 0)) row-weights₀ row_weights
 
-abbrev decreases-loop : tie.decreases-loop
+abbrev decreases-loop : tie.decreases-loop-i
 decreases-loop fanins thresholds signals weights g fanin threshold row-signals₀ row-weights₀ base i₀ row_signals row_weights i =
     16 - i
 
-loop_holds : tie.Need-loop-init invariant-loop decreases-loop
+loop_holds : tie.Need-loop-i-init invariant-loop decreases-loop
 loop_holds c = (omega arith, pasted_none _ _ _ _, pasted_none _ _ _ _)
 
-loop_again : tie.Need-loop-preserved invariant-loop decreases-loop
+loop_again : tie.Need-loop-i-preserved invariant-loop decreases-loop
 loop_again c =
-    let a = c.before.before.before.before.before.before.args in
-    let loop = c.before.before.before.loop in (
+    let a = c.args in
+    let loop = c.loop-i in (
       omega arith,
       pasted_more _ _ loop.invariant.1 (omega arith) refl,
-      pasted_more _ _ loop.invariant.2 (omega arith) (read_back w32 {r = get_or a.weights.now (16 * a.g + loop.i) (pos 0)} c.weight.given refl),
+      pasted_more _ _ loop.invariant.2 (omega arith) (read_back w32 {r = get_or a.weights.now (16 * a.g + loop.i) (pos 0)} c.weight-1.given refl),
     )
 
 returns : tie.Need-returns invariant-loop decreases-loop
 unfolding row_at
 returns c =
-    let a = c.before.before.before.before.args in
-    let inv = c.before.loop.invariant in
-    let full : c.before.loop.i ≡ 16 = omega arith in
+    let a = c.args in
+    let inv = c.loop-i.invariant in
+    let full : c.loop-i.i ≡ 16 = omega arith in
     λ x. record {
       fanin = get_or a.fanins.now a.g 0;
-      threshold = read_back w32 {r = get_or a.thresholds.now a.g (pos 0)} c.before.before.threshold.given refl x;
+      threshold = read_back w32 {r = get_or a.thresholds.now a.g (pos 0)} c.threshold-1.given refl x;
       signals = pasted_tab (rw full at inv.1) refl x;
       weights = pasted_tab (rw full at inv.2) refl x;
     }

@@ -19,15 +19,15 @@ shaped : (c : tie.Start) → ArrayLengths c.args.network
 shaped c = record { fanins = search rules; signals = search rules; weights = search rules; thresholds = search rules; drivers = search rules }
 
 -- the start, from where the arrays are lent
-abbrev start : tie.After-weights2 → tie.Start
+abbrev start : tie.After-weights-2-1 → tie.Start
 start c =
-    let at_copy : tie.After-weights = c.before.before.before.before in
+    let at_copy : tie.After-weights-1 = c.before.before.before.before in
     at_copy.before.before.before.before.before
 
-sub_g : tie.Need-overflow-sub-g
+sub_g : tie.Need-overflow_sub-g
 sub_g c = omega (arith, number c.before)
 
-store_gate_requires : tie.Need-store-gate-requires
+store_gate_requires : tie.Need-store_gate-requires
 store_gate_requires c κs = omega (arith, number (start c))
 
 returns : tie.Need-returns
@@ -35,8 +35,8 @@ unfolding with_gate net_of
 returns c =
     let s = start c.before in
     let a = s.args in
-    stored_record a.network (a.v - a.network.inputs) (gate_in a.gate) (shaped s) s.pre.0.sound (number s).1
-    (rw s.pre.1 at c.store-gate.ensures)
+    stored_record a.network (a.v - a.network.inputs) (gate_in a.gate) (shaped s) s.requires.0.sound (number s).1
+    (rw s.requires.1 at c.store_gate.ensures)
 
 pub replace_gate_spec : {M : Type 1} → statement M
 replace_gate_spec = tie.close (tie.spec sub_g store_gate_requires returns)

@@ -12,23 +12,23 @@ use Rattle.network_places.specs.PasteLaws.{pasted_none, pasted_more}
 use Rattle.network_places.proofs.unchecked.store_weights.Statement.{statement}
 use Rattle.network_places.proofs.unchecked.store_weights.Tie as tie
 
-abbrev invariant-loop : tie.invariant-loop
+abbrev invariant-loop : tie.invariant-loop-i
 invariant-loop weights₀ base row i₀ weights i = (i ≤ 16) × Pasted (pos 0) base i (λ k. get_or row k (pos 0)) weights₀ weights
 
-abbrev decreases-loop : tie.decreases-loop
+abbrev decreases-loop : tie.decreases-loop-i
 decreases-loop weights₀ base row i₀ weights i = 16 - i
 
-loop_holds : tie.Need-loop-init invariant-loop decreases-loop
+loop_holds : tie.Need-loop-i-init invariant-loop decreases-loop
 loop_holds c = (omega arith, pasted_none _ _ _ _)
 
-loop_again : tie.Need-loop-preserved invariant-loop decreases-loop
+loop_again : tie.Need-loop-i-preserved invariant-loop decreases-loop
 loop_again c =
-    let a = c.before.before.before.args in
-    let loop = c.before.before.loop in
-    (omega arith, pasted_more _ _ loop.invariant.1 (omega arith) (read_back w32 {r = get_or a.t3 loop.i (pos 0)} c.weights.given refl))
+    let a = c.args in
+    let loop = c.loop-i in
+    (omega arith, pasted_more _ _ loop.invariant.1 (omega arith) (read_back w32 {r = get_or a.t3 loop.i (pos 0)} c.weights-1.given refl))
 
 returns : tie.Need-returns invariant-loop decreases-loop
-returns c = let full : c.before.loop.i ≡ 16 = omega arith in rw full at c.before.loop.invariant.1
+returns c = let full : c.before.loop.i ≡ 16 = omega arith in rw full at c.loop-i.invariant.1
 
 pub store_weights_spec : {M : Type 1} → statement M
 store_weights_spec =

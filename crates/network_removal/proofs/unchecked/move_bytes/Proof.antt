@@ -9,28 +9,28 @@ use Rattle.network_places.specs.RemoveLaws.{moved_none, moved_more}
 use Rattle.network_removal.proofs.unchecked.move_bytes.Statement.{statement}
 use Rattle.network_removal.proofs.unchecked.move_bytes.Tie as tie
 
-abbrev invariant-loop : tie.invariant-loop
+abbrev invariant-loop : tie.invariant-loop-p
 invariant-loop bytes₀ first gap end p₀ bytes p = (first ≤ p) × (p ≤ end) × Pasted 0 0 p (λ k. get_or bytes₀ (origin first gap k) 0) bytes₀ bytes
 
-abbrev decreases-loop : tie.decreases-loop
+abbrev decreases-loop : tie.decreases-loop-p
 decreases-loop bytes₀ first gap end p₀ bytes p = end - p
 
-loop_holds : tie.Need-loop-init invariant-loop decreases-loop
+loop_holds : tie.Need-loop-p-init invariant-loop decreases-loop
 loop_holds c = (omega arith, omega arith, moved_none _ _ _ _)
 
-loop_again : tie.Need-loop-preserved invariant-loop decreases-loop
+loop_again : tie.Need-loop-p-preserved invariant-loop decreases-loop
 loop_again c =
-    let inv = c.before.before.loop.invariant in
+    let inv = c.loop-p.invariant in
     (omega arith, omega arith, moved_more _ _ _ _ inv.2 inv.0 refl refl)
 
-same_length : tie.Need-same-length invariant-loop decreases-loop
-same_length c = c.before.loop.invariant.2.long
+same_length : tie.Need-shape_of-bytes invariant-loop decreases-loop
+same_length c = c.loop-p.invariant.2.long
 
 returns : tie.Need-returns invariant-loop decreases-loop
 returns c =
-    let a = c.before.before.args in
-    let full : c.before.loop.p ≡ length a.bytes.now - a.gap = omega arith in
-    rw full at c.before.loop.invariant.2
+    let a = c.args in
+    let full : c.loop-p.p ≡ length a.bytes.now - a.gap = omega arith in
+    rw full at c.loop-p.invariant.2
 
 pub move_bytes_spec : {M : Type 1} → statement M
 move_bytes_spec =

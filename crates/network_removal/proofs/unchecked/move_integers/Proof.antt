@@ -12,29 +12,29 @@ use Rattle.network_places.specs.RemoveLaws.{moved_none, moved_more}
 use Rattle.network_removal.proofs.unchecked.move_integers.Statement.{statement}
 use Rattle.network_removal.proofs.unchecked.move_integers.Tie as tie
 
-abbrev invariant-loop : tie.invariant-loop
+abbrev invariant-loop : tie.invariant-loop-p
 invariant-loop integers₀ first gap end p₀ integers p = (first ≤ p) × (p ≤ end)
     × Pasted (pos 0) 0 p (λ k. get_or integers₀ (origin first gap k) (pos 0)) integers₀ integers
 
-abbrev decreases-loop : tie.decreases-loop
+abbrev decreases-loop : tie.decreases-loop-p
 decreases-loop integers₀ first gap end p₀ integers p = end - p
 
-loop_holds : tie.Need-loop-init invariant-loop decreases-loop
+loop_holds : tie.Need-loop-p-init invariant-loop decreases-loop
 loop_holds c = (omega arith, omega arith, moved_none _ _ _ _)
 
-loop_again : tie.Need-loop-preserved invariant-loop decreases-loop
+loop_again : tie.Need-loop-p-preserved invariant-loop decreases-loop
 loop_again c =
-    let inv = c.before.before.loop.invariant in
-    (omega arith, omega arith, moved_more _ _ _ _ inv.2 inv.0 refl (read_back w32 c.integer.given refl))
+    let inv = c.loop-p.invariant in
+    (omega arith, omega arith, moved_more _ _ _ _ inv.2 inv.0 refl (read_back w32 c.integer-1.given refl))
 
-same_length : tie.Need-same-length invariant-loop decreases-loop
-same_length c = c.before.loop.invariant.2.long
+same_length : tie.Need-shape_of-integers invariant-loop decreases-loop
+same_length c = c.loop-p.invariant.2.long
 
 returns : tie.Need-returns invariant-loop decreases-loop
 returns c =
-    let a = c.before.before.args in
-    let full : c.before.loop.p ≡ length a.integers.now - a.gap = omega arith in
-    rw full at c.before.loop.invariant.2
+    let a = c.args in
+    let full : c.loop-p.p ≡ length a.integers.now - a.gap = omega arith in
+    rw full at c.loop-p.invariant.2
 
 pub move_integers_spec : {M : Type 1} → statement M
 move_integers_spec =

@@ -7,9 +7,7 @@ use Rattle.network_removal.proofs.unchecked.remove_bytes.Tie as tie
 
 returns : tie.Need-returns
 returns c =
-    let at_move = c.before.before.before.before.before.before in
-    let start = at_move.before.before.before in
-    moved_cleared _ _ start.requires refl refl refl at_move.move-bytes.ensures c.before.before.clear-bytes.ensures
+    moved_cleared _ _ c.requires refl refl refl c.move_bytes.ensures c.clear_bytes.ensures
 
 pub remove_bytes_spec : {M : Type 1} → statement M
 remove_bytes_spec =

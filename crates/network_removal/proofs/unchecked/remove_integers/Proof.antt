@@ -7,8 +7,7 @@ use Rattle.network_removal.proofs.unchecked.remove_integers.Tie as tie
 
 returns : tie.Need-returns
 returns c =
-    let start = c.before.before.before.before.before.before in
-    moved_cleared _ _ start.requires refl refl refl c.before.before.before.before.move-integers.ensures c.before.clear-integers.ensures
+    moved_cleared _ _ c.requires refl refl refl c.move_integers.ensures c.clear_integers.ensures
 
 pub remove_integers_spec : {M : Type 1} → statement M
 remove_integers_spec =

@@ -11,24 +11,19 @@ use Rattle.network_removal.proofs.unchecked.remove_places.Tie as tie
 
 returns : tie.Need-returns
 returns c =
-    let at_lowered = c.before.before.before.before in
-    let at_signals = at_lowered.before.before in
-    let at_thresholds = at_signals.before.before in
-    let at_fanins = at_thresholds.before.before in
-    let start = at_fanins.before.before in
-    let long = start.requires.1 in
-    let a = start.args in
+    let long = c.requires.1 in
+    let a = c.args in
     let g : ℕ = a.g in
     record {
-      fanins_are = at_fanins.remove-bytes.ensures
+      fanins_are = c.remove_bytes.ensures
           ∙ ap (λ (n : ℕ). without_places 0 n g 1 a.fanins.now) long.fanins_long;
-      thresholds_are = at_thresholds.remove-integers.ensures
+      thresholds_are = c.remove_integers.ensures
           ∙ ap (λ (n : ℕ). without_places (pos 0) n g 1 a.thresholds.now) long.thresholds_long;
-      signals_are = at_lowered.lower-all.ensures
-          ∙ ap (map (lowered a.u)) (at_signals.remove-bytes2.ensures
+      signals_are = c.lower_all.ensures
+          ∙ ap (map (lowered a.u)) (c.remove_bytes-2.ensures
           ∙ ap (λ (n : ℕ). without_places 0 n (16 * g) 16 a.signals.now) long.signals_long);
-      weights_are = c.before.before.remove-integers2.ensures ∙ ap (λ (n : ℕ). without_places (pos 0) n (16 * g) 16 a.weights.now) long.weights_long;
-      drivers_are = c.lower-all2.ensures;
+      weights_are = c.remove_integers-2.ensures ∙ ap (λ (n : ℕ). without_places (pos 0) n (16 * g) 16 a.weights.now) long.weights_long;
+      drivers_are = c.lower_all-2.ensures;
     }
 
 pub remove_places_spec : {M : Type 1} → statement M

@@ -8,9 +8,8 @@ use Rattle.network_report.proofs.unchecked.gate_cost.Tie as tie
 
 returns : tie.Need-returns
 returns c =
-    let m = c.before.before.before in
-    gate_made (size_made (record { sfits = m.before.magnitude-arg.given }) m.magnitude.ensures) c.weights-cost.ensures
-    c.before.wide.ensures.0 (omega arith)
+    gate_made (size_made (record { sfits = c.magnitude-arg-1.given }) c.magnitude-threshold.ensures) c.weights_cost-total.ensures
+    c.wide-count.ensures.0 (omega arith)
 
 pub gate_cost_spec : {M : Type 1} → statement M
 gate_cost_spec =

@@ -15,14 +15,12 @@ use Rattle.network_report.specs.declared.SizeReport.{SizeReport}
 use Rattle.network_report.proofs.unchecked.size_of.Statement.{statement}
 use Rattle.network_report.proofs.unchecked.size_of.Tie as tie
 
-total_cost_requires : tie.Need-total-cost-requires
-total_cost_requires c κs = counted_of _ c.before.before.before.before.requires
+total_cost_requires : tie.Need-total_cost-cost-requires
+total_cost_requires c κs = counted_of _ c.requires
 
-network_levels_requires : tie.Need-network-levels-requires
+network_levels_requires : tie.Need-network_levels-levels-requires
 network_levels_requires c κs =
-    let at_cost = c.before.before.before in
-    let s = at_cost.before.before.before.before.before in
-    ((sized_of _ s.requires).few_inputs, counted_of _ s.requires)
+    ((sized_of _ c.requires).few_inputs, counted_of _ c.requires)
 
 -- a network's three figures are its report
 as_report : (N : Net) (n t h : ℕ) → n ≡ length N.gates → t ≡ cost N.gates → h ≡ levels N
@@ -38,13 +36,11 @@ of_sound r e = rw e
 returns : tie.Need-returns
 unfolding net_of levels
 returns c =
-    let at_cost = c.before.before.before.before.before in
-    let s = at_cost.before.before.before.before.before in
-    let r = s.args.t1 in
+    let r = c.args.network in
     as_report (net_of r) _ _ _ (sym (length_tab r.gates (gate_of r)))
-    (at_cost.total_cost.ensures r.signals)
-    (c.wide.ensures.0 ∙ c.before.network-levels.ensures r.thresholds r.weights)
-    ∙ of_sound r s.requires
+    (c.total_cost-cost.ensures r.signals)
+    (c.wide.ensures.0 ∙ c.network_levels-levels.ensures r.thresholds r.weights)
+    ∙ of_sound r c.requires
 
 pub size_of_spec : {M : Type 1} → statement M
 size_of_spec =

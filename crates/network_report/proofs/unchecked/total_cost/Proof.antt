@@ -7,26 +7,26 @@ use Rattle.network_report.proofs.CostLaws.{GatesAdded, gates_none, gates_next, g
 use Rattle.network_report.proofs.unchecked.total_cost.Statement.{statement}
 use Rattle.network_report.proofs.unchecked.total_cost.Tie as tie
 
-abbrev invariant-loop : tie.invariant-loop
+abbrev invariant-loop : tie.invariant-loop-g
 invariant-loop fanins thresholds weights gates total₀ g₀ total g = GatesAdded fanins thresholds weights gates g total
 
-abbrev decreases-loop : tie.decreases-loop
+abbrev decreases-loop : tie.decreases-loop-g
 decreases-loop fanins thresholds weights gates total₀ g₀ total g = gates - g
 
-loop_holds : tie.Need-loop-init invariant-loop decreases-loop
+loop_holds : tie.Need-loop-g-init invariant-loop decreases-loop
 loop_holds c = gates_none _ _ _ _
 
-gate_cost_requires : tie.Need-gate-cost-requires invariant-loop decreases-loop
-gate_cost_requires c κs = (omega arith, c.before.before.requires.few_feeds _ (omega arith))
+gate_cost_requires : tie.Need-gate_cost-total-requires invariant-loop decreases-loop
+gate_cost_requires c κs = (omega arith, c.requires.few_feeds _ (omega arith))
 
-add_total : tie.Need-overflow-add-total invariant-loop decreases-loop
-add_total c = omega (arith, c.gate-cost.ensures.small, c.before.before.loop.invariant.small)
+add_total : tie.Need-overflow_add-total invariant-loop decreases-loop
+add_total c = omega (arith, c.gate_cost-total.ensures.small, c.loop-g.invariant.small)
 
-loop_again : tie.Need-loop-preserved invariant-loop decreases-loop
-loop_again c = gates_next c.before.before.loop.invariant c.gate-cost.ensures (omega arith)
+loop_again : tie.Need-loop-g-preserved invariant-loop decreases-loop
+loop_again c = gates_next c.loop-g.invariant c.gate_cost-total.ensures (omega arith)
 
 returns : tie.Need-returns invariant-loop decreases-loop
-returns c = gates_all c.before.loop.invariant (omega arith)
+returns c = gates_all c.loop-g.invariant (omega arith)
 
 pub total_cost_spec : {M : Type 1} → statement M
 total_cost_spec =

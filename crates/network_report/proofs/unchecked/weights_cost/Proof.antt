@@ -9,13 +9,13 @@ use Rattle.network_report.proofs.CostLaws.{SizeOf, size_made, WeightsAdded, weig
 use Rattle.network_report.proofs.unchecked.weights_cost.Statement.{statement}
 use Rattle.network_report.proofs.unchecked.weights_cost.Tie as tie
 
-abbrev invariant-loop : tie.invariant-loop
+abbrev invariant-loop : tie.invariant-loop-i
 invariant-loop weights base count total₀ i₀ total i = WeightsAdded weights base count i total
 
-abbrev decreases-loop : tie.decreases-loop
+abbrev decreases-loop : tie.decreases-loop-i
 decreases-loop weights base count total₀ i₀ total i = count - i
 
-loop_holds : tie.Need-loop-init invariant-loop decreases-loop
+loop_holds : tie.Need-loop-i-init invariant-loop decreases-loop
 loop_holds c = weights_none _ _ _
 
 -- a turn: the size of the weight at this place
@@ -23,20 +23,20 @@ module _ (c : tie.After-magnitude invariant-loop decreases-loop) where
   abbrev start : tie.Start invariant-loop decreases-loop
   start = c.before.before.before.before
 
-  abbrev at : tie.At-loop invariant-loop decreases-loop
+  abbrev at : tie.At-loop-i invariant-loop decreases-loop
   at = c.before.before.before
 
-  size : SizeOf (get_or start.args.weights.now (start.args.base + at.loop.i) (pos 0)) c.magnitude.result
-  size = size_made (record { sfits = c.before.magnitude-arg.given }) c.magnitude.ensures
+  size : SizeOf (get_or start.args.weights.now (start.args.base + at.loop-i.i) (pos 0)) c.magnitude.result
+  size = size_made (record { sfits = c.magnitude-arg-1.given }) c.magnitude.ensures
 
-add_total : tie.Need-overflow-add-total invariant-loop decreases-loop
-add_total c = omega (arith, (size c).small, (at c).loop.invariant.small)
+add_total : tie.Need-overflow_add-total invariant-loop decreases-loop
+add_total c = omega (arith, (size c).small, (at c).loop-i.invariant.small)
 
-loop_again : tie.Need-loop-preserved invariant-loop decreases-loop
-loop_again c = weights_next (at c).loop.invariant (size c) (omega arith)
+loop_again : tie.Need-loop-i-preserved invariant-loop decreases-loop
+loop_again c = weights_next (at c).loop-i.invariant (size c) (omega arith)
 
 returns : tie.Need-returns invariant-loop decreases-loop
-returns c = weights_all c.before.loop.invariant (omega arith)
+returns c = weights_all c.loop-i.invariant (omega arith)
 
 pub weights_cost_spec : {M : Type 1} → statement M
 weights_cost_spec =

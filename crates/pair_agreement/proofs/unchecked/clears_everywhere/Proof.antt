@@ -8,7 +8,7 @@ use Rattle.pair_agreement.proofs.unchecked.clears_everywhere.Statement.{statemen
 use Rattle.pair_agreement.proofs.unchecked.clears_everywhere.Tie as tie
 
 -- where the tables begin, from where both are lent
-abbrev start_of : tie.After-sums-v → tie.Start
+abbrev start_of : tie.After-sums_v-1 → tie.Start
 start_of c =
     let at_second = c.before.before.before.before in
     at_second.before.before.before.before
@@ -16,8 +16,8 @@ start_of c =
 returns : tie.Need-returns
 returns c =
     let s = start_of c.before.before in
-    ap (λ (n : ℕ). eqb c.before.clear-settings.result n) c.settings.ensures
-    ∙ clear_all s.pre.0 s.args.k s.args.l c.before.clear-settings.ensures
+    ap (λ (n : ℕ). eqb c.clear_settings.result n) c.settings.ensures
+    ∙ clear_all s.requires.0 s.args.k s.args.l c.clear_settings.ensures
 
 pub clears_everywhere_spec : {M : Type 1} → statement M
 clears_everywhere_spec =

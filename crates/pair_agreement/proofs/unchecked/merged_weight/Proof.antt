@@ -26,7 +26,7 @@ mixed_requires c κs =
     rw (u_is s, v_is s) (record { dial = s.requires.1.1.0; x_small = omega (arith, s.requires.0 i); y_small = omega (arith, s.requires.1.0 i) })
 
 returns : tie.Need-returns
-returns c = let s = c.before.before.before in read_back w32 c.mixed.type-inv (rw (u_is s, v_is s) at c.mixed.ensures)
+returns c = let s = c.before.before.before in read_back w32 c.mixed.type_inv (rw (u_is s, v_is s) at c.mixed.ensures)
 
 pub merged_weight_spec : {M : Type 1} → statement M
 merged_weight_spec =

@@ -21,72 +21,70 @@ use Rattle.pair_agreement.proofs.unchecked.scale_fits.Tie as tie
 abbrev on_scale : Aligned → ℕ → ℕ → ℕ → Bool
 on_scale a k l feed = in_scale (mixed_weight a k l feed)
 
-abbrev invariant-loop : tie.invariant-loop
+abbrev invariant-loop : tie.invariant-loop-feed
 invariant-loop k l a count feed₀ feed = (feed ≤ a.count) × (below feed (on_scale (aligned_in a) k l) ≡ true)
 
-abbrev decreases-loop : tie.decreases-loop
+abbrev decreases-loop : tie.decreases-loop-feed
 decreases-loop k l a count feed₀ feed = a.count - feed
 
-loop_holds : tie.Need-loop-init invariant-loop decreases-loop
-loop_holds c = (omega arith, below_none (on_scale (aligned_in c.args.t1) c.args.k c.args.l))
+loop_holds : tie.Need-loop-feed-init invariant-loop decreases-loop
+loop_holds c = (omega arith, below_none (on_scale (aligned_in c.args.a) c.args.k c.args.l))
 
-merged_weight_requires : tie.Need-merged-weight-requires invariant-loop decreases-loop
+merged_weight_requires : tie.Need-merged_weight-requires invariant-loop decreases-loop
 merged_weight_requires c κs =
-    let s = c.before.before.before.before.before in
-    (s.requires.0.fair.us_small, (s.requires.0.fair.vs_small, (s.requires.1, omega (arith, s.requires.0.few))))
+    (c.requires.0.fair.us_small, (c.requires.0.fair.vs_small, (c.requires.1, omega (arith, c.requires.0.few))))
 
 -- the test of a feed
-module _ (c : tie.After-in-scale invariant-loop decreases-loop) where
-  abbrev at : tie.At-loop invariant-loop decreases-loop
-  at = c.before.before.before.before.before.before
+module _ (c : tie.After-in_scale invariant-loop decreases-loop) where
+  abbrev at : tie.At-loop-feed invariant-loop decreases-loop
+  at = c.before.before.before.before.before
 
   abbrev start : tie.Start invariant-loop decreases-loop
   start = at.before
 
   abbrev feed : ℕ
-  feed = at.loop.feed
+  feed = at.loop-feed.feed
 
   abbrev gates : Aligned
-  gates = aligned_in start.args.t1
+  gates = aligned_in start.args.a
 
-  tested : c.in-scale.result ≡ on_scale gates start.args.k start.args.l feed
+  tested : c.in_scale.result ≡ on_scale gates start.args.k start.args.l feed
   tested =
       let a = start.args in
-      c.in-scale.ensures
-      ∙ ap in_scale (read_back w32 c.before.merged-weight.type-inv (c.before.merged-weight.ensures ∙ sym (mix_is a.t1 a.k a.l feed (omega arith))))
+      c.in_scale.ensures
+      ∙ ap in_scale (read_back w32 c.merged_weight.type_inv (c.merged_weight.ensures ∙ sym (mix_is a.t1 a.k a.l feed (omega arith))))
 
-returns : tie.Need-returns invariant-loop decreases-loop
+returns : tie.Need-returns-then-not-in_scale invariant-loop decreases-loop
 returns c =
     let d = c.before in
     let a = (start d).args in
-    sym (weight_off a.t1 (start d).requires.0 a.k a.l (feed d) (omega arith) (sym (tested d) ∙ not-true d.in-scale.result c.if1.true))
+    sym (weight_off a.t1 (start d).requires.0 a.k a.l (feed d) (omega arith) (sym (tested d) ∙ not-true d.in_scale.result c.if-not-in_scale.true-raw))
 
-add_feed : tie.Need-overflow-add-feed invariant-loop decreases-loop
+add_feed : tie.Need-overflow_step-feed invariant-loop decreases-loop
 add_feed c = omega arith
 
-loop_less : tie.Need-loop-smaller invariant-loop decreases-loop
+loop_less : tie.Need-loop-feed-smaller invariant-loop decreases-loop
 loop_less c = omega arith
 
-loop_again : tie.Need-loop-preserved invariant-loop decreases-loop
+loop_again : tie.Need-loop-feed-preserved invariant-loop decreases-loop
 loop_again c =
     let d = c.before in
     let p = on_scale (gates d) (start d).args.k (start d).args.l in
-    let before = (at d).loop.invariant.1 in
-    let here = sym (tested d) ∙ not-false d.in-scale.result c.if1.false in
+    let before = (at d).loop-feed.invariant.1 in
+    let here = sym (tested d) ∙ not-false d.in_scale.result c.if-not-in_scale.false-raw in
     (omega arith, below_more p (feed d) ∙ both_true (below (feed d) p) (p (feed d)) before here)
 
-merged_threshold_requires : tie.Need-merged-threshold-requires invariant-loop decreases-loop
-merged_threshold_requires c κs = let s = c.before.before.before in (near_wider s.args.t1.thresholds s.requires.0.fair.near, s.requires.1)
+merged_threshold_requires : tie.Need-merged_threshold-requires invariant-loop decreases-loop
+merged_threshold_requires c κs = (near_wider c.args.a.thresholds c.requires.0.fair.near, c.requires.1)
 
-returns_2 : tie.Need-returns-2 invariant-loop decreases-loop
+returns_2 : tie.Need-returns invariant-loop decreases-loop
 returns_2 c =
-    let d = c.before.before.before.before.before in
-    let a = d.args in
-    let loop = c.before.before.before.before.loop in
-    let e : loop.feed ≡ a.t1.count = omega (arith, loop.invariant.0, c.before.before.before.loop-test.false) in
-    c.in-scale2.ensures
-    ∙ ap in_scale (read_back w32 c.before.merged-threshold.type-inv (c.before.merged-threshold.ensures ∙ sym (threshold_is a.t1 a.k a.l)))
-    ∙ sym (weights_on a.t1 d.requires.0 a.k a.l (rw e at loop.invariant.1))
+    let a = c.args in
+    let loop = c.loop-feed in
+    let e : loop.feed ≡ a.t1.count = omega (arith, loop.invariant.0, c.loop-feed-test.false) in
+    c.in_scale-2.ensures
+    ∙ ap in_scale (read_back w32 c.merged_threshold.type_inv (c.merged_threshold.ensures ∙ sym (threshold_is a.t1 a.k a.l)))
+    ∙ sym (weights_on a.t1 c.requires.0 a.k a.l (rw e at loop.invariant.1))
 
 pub scale_fits_spec : {M : Type 1} → statement M
 scale_fits_spec =

@@ -20,11 +20,11 @@ use borrow.Author.Rules.{rules}
 use Rattle.pair_alignment.proofs.unchecked.align_with_u.Statement.{statement}
 use Rattle.pair_alignment.proofs.unchecked.align_with_u.Tie as tie
 
-abbrev invariant-loop : tie.invariant-loop
+abbrev invariant-loop : tie.invariant-loop-s
 invariant-loop board gate-u gate-v u v in_u_lem in_v_lem b signals₀ us₀ vs₀ count₀ s₀ signals us vs count s =
     (s ≤ v) × Listed (edge_between board gate-u gate-v u v) s count signals us vs
 
-abbrev decreases-loop : tie.decreases-loop
+abbrev decreases-loop : tie.decreases-loop-s
 decreases-loop board gate-u gate-v u v in_u_lem in_v_lem b signals₀ us₀ vs₀ count₀ s₀ signals us vs count s = v - s
 
 -- the edge, and the bounds of its signals
@@ -32,122 +32,118 @@ abbrev edge : tie.Start invariant-loop decreases-loop → Edge
 edge c = edge_between c.args.board c.args.gate-u c.args.gate-v c.args.u c.args.v
 
 -- the start, and the two tables, from where the loop stands
-abbrev start : tie.At-loop invariant-loop decreases-loop → tie.Start invariant-loop decreases-loop
+abbrev start : tie.At-loop-s invariant-loop decreases-loop → tie.Start invariant-loop decreases-loop
 start c = c.before.before.before.before
 
-abbrev table_u : tie.At-loop invariant-loop decreases-loop → tie.After-spread invariant-loop decreases-loop
+abbrev table_u : tie.At-loop-s invariant-loop decreases-loop → tie.After-spread-in_u invariant-loop decreases-loop
 table_u c = c.before.before.before
 
-abbrev table_v : tie.At-loop invariant-loop decreases-loop → tie.After-spread2 invariant-loop decreases-loop
+abbrev table_v : tie.At-loop-s invariant-loop decreases-loop → tie.After-spread-in_v invariant-loop decreases-loop
 table_v c = c.before.before
 
 u_low : (c : tie.Start invariant-loop decreases-loop) → c.args.u < 256
 u_low c = omega (arith, edge_rises (edge c) c.requires.ok, c.requires.low)
 
-s_low : (c : tie.In-loop invariant-loop decreases-loop) → c.before.loop.s < 256
-s_low c = omega (arith, c.loop-test.true, (start c.before).pre.low)
+s_low : (c : tie.In-loop-s invariant-loop decreases-loop) → c.loop-s.s < 256
+s_low c = omega (arith, c.loop-s-test.true, (start c.before).requires.low)
 
-count_low : (c : tie.At-loop invariant-loop decreases-loop) → c.loop.count ≤ c.loop.s
-count_low c = listed_few (edge (start c)) c.loop.s c.loop.count c.loop.invariant.1
+count_low : (c : tie.At-loop-s invariant-loop decreases-loop) → c.loop-s.count ≤ c.loop-s.s
+count_low c = listed_few (edge (start c)) c.loop-s.s c.loop-s.count c.loop-s.invariant.1
 
 -- the two weights at s, and whether s is a distinct feed
-x_is : (c : tie.After-x invariant-loop decreases-loop) → let at = c.before.before in
-    to_z w32 (of_z w32 (get_or (table_u at).spread.result at.loop.s (pos 0))) ≡ in_u (edge (start at)) at.loop.s
+x_is : (c : tie.After-x-1 invariant-loop decreases-loop) → 
+    to_z w32 (of_z w32 (get_or (table_u c).spread-in_u.result c.loop-s.s (pos 0))) ≡ in_u (edge (start c)) c.loop-s.s
 x_is c =
-    let at = c.before.before in
-    let t = (table_u at).spread in
-    let s = at.loop.s in
-    read_back w32 {r = get_or t.result s (pos 0)} c.x.given
-    (ap (λ l. get_or l s (pos 0)) t.ensures ∙ table_at (edge (start at)).gate_u.feeds s (s_low c.before))
+    let t = (table_u c).spread-in_u in
+    let s = c.loop-s.s in
+    read_back w32 {r = get_or t.result s (pos 0)} c.x-1.given
+    (ap (λ l. get_or l s (pos 0)) t.ensures ∙ table_at (edge (start c)).gate_u.feeds s (s_low c.before))
 
-y_is : (c : tie.After-y invariant-loop decreases-loop) → let at = c.before.before.before in
-    to_z w32 (of_z w32 (get_or (set (table_v at).spread2.result (start at).args.u (pos 0)) at.loop.s (pos 0)))
-    ≡ in_other (edge (start at)) at.loop.s
+y_is : (c : tie.After-y-1 invariant-loop decreases-loop) → 
+    to_z w32 (of_z w32 (get_or (set (table_v c).spread-in_v.result (start c).args.u (pos 0)) c.loop-s.s (pos 0)))
+    ≡ in_other (edge (start c)) c.loop-s.s
 y_is c =
-    let at = c.before.before.before in
-    let t = (table_v at).spread2 in
-    let a = start at in
-    let s = at.loop.s in
-    read_back w32 {r = get_or (set t.result a.args.u (pos 0)) s (pos 0)} c.y.given
+    let t = (table_v c).spread-in_v in
+    let a = start c in
+    let s = c.loop-s.s in
+    read_back w32 {r = get_or (set t.result a.args.u (pos 0)) s (pos 0)} c.y-1.given
     (ap (λ l. get_or (set l a.args.u (pos 0)) s (pos 0)) t.ensures ∙ other_at (edge a) s (s_low c.before.before))
 
-test_is : (c : tie.After-either invariant-loop decreases-loop) → let at = c.before.before.before.before in
-    c.either.result ≡ among (edge (start at)) at.loop.s
+test_is : (c : tie.After-either invariant-loop decreases-loop) → 
+    c.either.result ≡ among (edge (start c)) c.loop-s.s
 test_is c =
-    let at_loop = c.before.before.before.before in
-    let a = start at_loop in
-    rw (x_is c.before.before, y_is c.before) at c.either.ensures ∙ sym (among_is (edge a) a.pre.ok at_loop.loop.s)
+    let a = start c in
+    rw (x_is c.before.before, y_is c.before) c c.either.ensures ∙ sym (among_is (edge a) a.requires.ok c.loop-s.s)
 
-spread_requires : tie.Need-spread-requires invariant-loop decreases-loop
+spread_requires : tie.Need-spread-in_u-requires invariant-loop decreases-loop
 spread_requires c κs = omega (arith, c.requires.ok.ok_u.few, length_gate_in c.args.gate-u)
 
-spread_requires_2 : tie.Need-spread-requires-2 invariant-loop decreases-loop
-spread_requires_2 c κs = omega (arith, c.before.requires.ok.ok_v.few, length_gate_in c.before.args.gate-v)
+spread_requires_2 : tie.Need-spread-in_v-requires invariant-loop decreases-loop
+spread_requires_2 c κs = omega (arith, c.requires.ok.ok_v.few, length_gate_in c.args.gate-v)
 
-mul_b : tie.Need-overflow-mul-b invariant-loop decreases-loop
+mul_b : tie.Need-offset_bounds-in_v-u invariant-loop decreases-loop
 mul_b c = record { fits = omega (arith, u_low c.before.before) }
 
-array_copy_out_b : tie.Need-array-copy-out-b invariant-loop decreases-loop
+array_copy_out_b : tie.Need-bounds-in_v-u invariant-loop decreases-loop
 array_copy_out_b c = u_low c.before.before
 
-mul_in_v : tie.Need-overflow-mul-in-v invariant-loop decreases-loop
+mul_in_v : tie.Need-offset_bounds-in_v-u-2 invariant-loop decreases-loop
 mul_in_v c = record { fits = omega (arith, u_low c.before.before.before) }
 
-array_set_of_in_v : tie.Need-array-set-of-in-v invariant-loop decreases-loop
+array_set_of_in_v : tie.Need-array_set_of-in_v invariant-loop decreases-loop
 array_set_of_in_v c = u_low c.before.before.before
 
-loop_holds : tie.Need-loop-init invariant-loop decreases-loop
+loop_holds : tie.Need-loop-s-init invariant-loop decreases-loop
 loop_holds c = (omega arith, listed_none (edge c.before.before.before))
 
-array_copy_out_x : tie.Need-array-copy-out-x invariant-loop decreases-loop
+array_copy_out_x : tie.Need-bounds-in_u-s invariant-loop decreases-loop
 array_copy_out_x c = s_low c
 
-array_copy_out_y : tie.Need-array-copy-out-y invariant-loop decreases-loop
+array_copy_out_y : tie.Need-bounds-in_v-s invariant-loop decreases-loop
 array_copy_out_y c = s_low c.before
 
-cast_signals : tie.Need-overflow-cast-signals invariant-loop decreases-loop
+cast_signals : tie.Need-overflow_cast-signals invariant-loop decreases-loop
 cast_signals c = record { fits = s_low c.before.before.before.before.before }
 
-array_write_signals : tie.Need-array-write-signals invariant-loop decreases-loop
-array_write_signals c = c.if2.true
+array_write_signals : tie.Need-bounds-signals-count invariant-loop decreases-loop
+array_write_signals c = c.if-count-lt16.true
 
-array_set_from_us : tie.Need-array-set-from-us invariant-loop decreases-loop
-array_set_from_us c = c.if2.true
+array_set_from_us : tie.Need-bounds-us-count invariant-loop decreases-loop
+array_set_from_us c = c.if-count-lt16.true
 
-array_set_from_vs : tie.Need-array-set-from-vs invariant-loop decreases-loop
-array_set_from_vs c = c.if2.true
+array_set_from_vs : tie.Need-bounds-vs-count invariant-loop decreases-loop
+array_set_from_vs c = c.if-count-lt16.true
 
-add_count : tie.Need-overflow-add-count invariant-loop decreases-loop
+add_count : tie.Need-overflow_add-count invariant-loop decreases-loop
 add_count c = record { fits = omega (arith, count_low c.before.before.before.before.before.before, s_low c.before.before.before.before.before) }
 
-loop_again : tie.Need-loop-preserved invariant-loop decreases-loop
+loop_again : tie.Need-loop-s-preserved invariant-loop decreases-loop
 loop_again c =
-    let at_loop = c.before.before.before.before.before in
-    let a = start at_loop in
-    let l = at_loop.loop in
+    let a = start c in
+    let l = c.loop-s in
     let same = sym (test_is c.before) in
     let step = listed_store (edge a) l.s l.count l.signals l.us l.vs l.invariant.1 in (
       omega arith,
       ⊎_elim
           (λ w.
           let yes = same ∙ w.0.taken in
-          let y = y_is c.before.before ∙ other_is (edge a) a.pre.ok l.s yes in
+          let y = y_is c.before.before ∙ other_is (edge a) a.requires.ok l.s yes in
           rw (w.2, w.3, w.4, w.5)
           (⊎_elim
           (λ t. rw (t.1, t.2, t.3) (step _ _ yes (x_is c.before.before.before) y))
           (λ t. rw (t.1, t.2, t.3) (listed_full (edge a) l.s l.count l.signals l.us l.vs l.invariant.1 yes t.0.left))
           w.1.came))
           (λ w. rw (w.1, w.2, w.3, w.4) (listed_skip (edge a) l.s l.count l.signals l.us l.vs l.invariant.1 (same ∙ w.0.left)))
-          c.if1.branch,
+          c.if-either.branch,
     )
 
 -- the numbers of which the thresholds are made, as the machine reads them back
-b_is : (c : tie.After-b invariant-loop decreases-loop)
-    → to_z w32 (of_z w32 (get_or c.before.spread2.result c.before.before.before.args.u (pos 0))) ≡ feed_weight (edge c.before.before.before)
+b_is : (c : tie.After-b-1 invariant-loop decreases-loop)
+    → to_z w32 (of_z w32 (get_or c.spread-in_v.result c.args.u (pos 0))) ≡ feed_weight (edge c.before.before.before)
 b_is c =
     let a = c.before.before.before in
-    read_back w32 {r = get_or c.before.spread2.result a.args.u (pos 0)} c.b.given
-    (ap (λ t. get_or t a.args.u (pos 0)) c.before.spread2.ensures ∙ table_at (edge a).gate_v.feeds a.args.u (u_low a))
+    read_back w32 {r = get_or c.spread-in_v.result a.args.u (pos 0)} c.b-1.given
+    (ap (λ t. get_or t a.args.u (pos 0)) c.spread-in_v.ensures ∙ table_at (edge a).gate_v.feeds a.args.u (u_low a))
 
 own_is : (c : tie.Start invariant-loop decreases-loop) → to_z w32 (of_z w32 c.args.gate-u.threshold) ≡ (edge c).gate_u.threshold
 unfolding gate_in
@@ -160,19 +156,19 @@ off_is c = read_back w32 {r = c.args.gate-v.threshold} (search rules) refl
 on_fits : (c : tie.Start invariant-loop decreases-loop) → SFits w32 ((edge c).gate_v.threshold -ℤ feed_weight (edge c))
 on_fits c = size_fits w32 _ (omega (arith, (fed_small (edge c) c.requires.ok).on))
 
-sub_on : tie.Need-overflow-sub-on invariant-loop decreases-loop
+sub_on : tie.Need-overflow_sub-on invariant-loop decreases-loop
 sub_on c =
     let n = c.before.before.before.before in
-    let a = n.before.before.before in
+    let a = c.before.before.before.before.before.before.before in
     subst (SFits w32) (sym (ap₂ ◌-ℤ◌ (off_is a) (b_is n))) (on_fits a)
 
 returns : tie.Need-returns invariant-loop decreases-loop
 unfolding with_u
 returns c =
-    let l = c.before.before.before.loop in
+    let l = c.loop-s in
     let n = c.before.before.before.before in
-    let a = n.before.before.before in
-    let end : l.s ≡ a.args.v = omega (arith, l.invariant.0, c.before.before.loop-test.false) in
+    let a = c.before.before.before.before.before.before.before in
+    let end : l.s ≡ a.args.v = omega (arith, l.invariant.0, c.loop-s-test.false) in
     let on = ap₂ (λ (x y : ℤ). to_z w32 (of_z w32 (x -ℤ y))) (off_is a) (b_is n) ∙ to_z-of_z (on_fits a) in
     (λ j. record {
       count = l.count;

@@ -13,41 +13,41 @@ use borrow.Author.Rules.{rules}
 use Rattle.pair_alignment.proofs.unchecked.spread.Statement.{statement}
 use Rattle.pair_alignment.proofs.unchecked.spread.Tie as tie
 
-abbrev invariant-loop : tie.invariant-loop
+abbrev invariant-loop : tie.invariant-loop-i
 invariant-loop gate table₀ i₀ table i =
     (i ≤ gate.fanin) × (table ≡ weight_table (feeds_from gate.signals gate.weights i (gate.fanin - i)))
 
-abbrev decreases-loop : tie.decreases-loop
+abbrev decreases-loop : tie.decreases-loop-i
 decreases-loop gate table₀ i₀ table i = i
 
-loop_holds : tie.Need-loop-init invariant-loop decreases-loop
+loop_holds : tie.Need-loop-i-init invariant-loop decreases-loop
 loop_holds c =
-    let g = c.before.args.t1 in
-    (omega (arith, c.wide.ensures), rw c.wide.ensures.0 (store_none g.signals g.weights g.fanin))
+    let g = c.args.gate in
+    (omega (arith, c.wide-i.ensures), rw c.wide-i.ensures.0 (store_none g.signals g.weights g.fanin))
 
-element_copy_out_wide : tie.Need-element-copy-out-wide invariant-loop decreases-loop
+element_copy_out_wide : tie.Need-bounds-gate-i invariant-loop decreases-loop
 element_copy_out_wide c = omega arith
 
-element_copy_out_table : tie.Need-element-copy-out-table invariant-loop decreases-loop
+element_copy_out_table : tie.Need-bounds-gate-i-in-loop-i invariant-loop decreases-loop
 element_copy_out_table c = omega arith
 
-array_set_from_table : tie.Need-array-set-from-table invariant-loop decreases-loop
+array_set_from_table : tie.Need-bounds-table-s invariant-loop decreases-loop
 array_set_from_table c = omega arith
 
-loop_again : tie.Need-loop-preserved invariant-loop decreases-loop
+loop_again : tie.Need-loop-i-preserved invariant-loop decreases-loop
 loop_again c =
-    let g = c.before.before.before.before.before.before.args.t1 in
-    let loop = c.before.before.before.before.loop in
-    let w = read_back w32 {r = get_or g.weights (loop.i - 1) (pos 0)} c.table.given refl in
-    (omega arith, rw (loop.invariant.1, c.before.wide2.ensures.0, w) (store_more g.signals g.weights loop.i g.fanin (omega arith) (omega arith)))
+    let g = c.args.gate in
+    let loop = c.loop-i in
+    let w = read_back w32 {r = get_or g.weights (loop.i - 1) (pos 0)} c.table-1.given refl in
+    (omega arith, rw (loop.invariant.1, c.wide-s.ensures.0, w) (store_more g.signals g.weights loop.i g.fanin (omega arith) (omega arith)))
 
 returns : tie.Need-returns invariant-loop decreases-loop
 unfolding gate_in
 returns c =
-    let i : c.before.loop.i ≡ 0 = omega arith in
-    let n = c.before.before.before.args.t1.fanin in
+    let i : c.loop-i.i ≡ 0 = omega arith in
+    let n = c.args.gate.fanin in
     let m : n - 0 ≡ n = omega arith in
-    rw (i, m) at c.before.loop.invariant.1
+    rw (i, m) at c.loop-i.invariant.1
 
 pub spread_spec : {M : Type 1} → statement M
 spread_spec =

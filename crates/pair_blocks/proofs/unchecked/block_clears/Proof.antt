@@ -14,7 +14,7 @@ use Rattle.pair_blocks.proofs.unchecked.block_clears.Statement.{statement}
 use Rattle.pair_blocks.proofs.unchecked.block_clears.Tie as tie
 
 -- the bounds, as the machine reads them back
-module _ (c : tie.After-lower-threshold) where
+module _ (c : tie.After-lower_threshold-lower) where
   abbrev start : tie.Start
   start = c.before.before
 
@@ -22,46 +22,46 @@ module _ (c : tie.After-lower-threshold) where
   t = start.args.thresholds
 
   abbrev upper : ℤ
-  upper = to_z w32 (of_z w32 c.before.upper-threshold.result)
+  upper = to_z w32 (of_z w32 c.upper_threshold-upper.result)
 
   abbrev lower : ℤ
-  lower = to_z w32 (of_z w32 c.lower-threshold.result)
+  lower = to_z w32 (of_z w32 c.lower_threshold-lower.result)
 
   upper_is : upper ≡ mixed_threshold t start.args.k start.args.l +ℤ pos t.board.on
-  upper_is = read_back w32 c.before.upper-threshold.type-inv c.before.upper-threshold.ensures
+  upper_is = read_back w32 c.upper_threshold-upper.type_inv c.upper_threshold-upper.ensures
 
   lower_is : lower ≡ mixed_threshold t start.args.k start.args.l -ℤ pos t.board.off
-  lower_is = read_back w32 c.lower-threshold.type-inv c.lower-threshold.ensures
+  lower_is = read_back w32 c.lower_threshold-lower.type_inv c.lower_threshold-lower.ensures
 
   -- what is asked of the sums
   mixed : MixedSums start.args.k start.args.l start.args.lows start.args.sums-u.now start.args.sums-v.now start.args.mixes.now
-  mixed = start.pre.1.1.1.0
+  mixed = start.requires.1.1.1.0
 
   v_between : Spanned start.args.lows start.args.sums-v.now start.args.span-v
-  v_between = start.pre.1.1.1.1.0
+  v_between = start.requires.1.1.1.1.0
 
   between : Spanned start.args.lows start.args.mixes.now start.args.span
-  between = start.pre.1.1.1.1.1
+  between = start.requires.1.1.1.1.1
 
   -- the test with the bounds is the test of the block
   tried : block_between t upper lower start.args.lows start.args.sums-u.now start.args.sums-v.now start.args.mixes.now
       ≡ block_clear t start.args.k start.args.l start.args.lows start.args.sums-u.now start.args.sums-v.now
   tried = block_is t start.args.k start.args.l mixed upper_is lower_is
 
-returns : tie.Need-returns
+returns : tie.Need-returns-then-settled_off
 returns c =
     let d = c.before.before in
-    let settled = sym c.before.settled-off.ensures ∙ c.if1.true in
+    let settled = sym c.settled_off.ensures ∙ c.if-settled_off.true in
     sym (clear_off (t d) (upper d) (lower d) (start d).args.sums-u.now (v_between d) (between d) settled) ∙ tried d
 
-returns_2 : tie.Need-returns-2
+returns_2 : tie.Need-returns-then-settled_on
 returns_2 c =
     let d = c.before.before.before.before in
-    let settled = sym c.before.Settled-on.ensures ∙ c.if2.true in
+    let settled = sym c.settled_on.ensures ∙ c.if-settled_on.true in
     sym (clear_on (t d) (upper d) (lower d) (start d).args.sums-u.now (v_between d) (between d) settled) ∙ tried d
 
-returns_3 : tie.Need-returns-3
-returns_3 c = c.clears-at-once.ensures ∙ tried c.before.before.before.before.before
+returns_3 : tie.Need-returns
+returns_3 c = c.clears_at_once.ensures ∙ tried c.before.before.before.before.before
 
 pub block_clears_spec : {M : Type 1} → statement M
 block_clears_spec =

@@ -47,22 +47,22 @@ module _ (c : tie.Start) where
       × (nat_abs (to_z w32 (of_z w32 (to_z w32 (of_z w32 c.args.sv) -ℤ to_z w32 (of_z w32 c.args.reach.on)))) ≤ 18000000)
   both_small = (rw a_made a_small, rw b_made b_small)
 
-sub_a : tie.Need-overflow-sub-a
+sub_a : tie.Need-overflow_sub-a
 sub_a c = let s = c.before.before in subst (SFits w32) (sym (ap₂ ◌-ℤ◌ (to_z-of_z s.ranges.su) (own_is s))) (a_fits s)
 
-sub_c : tie.Need-overflow-sub-c
+sub_c : tie.Need-overflow_sub-c
 sub_c c = let s = c.before.before.before.before in subst (SFits w32) (sym (ap₂ ◌-ℤ◌ (to_z-of_z s.ranges.sv) (on_is s))) (b_fits s)
 
-at_least_requires : tie.Need-at-least-requires
+at_least_requires : tie.Need-at_least-requires
 at_least_requires c κs = let s = c.before.before.before.before.before.before.before in (s.requires.0, both_small s)
 
-returns : tie.Need-returns
+returns : tie.Need-returns-then-a-sv
 returns c = c.at_least_lem.ensures
 
-at_most_requires : tie.Need-at-most-requires
+at_most_requires : tie.Need-at_most-requires
 at_most_requires c κs = let s = c.before.before.before.before.before.before.before in (s.requires.0, both_small s)
 
-returns_2 : tie.Need-returns-2
+returns_2 : tie.Need-returns
 returns_2 c = c.at_most.ensures
 
 pub bounded_spec : {M : Type 1} → statement M

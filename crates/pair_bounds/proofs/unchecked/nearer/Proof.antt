@@ -31,17 +31,17 @@ module _ (c : tie.Start) where
   here_fits : SFits w32 (low +ℤ high)
   here_fits = size_fits w32 (low +ℤ high) (omega (arith, here_small, c.requires.1.0.k_high, c.requires.1.0.l_high))
 
-add_here : tie.Need-overflow-add-here
+add_here : tie.Need-overflow_add-here
 add_here c = let s = c.before.before.before.before in simp (low_is s, high_is s) (here_fits s)
 
-returns : tie.Need-returns
+returns : tie.Need-returns-then-here-low
 returns c =
     let s = c.before.before.before.before.before in
     let p = s.requires.0 in
     simp (low_is s, high_is s, to_z-of_z (here_fits s))
     (record { below_on = s.requires.1.0; above_on = p.above_on; below_small = here_small s; above_small = p.above_small })
 
-returns_2 : tie.Need-returns-2
+returns_2 : tie.Need-returns
 returns_2 c =
     let s = c.before.before.before.before.before in
     let p = s.requires.0 in

@@ -49,13 +49,13 @@ module _ (c : tie.Start) where
   sum_fits : SFits w32 (ka +ℤ lc)
   sum_fits = size_fits w32 (ka +ℤ lc) (omega (arith, ka_size, lc_size, size_add ka lc))
 
-mul_result : tie.Need-overflow-mul-result
+mul_result : tie.Need-overflow_mul-result
 mul_result c = let s = c.before in simp (k_is s, to_z-of_z s.ranges.a) (ka_fits s)
 
-mul_result_2 : tie.Need-overflow-mul-result-2
+mul_result_2 : tie.Need-overflow_mul-result-2
 mul_result_2 c = let s = c.before.before in simp (l_is s, to_z-of_z s.ranges.c) (lc_fits s)
 
-add_result : tie.Need-overflow-add-result
+add_result : tie.Need-overflow_add-result
 add_result c =
     let s = c.before.before in
     simp (k_is s, l_is s, to_z-of_z s.ranges.a, to_z-of_z s.ranges.c, to_z-of_z (ka_fits s), to_z-of_z (lc_fits s)) (sum_fits s)

@@ -15,15 +15,14 @@ chosen true false y = refl
 chosen false x y = refl
 
 -- the composed pair's bit
-one_is : (c : tie.After-composed-bit) → let a = c.before.args in c.composed-bit.result ≡ composed_bit a.thresholds a.su a.sv
-one_is c = simp (to_z-of_z c.before.ranges.su, to_z-of_z c.before.ranges.sv) at c.composed-bit.ensures
+one_is : (c : tie.After-composed_bit-one) → let a = c.args in c.composed_bit-one.result ≡ composed_bit a.thresholds a.su a.sv
+one_is c = simp (to_z-of_z c.ranges.su, to_z-of_z c.ranges.sv) at c.composed_bit-one.ensures
 
 returns : tie.Need-returns
 unfolding clears_between
 returns c =
-    let s = c.before in
-    simp (one_is c, to_z-of_z s.ranges.upper, to_z-of_z s.ranges.lower, to_z-of_z s.ranges.sum)
-    (chosen (composed_bit s.args.thresholds s.args.su s.args.sv) _ _)
+    simp (one_is c, to_z-of_z c.ranges.upper, to_z-of_z c.ranges.lower, to_z-of_z c.ranges.sum)
+    (chosen (composed_bit c.args.thresholds c.args.su c.args.sv) _ _)
 
 pub clears_between_spec : {M : Type 1} → statement M
 clears_between_spec = tie.close (tie.spec (λ c κs. search rules) returns)

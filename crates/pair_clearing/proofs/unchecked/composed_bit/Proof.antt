@@ -21,20 +21,18 @@ module _ (c : tie.Start) where
   off_is : to_z w32 (of_z w32 c.args.thresholds.off) ≡ c.args.thresholds.off
   off_is = search rules
 
-returns : tie.Need-returns
+returns : tie.Need-returns-then-su-thresholds
 unfolding composed_bit
 returns c =
-    let t = c.before.before in
-    let d = t.before.before.before in
-    let own : le_z d.args.thresholds.own d.args.su ≡ true = simp (own_is d, to_z-of_z d.ranges.su) at t.if1.true in
+    let d = c.before.before.before.before.before in
+    let own : le_z d.args.thresholds.own d.args.su ≡ true = simp (own_is d, to_z-of_z d.ranges.su) at c.if-su-thresholds.true in
     simp (to_z-of_z d.ranges.sv, on_is d, own)
 
-returns_2 : tie.Need-returns-2
+returns_2 : tie.Need-returns-else-su-thresholds
 unfolding composed_bit
 returns_2 c =
-    let t = c.before.before in
-    let d = t.before.before.before in
-    let own : le_z d.args.thresholds.own d.args.su ≡ false = simp (own_is d, to_z-of_z d.ranges.su) at t.if1.false in
+    let d = c.before.before.before.before.before in
+    let own : le_z d.args.thresholds.own d.args.su ≡ false = simp (own_is d, to_z-of_z d.ranges.su) at c.if-su-thresholds.false in
     simp (to_z-of_z d.ranges.sv, off_is d, own)
 
 pub composed_bit_spec : {M : Type 1} → statement M

@@ -36,20 +36,19 @@ module _ (c : tie.Start) where
   off_fits : SFits w32 (c.args.thresholds.off -ℤ c.args.sv)
   off_fits = less_fits c.args.thresholds.off c.args.sv c.requires.0.off_small c.requires.1.1
 
-sub_own : tie.Need-overflow-sub-own
+sub_own : tie.Need-overflow_sub-own
 sub_own c = let s = c.before.before in subst (SFits w32) (sym (ap₂ ◌-ℤ◌ (own_is s) (to_z-of_z s.ranges.su))) (own_fits s)
 
-sub_on : tie.Need-overflow-sub-on
+sub_on : tie.Need-overflow_sub-on
 sub_on c = let s = c.before.before.before.before in subst (SFits w32) (sym (ap₂ ◌-ℤ◌ (on_is s) (to_z-of_z s.ranges.sv))) (on_fits s)
 
-sub_off : tie.Need-overflow-sub-off
+sub_off : tie.Need-overflow_sub-off
 sub_off c = let s = c.before.before.before.before.before.before in subst (SFits w32) (sym (ap₂ ◌-ℤ◌ (off_is s) (to_z-of_z s.ranges.sv))) (off_fits s)
 
 returns : tie.Need-returns
 unfolding reduced
 returns c =
-    let at_off = c.before in
-    let s = at_off.before.before.before.before.before.before in
+    let s = c.before.before.before.before.before.before.before in
     let made : ℤ → ℤ → ℤ = λ x y. to_z w32 (of_z w32 (x -ℤ y)) in
     let own = ap₂ made (own_is s) (to_z-of_z s.ranges.su) ∙ to_z-of_z (own_fits s) in
     let on = ap₂ made (on_is s) (to_z-of_z s.ranges.sv) ∙ to_z-of_z (on_fits s) in

@@ -21,11 +21,11 @@ module _ (c : tie.Start) where
   v_is : to_z w32 (of_z w32 (get_or c.args.sums-v.now at (pos 0))) ≡ get_or c.args.sums-v.now at (pos 0)
   v_is = place_held c.args.sums-v.now c.requires.0.v_small at
 
-less_high_half_requires : tie.Need-less-high-half-requires
+less_high_half_requires : tie.Need-less_high_half-requires
 less_high_half_requires c κs = let s = c.before.before in rw (u_is s, v_is s) (s.requires.1.0, (s.requires.0.u_small (at s), s.requires.0.v_small (at s)))
 
 returns : tie.Need-returns
-returns c = let s = c.before.before.before in rw (u_is s, v_is s) at c.less-high-half.ensures
+returns c = let s = c.before.before.before in rw (u_is s, v_is s) at c.less_high_half.ensures
 
 pub low_thresholds_spec : {M : Type 1} → statement M
 low_thresholds_spec =

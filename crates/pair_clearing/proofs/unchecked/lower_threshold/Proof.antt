@@ -24,21 +24,21 @@ module _ (c : tie.After-margin) where
   abbrev threshold : ℤ
   threshold = mixed_threshold t start.args.k start.args.l
 
-  threshold_is : to_z w32 (of_z w32 c.before.merged-threshold.result) ≡ threshold
-  threshold_is = read_back w32 c.before.merged-threshold.type-inv c.before.merged-threshold.ensures
+  threshold_is : to_z w32 (of_z w32 c.merged_threshold.result) ≡ threshold
+  threshold_is = read_back w32 c.merged_threshold.type_inv c.merged_threshold.ensures
 
   margin_is : to_z w32 (of_z w32 c.margin.result) ≡ pos t.board.off
-  margin_is = read_back w32 c.margin.type-inv c.margin.ensures.0
+  margin_is = read_back w32 c.margin.type_inv c.margin.ensures.0
 
   fits : SFits w32 (threshold -ℤ pos t.board.off)
   fits = size_fits w32 _ (omega (
     arith,
-    mixed_threshold_small t start.args.k start.args.l start.pre.0 start.pre.1,
+    mixed_threshold_small t start.args.k start.args.l start.requires.0 start.requires.1,
     size_sub threshold (pos t.board.off),
     c.margin.ensures.1,
   ))
 
-sub_result : tie.Need-overflow-sub-result
+sub_result : tie.Need-overflow_sub-result
 sub_result c = simp (threshold_is c, margin_is c) (fits c)
 
 returns : tie.Need-returns

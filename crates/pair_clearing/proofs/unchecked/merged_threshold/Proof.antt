@@ -25,7 +25,7 @@ mixed_requires c κs =
 
 returns : tie.Need-returns
 unfolding mixed_threshold
-returns c = let s = c.before.before.before in read_back w32 c.mixed.type-inv (rw (own_is s, on_is s) at c.mixed.ensures)
+returns c = let s = c.before.before.before in read_back w32 c.mixed.type_inv (rw (own_is s, on_is s) at c.mixed.ensures)
 
 pub merged_threshold_spec : {M : Type 1} → statement M
 merged_threshold_spec = tie.close (tie.spec mixed_requires returns)

@@ -31,47 +31,47 @@ front_all (suc i) [] h = refl
 front_all zero (x ∷ xs) h = absurd (omega (arith, h))
 front_all (suc i) (x ∷ xs) h = ap (λ (zs : List ℤ). neg_ℤ x ∷ zs) (front_all i xs (omega (arith, h)))
 
-abbrev invariant-loop : tie.invariant-loop
+abbrev invariant-loop : tie.invariant-loop-i
 invariant-loop numbers result₀ i₀ result i = (i ≤ 16) × (result ≡ front i numbers)
 
-abbrev decreases-loop : tie.decreases-loop
+abbrev decreases-loop : tie.decreases-loop-i
 decreases-loop numbers result₀ i₀ result i = 16 - i
 
-loop_holds : tie.Need-loop-init invariant-loop decreases-loop
+loop_holds : tie.Need-loop-i-init invariant-loop decreases-loop
 loop_holds c = (omega arith, refl)
 
 -- the number at i, as the machine reads it back, and minus it
-module _ (c : tie.In-loop invariant-loop decreases-loop) where
+module _ (c : tie.In-loop-i invariant-loop decreases-loop) where
   abbrev numbers : List ℤ
-  numbers = c.before.before.before.args.numbers.now
+  numbers = c.args.numbers.now
 
   abbrev i : ℕ
-  i = c.before.loop.i
+  i = c.loop-i.i
 
   number_is : to_z w32 (of_z w32 (get_or numbers i (pos 0))) ≡ get_or numbers i (pos 0)
-  number_is = to_z-of_z (size_fits w32 (get_or numbers i (pos 0)) (omega (arith, c.before.before.before.requires.0 i)))
+  number_is = to_z-of_z (size_fits w32 (get_or numbers i (pos 0)) (omega (arith, c.requires.0 i)))
 
   -- minus the number
   minus_is : pos 0 -ℤ get_or numbers i (pos 0) ≡ neg_ℤ (get_or numbers i (pos 0))
   minus_is = +ℤ_idl (neg_ℤ (get_or numbers i (pos 0)))
 
   minus_fits : SFits w32 (pos 0 -ℤ get_or numbers i (pos 0))
-  minus_fits = size_fits w32 (pos 0 -ℤ get_or numbers i (pos 0)) (omega (arith, size_minus (get_or numbers i (pos 0)), c.before.before.before.requires.0 i))
+  minus_fits = size_fits w32 (pos 0 -ℤ get_or numbers i (pos 0)) (omega (arith, size_minus (get_or numbers i (pos 0)), c.requires.0 i))
 
-sub_number : tie.Need-overflow-sub-number invariant-loop decreases-loop
+sub_number : tie.Need-overflow_sub-number invariant-loop decreases-loop
 sub_number c = rw (number_is c.before) (minus_fits c.before)
 
-loop_again : tie.Need-loop-preserved invariant-loop decreases-loop
+loop_again : tie.Need-loop-i-preserved invariant-loop decreases-loop
 loop_again c =
     let d = c.before in
     let same = ap (λ (z : ℤ). to_z w32 (of_z w32 (pos 0 -ℤ z))) (number_is d) ∙ to_z-of_z (minus_fits d) ∙ minus_is d in
-    (omega arith, rw (add-one, d.before.loop.invariant.1) (front_next (i d) (numbers d) _ same (omega (arith, d.before.before.before.requires.1))))
+    (omega arith, rw (add-one, d.loop-i.invariant.1) (front_next (i d) (numbers d) _ same (omega (arith, d.requires.1))))
 
 returns : tie.Need-returns invariant-loop decreases-loop
 returns c =
-    let xs = c.before.before.before.args.numbers.now in
-    let done : length xs ≤ c.before.loop.i = omega (arith, c.loop-test.false, c.before.before.before.requires.1) in
-    c.before.loop.invariant.1 ∙ front_all c.before.loop.i xs done
+    let xs = c.args.numbers.now in
+    let done : length xs ≤ c.loop-i.i = omega (arith, c.loop-i-test.false, c.requires.1) in
+    c.loop-i.invariant.1 ∙ front_all c.loop-i.i xs done
 
 pub negated_spec : {M : Type 1} → statement M
 negated_spec =

@@ -47,13 +47,13 @@ module _ (c : tie.Start) where
       let ly_size = times c.args.l _ c.args.y c.requires.dial.l_high c.requires.y_small in
       size_fits w32 (kx +ℤ ly) (omega (arith, kx_size, ly_size, size_add kx ly))
 
-mul_result : tie.Need-overflow-mul-result
+mul_result : tie.Need-overflow_mul-result
 mul_result c = simp (k_is c, to_z-of_z c.ranges.x) (kx_fits c)
 
-mul_result_2 : tie.Need-overflow-mul-result-2
+mul_result_2 : tie.Need-overflow_mul-result-2
 mul_result_2 c = simp (l_is c, to_z-of_z c.ranges.y) (ly_fits c)
 
-add_result : tie.Need-overflow-add-result
+add_result : tie.Need-overflow_add-result
 add_result c =
     simp (k_is c, l_is c, to_z-of_z c.ranges.x, to_z-of_z c.ranges.y, to_z-of_z (kx_fits c), to_z-of_z (ly_fits c)) (sum_fits c)
 

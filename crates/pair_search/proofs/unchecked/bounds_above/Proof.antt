@@ -16,14 +16,14 @@ on_is : (c : tie.Start) → to_z w32 (of_z w32 c.args.thresholds.on) ≡ c.args.
 on_is c = search rules
 
 -- the composed pair's bit
-one_is : (c : tie.After-composed-bit) → let a = c.before.args in c.composed-bit.result ≡ composed_bit a.thresholds a.su a.sv
-one_is c = let s = c.before in simp (to_z-of_z s.ranges.su, to_z-of_z s.ranges.sv) at c.composed-bit.ensures
+one_is : (c : tie.After-composed_bit-one) → let a = c.args in c.composed_bit-one.result ≡ composed_bit a.thresholds a.su a.sv
+one_is c = simp (to_z-of_z c.ranges.su, to_z-of_z c.ranges.sv) at c.composed_bit-one.ensures
 
 returns : tie.Need-returns
 unfolding bounds_above
 returns c =
     let d = c.before.before.before.before in
-    let s = d.before in
+    let s = c.before.before.before.before.before in
     simp (one_is d, own_is s, on_is s, to_z-of_z s.ranges.su, to_z-of_z s.ranges.sv)
 
 pub bounds_above_spec : {M : Type 1} → statement M

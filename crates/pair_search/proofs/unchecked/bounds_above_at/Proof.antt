@@ -7,9 +7,9 @@ use Rattle.pair_search.proofs.unchecked.bounds_above_at.Tie as tie
 
 returns : tie.Need-returns
 returns c =
-    let su = read_back w32 c.before.before.sum-at.type-inv c.before.before.sum-at.ensures in
-    let sv = read_back w32 c.before.sum-at2.type-inv c.before.sum-at2.ensures in
-    rw (su, sv) at c.bounds-above.ensures
+    let su = read_back w32 c.sum_at-su.type_inv c.sum_at-su.ensures in
+    let sv = read_back w32 c.sum_at-sv.type_inv c.sum_at-sv.ensures in
+    rw (su, sv) at c.bounds_above.ensures
 
 pub bounds_above_at_spec : {M : Type 1} → statement M
 bounds_above_at_spec =

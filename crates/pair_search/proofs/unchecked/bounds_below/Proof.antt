@@ -13,8 +13,8 @@ on_is : (c : tie.Start) → to_z w32 (of_z w32 c.args.thresholds.on) ≡ c.args.
 on_is c = search rules
 
 -- the composed pair's bit
-one_is : (c : tie.After-composed-bit) → let a = c.before.before.before.args in c.composed-bit.result ≡ composed_bit a.thresholds a.su a.sv
-one_is c = let s = c.before.before.before in simp (to_z-of_z s.ranges.su, to_z-of_z s.ranges.sv) at c.composed-bit.ensures
+one_is : (c : tie.After-composed_bit) → let a = c.args in c.composed_bit.result ≡ composed_bit a.thresholds a.su a.sv
+one_is c = simp (to_z-of_z c.ranges.su, to_z-of_z c.ranges.sv) at c.composed_bit.ensures
 
 returns : tie.Need-returns
 unfolding bounds_below

@@ -2,16 +2,15 @@
 use Rattle.pair_search.proofs.unchecked.find_pair.Statement.{statement}
 use Rattle.pair_search.proofs.unchecked.find_pair.Tie as tie
 
-table_requires : tie.Need-table-requires
-table_requires c κs = c.before.before.requires.fair.us_small
+table_requires : tie.Need-table-sums_u-requires
+table_requires c κs = c.requires.fair.us_small
 
-table_requires_2 : tie.Need-table-requires-2
-table_requires_2 c κs = c.before.before.before.before.before.requires.fair.vs_small
+table_requires_2 : tie.Need-table-sums_v-requires
+table_requires_2 c κs = c.requires.fair.vs_small
 
 scan_requires : tie.Need-scan-requires
 scan_requires c κs =
-    let first = c.before.before.before.before.before in
-    (first.before.before.before.requires, (first.table.ensures, c.before.before.table2.ensures))
+    (c.requires, (c.table-sums_u.ensures, c.table-sums_v.ensures))
 
 returns : tie.Need-returns
 returns c = c.scan.ensures

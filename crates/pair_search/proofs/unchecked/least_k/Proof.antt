@@ -8,28 +8,27 @@ use Rattle.pair_search.specs.Search.{RuledOut}
 use Rattle.pair_search.proofs.unchecked.least_k.Statement.{statement}
 use Rattle.pair_search.proofs.unchecked.least_k.Tie as tie
 
-abbrev invariant-loop : tie.invariant-loop
+abbrev invariant-loop : tie.invariant-loop-k
 invariant-loop sums-u sums-v thresholds known sum from k₀ k =
     ((from ≤ k) × (k ≤ 33))
     × ((j : ℕ) → j < k → from ≤ j → (l : ℕ) → sum ≤ j + l → l ≤ 32 → RuledOut thresholds sums-u sums-v known j l)
 
-abbrev decreases-loop : tie.decreases-loop
+abbrev decreases-loop : tie.decreases-loop-k
 decreases-loop sums-u sums-v thresholds known sum from k₀ k = 33 - k
 
-loop_holds : tie.Need-loop-init invariant-loop decreases-loop
+loop_holds : tie.Need-loop-k-init invariant-loop decreases-loop
 loop_holds c = ((omega arith, omega arith), λ j h i. absurd (omega (arith, h, i)))
 
-returns : tie.Need-returns invariant-loop decreases-loop
-returns c = let i = c.before.before.before.loop.invariant in (i.0, λ k l a b. i.1 k b a l)
+returns : tie.Need-returns-then-serves_k invariant-loop decreases-loop
+returns c = let i = c.loop-k.invariant in (i.0, λ k l a b. i.1 k b a l)
 
-loop_again : tie.Need-loop-preserved invariant-loop decreases-loop
+loop_again : tie.Need-loop-k-preserved invariant-loop decreases-loop
 loop_again c =
-    let d = c.before in
-    let i = d.before.before.loop.invariant in
-    ((omega arith, omega arith), below_more _ d.before.before.loop.k i.1 (λ h. d.serves-k.ensures c.if1.false))
+    let i = c.loop-k.invariant in
+    ((omega arith, omega arith), below_more _ c.loop-k.k i.1 (λ h. c.serves_k.ensures c.if-serves_k.false))
 
-returns_2 : tie.Need-returns-2 invariant-loop decreases-loop
-returns_2 c = let i = c.before.loop.invariant in (search rules, λ k l a b. i.1 k (omega (arith, b, c.loop-test.false)) a l)
+returns_2 : tie.Need-returns invariant-loop decreases-loop
+returns_2 c = let i = c.loop-k.invariant in (search rules, λ k l a b. i.1 k (omega (arith, b, c.loop-k-test.false)) a l)
 
 pub least_k_spec : {M : Type 1} → statement M
 least_k_spec =

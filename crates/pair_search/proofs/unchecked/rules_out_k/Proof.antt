@@ -9,10 +9,9 @@ use Rattle.pair_search.proofs.unchecked.rules_out_k.Tie as tie
 
 returns : tie.Need-returns
 returns c =
-    let b = c.before in
-    let su = read_back w32 b.before.before.sum-at.type-inv b.before.before.sum-at.ensures in
-    let sv = read_back w32 b.before.sum-at2.type-inv b.before.sum-at2.ensures in
-    ap₂ (λ (x y : Bool). x && not y) (rw (su, sv) at b.bounds-below.ensures) c.clears-at.ensures
+    let su = read_back w32 c.sum_at-su.type_inv c.sum_at-su.ensures in
+    let sv = read_back w32 c.sum_at-sv.type_inv c.sum_at-sv.ensures in
+    ap₂ (λ (x y : Bool). x && not y) (rw (su, sv) at c.bounds_below.ensures) c.clears_at.ensures
 
 pub rules_out_k_spec : {M : Type 1} → statement M
 rules_out_k_spec =

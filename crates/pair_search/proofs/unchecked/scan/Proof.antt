@@ -15,11 +15,11 @@ use Rattle.pair_search.proofs.SearchState.{unscaled, differs, setting_begin, set
 use Rattle.pair_search.proofs.unchecked.scan.Statement.{statement}
 use Rattle.pair_search.proofs.unchecked.scan.Tie as tie
 
-abbrev invariant-loop : tie.invariant-loop
+abbrev invariant-loop : tie.invariant-loop-setting
 invariant-loop a sums-u sums-v thresholds count all known₀ least sum k₀ l clear setting₀ known k setting =
     AtSetting (clears_on (aligned_in a) k₀ l) (2 ^ a.count) known₀ k₀ known k setting
 
-abbrev decreases-loop : tie.decreases-loop
+abbrev decreases-loop : tie.decreases-loop-setting
 decreases-loop a sums-u sums-v thresholds count all known₀ least sum k₀ l clear setting₀ known k setting = all - setting
 
 abbrev invariant-candidate : tie.invariant-candidate
@@ -35,11 +35,11 @@ invariant-sum a sums-u sums-v thresholds count all known₀ least₀ sum₀ know
 abbrev decreases-sum : tie.decreases-sum
 decreases-sum a sums-u sums-v thresholds count all known₀ least₀ sum₀ known least sum = 65 - sum
 
-settings_requires : tie.Need-settings-requires invariant-loop decreases-loop invariant-candidate decreases-candidate invariant-sum decreases-sum
-settings_requires c κs = c.before.requires.0.few
+settings_requires : tie.Need-settings-all-requires invariant-loop decreases-loop invariant-candidate decreases-candidate invariant-sum decreases-sum
+settings_requires c κs = c.requires.0.few
 
 -- the start, once the number of settings is known
-module _ (c : tie.After-settings invariant-loop decreases-loop invariant-candidate decreases-candidate invariant-sum decreases-sum) where
+module _ (c : tie.After-settings-all invariant-loop decreases-loop invariant-candidate decreases-candidate invariant-sum decreases-sum) where
   abbrev start : tie.Start invariant-loop decreases-loop invariant-candidate decreases-candidate invariant-sum decreases-sum
   start = c.before.before
 
@@ -47,32 +47,32 @@ module _ (c : tie.After-settings invariant-loop decreases-loop invariant-candida
   count = start.args.a.count
 
   few : count ≤ 16
-  few = start.pre.0.few
+  few = start.requires.0.few
 
   tables : SumTables start.args.sums-u.now start.args.sums-v.now
-  tables = let p = start.pre in tables_small p.0 p.1.0 p.1.1
+  tables = let p = start.requires in tables_small p.0 p.1.0 p.1.1
 
   near : ThresholdsWithin 10000000 start.args.a.thresholds
-  near = near_wider start.args.a.thresholds start.pre.0.fair.near
+  near = near_wider start.args.a.thresholds start.requires.0.fair.near
 
-tightest_requires : tie.Need-tightest-requires invariant-loop decreases-loop invariant-candidate decreases-candidate invariant-sum decreases-sum
+tightest_requires : tie.Need-tightest-known-requires invariant-loop decreases-loop invariant-candidate decreases-candidate invariant-sum decreases-sum
 tightest_requires c κs = (tables c, ((start c).requires.0.fair.near, few c))
 
 -- the settings to try first are known
 abbrev Ready : Type 0
-Ready = tie.After-tightest invariant-loop decreases-loop invariant-candidate decreases-candidate invariant-sum decreases-sum
+Ready = tie.After-tightest-known invariant-loop decreases-loop invariant-candidate decreases-candidate invariant-sum decreases-sum
 
-abbrev whole : Ready → tie.After-settings invariant-loop decreases-loop invariant-candidate decreases-candidate invariant-sum decreases-sum
+abbrev whole : Ready → tie.After-settings-all invariant-loop decreases-loop invariant-candidate decreases-candidate invariant-sum decreases-sum
 whole r = r.before
 
 sum_holds : tie.Need-sum-init invariant-loop decreases-loop invariant-candidate decreases-candidate invariant-sum decreases-sum
-sum_holds c = let p = (start (whole c)).pre in begin p.0 c.tightest.ensures
+sum_holds c = let p = (start (whole c)).requires in begin p.0 c.tightest-known.ensures
 
 -- a sum
 abbrev Sum : Type 0
 Sum = tie.In-sum invariant-loop decreases-loop invariant-candidate decreases-candidate invariant-sum decreases-sum
 
-abbrev sound : Sum → tie.After-settings invariant-loop decreases-loop invariant-candidate decreases-candidate invariant-sum decreases-sum
+abbrev sound : Sum → tie.After-settings-all invariant-loop decreases-loop invariant-candidate decreases-candidate invariant-sum decreases-sum
 sound d = whole d.before.before
 
 known_low : (d : Sum) → RememberedWithin 65536 d.before.sum.known
@@ -84,24 +84,23 @@ known_low d =
       earlier_in = setting_low (count h) d.before.sum.known.earlier (few h) w.earlier_in;
     }
 
-least_k_requires : tie.Need-least-k-requires invariant-loop decreases-loop invariant-candidate decreases-candidate invariant-sum decreases-sum
-least_k_requires c κs = (tables (sound c), (near (sound c), (known_low c, c.before.sum.invariant.passed.high)))
+least_k_requires : tie.Need-least_k-least-requires invariant-loop decreases-loop invariant-candidate decreases-candidate invariant-sum decreases-sum
+least_k_requires c κs = (tables (sound c), (near (sound c), (known_low c, c.sum.invariant.passed.high)))
 
 candidate_holds : tie.Need-candidate-init invariant-loop decreases-loop invariant-candidate decreases-candidate invariant-sum decreases-sum
 candidate_holds c =
-    let d = c.before in
-    let p = (start (sound d)).pre in
-    let a = d.before.sum.invariant in
-    let r = c.least-k.ensures in
+    let p = (start (sound c)).requires in
+    let a = c.sum.invariant in
+    let r = c.least_k-least.ensures in
     let passed =
     raised p.0 a.passed r.0.0 r.0.1 (λ k l b i h m. ruled_out p.0 p.1.0 p.1.1 k l a.within (r.1 k l b i h m)) in
-    (refl, turn p.0 a d.sum-test.true passed)
+    (refl, turn p.0 a c.sum-test.true passed)
 
 -- a candidate
 abbrev Here : Type 0
 Here = tie.In-candidate invariant-loop decreases-loop invariant-candidate decreases-candidate invariant-sum decreases-sum
 
-abbrev halves : Here → tie.After-settings invariant-loop decreases-loop invariant-candidate decreases-candidate invariant-sum decreases-sum
+abbrev halves : Here → tie.After-settings-all invariant-loop decreases-loop invariant-candidate decreases-candidate invariant-sum decreases-sum
 halves d = let sum = d.before.before.before in sound sum
 
 abbrev sum : Here → ℕ
@@ -123,36 +122,34 @@ at d = d.before.candidate.inv.1
 kept : (d : Here) → sum d ≡ d.before.before.before.before.sum.sum
 kept d = d.before.candidate.inv.0
 
-add_sum : tie.Need-overflow-add-sum invariant-loop decreases-loop invariant-candidate decreases-candidate invariant-sum decreases-sum
+add_sum : tie.Need-overflow_step-sum invariant-loop decreases-loop invariant-candidate decreases-candidate invariant-sum decreases-sum
 add_sum c = omega (arith, (at c.before).sum_high)
 
-sum_less : tie.Need-sum-smaller invariant-loop decreases-loop invariant-candidate decreases-candidate invariant-sum decreases-sum
+sum_less : tie.Need-sum-smaller-then-sum-k invariant-loop decreases-loop invariant-candidate decreases-candidate invariant-sum decreases-sum
 sum_less c = omega (arith, (at c.before).sum_high, kept c.before)
 
-sum_again : tie.Need-sum-preserved invariant-loop decreases-loop invariant-candidate decreases-candidate invariant-sum decreases-sum
+sum_again : tie.Need-sum-preserved-then-sum-k invariant-loop decreases-loop invariant-candidate decreases-candidate invariant-sum decreases-sum
 sum_again c =
-    let d = c.before in
-    let p = (start (halves d)).pre in
-    past_sum p.0 (at d) c.if1.true
+    let p = (start (halves c)).requires in
+    past_sum p.0 (at c) c.if-sum-k.true
 
-sub_l : tie.Need-overflow-sub-l invariant-loop decreases-loop invariant-candidate decreases-candidate invariant-sum decreases-sum
+sub_l : tie.Need-overflow_sub-l invariant-loop decreases-loop invariant-candidate decreases-candidate invariant-sum decreases-sum
 sub_l c = omega arith
 
-add_k : tie.Need-overflow-add-k invariant-loop decreases-loop invariant-candidate decreases-candidate invariant-sum decreases-sum
+add_k : tie.Need-overflow_step-k invariant-loop decreases-loop invariant-candidate decreases-candidate invariant-sum decreases-sum
 add_k c = omega arith
 
-candidate_less : tie.Need-candidate-smaller invariant-loop decreases-loop invariant-candidate decreases-candidate invariant-sum decreases-sum
+candidate_less : tie.Need-candidate-smaller-then-l-gt32 invariant-loop decreases-loop invariant-candidate decreases-candidate invariant-sum decreases-sum
 candidate_less c = omega arith
 
-candidate_again : tie.Need-candidate-preserved invariant-loop decreases-loop invariant-candidate decreases-candidate invariant-sum decreases-sum
+candidate_again : tie.Need-candidate-preserved-then-l-gt32 invariant-loop decreases-loop invariant-candidate decreases-candidate invariant-sum decreases-sum
 candidate_again c =
-    let d = c.before.before in
-    let p = (start (halves d)).pre in
-    (kept d, off p.0 (at d) d.candidate-test.true c.before.if1.false c.if2.true)
+    let p = (start (halves c)).requires in
+    (kept c, off p.0 (at c) c.candidate-test.true c.if-sum-k.false c.if-l-gt32.true)
 
 -- a candidate on the dial
 abbrev Tried : Type 0
-Tried = tie.Else2 invariant-loop decreases-loop invariant-candidate decreases-candidate invariant-sum decreases-sum
+Tried = tie.Else-l-gt32 invariant-loop decreases-loop invariant-candidate decreases-candidate invariant-sum decreases-sum
 
 abbrev here : Tried → Here
 here e = e.before.before
@@ -166,144 +163,130 @@ low e s h = setting_low (count (halves (here e))) s (few (halves (here e))) h
 within : (e : Tried) → RememberedWithin (2 ^ count (halves (here e))) (known (here e))
 within e = (at (here e)).within
 
-clears_at_requires : tie.Need-clears-at-requires invariant-loop decreases-loop invariant-candidate decreases-candidate invariant-sum decreases-sum
+clears_at_requires : tie.Need-clears_at-requires invariant-loop decreases-loop invariant-candidate decreases-candidate invariant-sum decreases-sum
 clears_at_requires c κs =
     let h = halves (here c) in
     (tables h, (near h, (dial c, low c (known (here c)).last (within c).last_in)))
 
-bounds_above_at_requires : tie.Need-bounds-above-at-requires invariant-loop decreases-loop invariant-candidate decreases-candidate invariant-sum decreases-sum
+bounds_above_at_requires : tie.Need-bounds_above_at-requires invariant-loop decreases-loop invariant-candidate decreases-candidate invariant-sum decreases-sum
 bounds_above_at_requires c κs =
-    let e = c.before.before in
-    let h = halves (here e) in
-    (tables h, low e (known (here e)).last (within e).last_in)
+    let h = halves (here c) in
+    (tables h, low c (known (here c)).last (within c).last_in)
 
-add_sum_2 : tie.Need-overflow-add-sum-2 invariant-loop decreases-loop invariant-candidate decreases-candidate invariant-sum decreases-sum
-add_sum_2 c = let e = c.before.before.before.before in omega (arith, (at (here e)).sum_high)
+add_sum_2 : tie.Need-overflow_step-sum-then-bounds_above_at invariant-loop decreases-loop invariant-candidate decreases-candidate invariant-sum decreases-sum
+add_sum_2 c = omega (arith, (at (here c)).sum_high)
 
-sum_less_2 : tie.Need-sum-smaller-2 invariant-loop decreases-loop invariant-candidate decreases-candidate invariant-sum decreases-sum
-sum_less_2 c = let e = c.before.before.before.before in omega (arith, (at (here e)).sum_high, kept (here e))
+sum_less_2 : tie.Need-sum-smaller-then-bounds_above_at invariant-loop decreases-loop invariant-candidate decreases-candidate invariant-sum decreases-sum
+sum_less_2 c = omega (arith, (at (here c)).sum_high, kept (here c))
 
-sum_again_2 : tie.Need-sum-preserved-2 invariant-loop decreases-loop invariant-candidate decreases-candidate invariant-sum decreases-sum
+sum_again_2 : tie.Need-sum-preserved-then-bounds_above_at invariant-loop decreases-loop invariant-candidate decreases-candidate invariant-sum decreases-sum
 sum_again_2 c =
-    let b = c.before in
-    let t = b.before in
-    let e = t.before.before in
-    let p = (start (halves (here e))).pre in
-    let s = (known (here e)).last in
-    past_bound p.0 s (at (here e)) (within e).last_in
-    (rest_differs p.0 p.1.0 p.1.1 (sum (here e)) (k (here e)) s (within e).last_in t.before.clears-at.ensures t.if3.true
-    b.bounds-above-at.ensures c.if4.true)
+    let p = (start (halves (here c))).requires in
+    let s = (known (here c)).last in
+    past_bound p.0 s (at (here c)) (within c).last_in
+    (rest_differs p.0 p.1.0 p.1.1 (sum (here c)) (k (here c)) s (within c).last_in c.clears_at.ensures c.if-not-clears_at.true-raw
+    c.bounds_above_at.ensures c.if-bounds_above_at.true)
 
-add_k_2 : tie.Need-overflow-add-k-2 invariant-loop decreases-loop invariant-candidate decreases-candidate invariant-sum decreases-sum
+add_k_2 : tie.Need-overflow_step-k-then-not-clears_at invariant-loop decreases-loop invariant-candidate decreases-candidate invariant-sum decreases-sum
 add_k_2 c = omega arith
 
-candidate_less_2 : tie.Need-candidate-smaller-2 invariant-loop decreases-loop invariant-candidate decreases-candidate invariant-sum decreases-sum
+candidate_less_2 : tie.Need-candidate-smaller-then-not-clears_at invariant-loop decreases-loop invariant-candidate decreases-candidate invariant-sum decreases-sum
 candidate_less_2 c = omega arith
 
-candidate_again_2 : tie.Need-candidate-preserved-2 invariant-loop decreases-loop invariant-candidate decreases-candidate invariant-sum decreases-sum
+candidate_again_2 : tie.Need-candidate-preserved-then-not-clears_at invariant-loop decreases-loop invariant-candidate decreases-candidate invariant-sum decreases-sum
 candidate_again_2 c =
-    let t = c.before.before in
-    let e = t.before.before in
-    let p = (start (halves (here e))).pre in
-    let s = (known (here e)).last in (
-      kept (here e),
-      differs p.0 s (at (here e)) (here e).candidate-test.true e.before.if1.false (within e).last_in (within e)
-          (tested p.0 p.1.0 p.1.1 (k (here e)) (l (here e)) s (within e).last_in t.before.clears-at.ensures) t.if3.true,
+    let p = (start (halves (here c))).requires in
+    let s = (known (here c)).last in (
+      kept (here c),
+      differs p.0 s (at (here c)) (here c).candidate-test.true c.if-sum-k.false (within c).last_in (within c)
+          (tested p.0 p.1.0 p.1.1 (k (here c)) (l (here c)) s (within c).last_in c.clears_at.ensures) c.if-not-clears_at.true-raw,
     )
 
-clears_at_requires_2 : tie.Need-clears-at-requires-2 invariant-loop decreases-loop invariant-candidate decreases-candidate invariant-sum decreases-sum
+clears_at_requires_2 : tie.Need-clears_at-requires-in-candidate invariant-loop decreases-loop invariant-candidate decreases-candidate invariant-sum decreases-sum
 clears_at_requires_2 c κs =
-    let e = c.before.before in
-    let h = halves (here e) in
-    (tables h, (near h, (dial e, low e (known (here e)).earlier (within e).earlier_in)))
+    let h = halves (here c) in
+    (tables h, (near h, (dial c, low c (known (here c)).earlier (within c).earlier_in)))
 
-bounds_above_at_requires_2 : tie.Need-bounds-above-at-requires-2 invariant-loop decreases-loop invariant-candidate decreases-candidate invariant-sum decreases-sum
+bounds_above_at_requires_2 : tie.Need-bounds_above_at-requires-then-not-clears_at-2 invariant-loop decreases-loop invariant-candidate decreases-candidate invariant-sum decreases-sum
 bounds_above_at_requires_2 c κs =
-    let e = c.before.before.before.before in
-    let h = halves (here e) in
-    (tables h, low e (known (here e)).earlier (within e).earlier_in)
+    let h = halves (here c) in
+    (tables h, low c (known (here c)).earlier (within c).earlier_in)
 
-add_sum_3 : tie.Need-overflow-add-sum-3 invariant-loop decreases-loop invariant-candidate decreases-candidate invariant-sum decreases-sum
-add_sum_3 c = let e = c.before.before.before.before.before.before in omega (arith, (at (here e)).sum_high)
+add_sum_3 : tie.Need-overflow_step-sum-then-bounds_above_at-2 invariant-loop decreases-loop invariant-candidate decreases-candidate invariant-sum decreases-sum
+add_sum_3 c = omega (arith, (at (here c)).sum_high)
 
-sum_less_3 : tie.Need-sum-smaller-3 invariant-loop decreases-loop invariant-candidate decreases-candidate invariant-sum decreases-sum
-sum_less_3 c = let e = c.before.before.before.before.before.before in omega (arith, (at (here e)).sum_high, kept (here e))
+sum_less_3 : tie.Need-sum-smaller-then-bounds_above_at-2 invariant-loop decreases-loop invariant-candidate decreases-candidate invariant-sum decreases-sum
+sum_less_3 c = omega (arith, (at (here c)).sum_high, kept (here c))
 
-sum_again_3 : tie.Need-sum-preserved-3 invariant-loop decreases-loop invariant-candidate decreases-candidate invariant-sum decreases-sum
+sum_again_3 : tie.Need-sum-preserved-then-bounds_above_at-2 invariant-loop decreases-loop invariant-candidate decreases-candidate invariant-sum decreases-sum
 sum_again_3 c =
-    let b = c.before in
-    let t = b.before in
-    let e = t.before.before.before.before in
-    let p = (start (halves (here e))).pre in
-    let s = (known (here e)).earlier in
-    past_bound p.0 s (at (here e)) (within e).earlier_in
-    (rest_differs p.0 p.1.0 p.1.1 (sum (here e)) (k (here e)) s (within e).earlier_in t.before.clears-at2.ensures t.if5.true
-    b.bounds-above-at2.ensures c.if6.true)
+    let p = (start (halves (here c))).requires in
+    let s = (known (here c)).earlier in
+    past_bound p.0 s (at (here c)) (within c).earlier_in
+    (rest_differs p.0 p.1.0 p.1.1 (sum (here c)) (k (here c)) s (within c).earlier_in c.clears_at-in-candidate.ensures c.if-not-clears_at-2.true-raw
+    c.bounds_above_at-then-not-clears_at-2.ensures c.if-bounds_above_at-2.true)
 
-add_k_3 : tie.Need-overflow-add-k-3 invariant-loop decreases-loop invariant-candidate decreases-candidate invariant-sum decreases-sum
+add_k_3 : tie.Need-overflow_step-k-then-not-clears_at-2 invariant-loop decreases-loop invariant-candidate decreases-candidate invariant-sum decreases-sum
 add_k_3 c = omega arith
 
-candidate_less_3 : tie.Need-candidate-smaller-3 invariant-loop decreases-loop invariant-candidate decreases-candidate invariant-sum decreases-sum
+candidate_less_3 : tie.Need-candidate-smaller-then-not-clears_at-2 invariant-loop decreases-loop invariant-candidate decreases-candidate invariant-sum decreases-sum
 candidate_less_3 c = omega arith
 
-candidate_again_3 : tie.Need-candidate-preserved-3 invariant-loop decreases-loop invariant-candidate decreases-candidate invariant-sum decreases-sum
+candidate_again_3 : tie.Need-candidate-preserved-then-not-clears_at-2 invariant-loop decreases-loop invariant-candidate decreases-candidate invariant-sum decreases-sum
 candidate_again_3 c =
-    let t = c.before.before in
-    let e = t.before.before.before.before in
-    let p = (start (halves (here e))).pre in
-    let s = (known (here e)).earlier in (
-      kept (here e),
-      differs p.0 s (at (here e)) (here e).candidate-test.true e.before.if1.false (within e).earlier_in (within e)
-          (tested p.0 p.1.0 p.1.1 (k (here e)) (l (here e)) s (within e).earlier_in t.before.clears-at2.ensures) t.if5.true,
+    let p = (start (halves (here c))).requires in
+    let s = (known (here c)).earlier in (
+      kept (here c),
+      differs p.0 s (at (here c)) (here c).candidate-test.true c.if-sum-k.false (within c).earlier_in (within c)
+          (tested p.0 p.1.0 p.1.1 (k (here c)) (l (here c)) s (within c).earlier_in c.clears_at-in-candidate.ensures) c.if-not-clears_at-2.true-raw,
     )
 
-scale_fits_requires : tie.Need-scale-fits-requires invariant-loop decreases-loop invariant-candidate decreases-candidate invariant-sum decreases-sum
+scale_fits_requires : tie.Need-scale_fits-requires invariant-loop decreases-loop invariant-candidate decreases-candidate invariant-sum decreases-sum
 scale_fits_requires c κs =
-    let e = c.before.before.before.before in
-    ((start (halves (here e))).pre.0, dial e)
+    ((start (halves (here c))).requires.0, dial c)
 
 -- a candidate whose scale is tested
 abbrev Scaled : Type 0
-Scaled = tie.After-scale-fits invariant-loop decreases-loop invariant-candidate decreases-candidate invariant-sum decreases-sum
+Scaled = tie.After-scale_fits invariant-loop decreases-loop invariant-candidate decreases-candidate invariant-sum decreases-sum
 
 abbrev tried : Scaled → Tried
 tried s = s.before.before.before.before.before
 
-add_k_4 : tie.Need-overflow-add-k-4 invariant-loop decreases-loop invariant-candidate decreases-candidate invariant-sum decreases-sum
+add_k_4 : tie.Need-overflow_step-k-then-not-scale_fits invariant-loop decreases-loop invariant-candidate decreases-candidate invariant-sum decreases-sum
 add_k_4 c = omega arith
 
-candidate_less_4 : tie.Need-candidate-smaller-4 invariant-loop decreases-loop invariant-candidate decreases-candidate invariant-sum decreases-sum
+candidate_less_4 : tie.Need-candidate-smaller-then-not-scale_fits invariant-loop decreases-loop invariant-candidate decreases-candidate invariant-sum decreases-sum
 candidate_less_4 c = omega arith
 
-candidate_again_4 : tie.Need-candidate-preserved-4 invariant-loop decreases-loop invariant-candidate decreases-candidate invariant-sum decreases-sum
+candidate_again_4 : tie.Need-candidate-preserved-then-not-scale_fits invariant-loop decreases-loop invariant-candidate decreases-candidate invariant-sum decreases-sum
 candidate_again_4 c =
     let e = tried c.before in
-    let p = (start (halves (here e))).pre in (
+    let p = (start (halves (here e))).requires in (
       kept (here e),
-      unscaled p.0 (at (here e)) (here e).candidate-test.taken e.before.if1.left c.before.scale_fits.ensures c.if7.true,
+      unscaled p.0 (at (here e)) (here e).candidate-test.taken e.before.if1.left c.scale_fits.ensures c.if-not-scale_fits.true-raw,
     )
 
-clear_settings_requires : tie.Need-clear-settings-requires invariant-loop decreases-loop invariant-candidate decreases-candidate invariant-sum decreases-sum
+clear_settings_requires : tie.Need-clear_settings-clear-requires invariant-loop decreases-loop invariant-candidate decreases-candidate invariant-sum decreases-sum
 clear_settings_requires c κs =
     let e = tried c.before in
-    let p = (start (halves (here e))).pre in
+    let p = (start (halves (here e))).requires in
     (p.0, (dial e, (p.1.0, p.1.1)))
 
 -- a candidate whose settings are gone through
 abbrev Scanned : Type 0
-Scanned = tie.After-clear-settings invariant-loop decreases-loop invariant-candidate decreases-candidate invariant-sum decreases-sum
+Scanned = tie.After-clear_settings-clear invariant-loop decreases-loop invariant-candidate decreases-candidate invariant-sum decreases-sum
 
 abbrev of : Scanned → Tried
 of c = tried c.before.before
 
-loop_holds : tie.Need-loop-init invariant-loop decreases-loop invariant-candidate decreases-candidate invariant-sum decreases-sum
+loop_holds : tie.Need-loop-setting-init invariant-loop decreases-loop invariant-candidate decreases-candidate invariant-sum decreases-sum
 loop_holds c =
     let e = of c in
-    setting_begin (start (halves (here e))).pre.0 (k (here e)) (l (here e)) (known (here e)) c.clear-settings.ensures
+    setting_begin (start (halves (here e))).requires.0 (k (here e)) (l (here e)) (known (here e)) c.clear_settings-clear.ensures
 
 -- a setting
 abbrev Turn : Type 0
-Turn = tie.In-loop invariant-loop decreases-loop invariant-candidate decreases-candidate invariant-sum decreases-sum
+Turn = tie.In-loop-setting invariant-loop decreases-loop invariant-candidate decreases-candidate invariant-sum decreases-sum
 
 abbrev by : Turn → Tried
 by d = of d.before.before
@@ -314,92 +297,82 @@ setting d = d.before.loop.setting
 inside : (d : Turn) → setting d < 2 ^ count (halves (here (by d)))
 inside d = omega (arith, d.loop-test.taken, (halves (here (by d))).settings.ensures)
 
-clears_at_requires_3 : tie.Need-clears-at-requires-3 invariant-loop decreases-loop invariant-candidate decreases-candidate invariant-sum decreases-sum
+clears_at_requires_3 : tie.Need-clears_at-requires-in-loop-setting invariant-loop decreases-loop invariant-candidate decreases-candidate invariant-sum decreases-sum
 clears_at_requires_3 c κs =
     let e = by c in
     let h = halves (here e) in
-    (tables h, (near h, (rw c.before.loop.invariant.kept (dial e), low e (setting c) (inside c))))
+    (tables h, (near h, (rw c.loop-setting.invariant.kept (dial e), low e (setting c) (inside c))))
 
 -- what the test of a setting says
-agreed : (c : tie.After-clears-at3 invariant-loop decreases-loop invariant-candidate decreases-candidate invariant-sum decreases-sum) → let d = c.before in
-    c.clears-at3.result ≡ clears_on (aligned_in (start (halves (here (by d)))).args.a) d.before.loop.k (l (here (by d))) (setting d)
+agreed : (c : tie.After-clears_at-in-loop-setting invariant-loop decreases-loop invariant-candidate decreases-candidate invariant-sum decreases-sum) → 
+    c.clears_at-in-loop-setting.result ≡ clears_on (aligned_in (start (halves (here (by c)))).args.a) c.loop-setting.k (l (here (by c))) (setting c)
 agreed c =
-    let d = c.before in
-    let p = (start (halves (here (by d)))).pre in
-    tested p.0 p.1.0 p.1.1 d.before.loop.k (l (here (by d))) (setting d) (inside d) c.clears-at3.ensures
+    let p = (start (halves (here (by c)))).requires in
+    tested p.0 p.1.0 p.1.1 c.loop-setting.k (l (here (by c))) (setting c) (inside c) c.clears_at-in-loop-setting.ensures
 
-remembered_requires : tie.Need-remembered-requires invariant-loop decreases-loop invariant-candidate decreases-candidate invariant-sum decreases-sum
+remembered_requires : tie.Need-remembered-known-requires invariant-loop decreases-loop invariant-candidate decreases-candidate invariant-sum decreases-sum
 remembered_requires c κs =
-    let d = c.before.before in
-    let e = by d in
+    let e = by c in
     let known_low : RememberedWithin 65536 (known (here e)) = record {
       last_in = low e (known (here e)).last (within e).last_in;
       earlier_in = low e (known (here e)).earlier (within e).earlier_in;
     } in
-    (tables (halves (here e)), (rw d.before.loop.invariant.kept_known known_low, low e (setting d) (inside d)))
+    (tables (halves (here e)), (rw c.loop-setting.invariant.kept_known known_low, low e (setting c) (inside c)))
 
-add_k_5 : tie.Need-overflow-add-k-5 invariant-loop decreases-loop invariant-candidate decreases-candidate invariant-sum decreases-sum
+add_k_5 : tie.Need-overflow_step-k-then-not-clears_at-3 invariant-loop decreases-loop invariant-candidate decreases-candidate invariant-sum decreases-sum
 add_k_5 c =
-    let d = c.before.before.before in
-    omega (arith, d.before.loop.invariant.kept, (here (by d)).candidate-test.taken)
+    omega (arith, c.loop-setting.invariant.kept, (here (by c)).candidate-test.taken)
 
-candidate_less_5 : tie.Need-candidate-smaller-5 invariant-loop decreases-loop invariant-candidate decreases-candidate invariant-sum decreases-sum
+candidate_less_5 : tie.Need-candidate-smaller invariant-loop decreases-loop invariant-candidate decreases-candidate invariant-sum decreases-sum
 candidate_less_5 c =
-    let d = c.before.before.before in
-    omega (arith, d.before.loop.invariant.kept, (here (by d)).candidate-test.taken)
+    omega (arith, c.loop-setting.invariant.kept, (here (by c)).candidate-test.taken)
 
-candidate_again_5 : tie.Need-candidate-preserved-5 invariant-loop decreases-loop invariant-candidate decreases-candidate invariant-sum decreases-sum
+candidate_again_5 : tie.Need-candidate-preserved invariant-loop decreases-loop invariant-candidate decreases-candidate invariant-sum decreases-sum
 candidate_again_5 c =
-    let d = c.before.before.before in
-    let e = by d in
-    let p = (start (halves (here e))).pre in
-    let i = d.before.loop.invariant in
+    let e = by c in
+    let p = (start (halves (here e))).requires in
+    let i = c.loop-setting.invariant in
     let n = 2 ^ count (halves (here e)) in
-    let remembered = c.remembered.ensures n (subst (RememberedWithin n) (sym i.kept_known) (within e)) (inside d) in (
+    let remembered = c.remembered-known.ensures n (subst (RememberedWithin n) (sym i.kept_known) (within e)) (inside c) in (
       kept (here e),
-      setting_differs p.0 (setting d) (at (here e)) (here e).candidate-test.taken e.before.if1.left (inside d)
-          remembered i.kept (agreed c.before.before) c.before.if8.true,
+      setting_differs p.0 (setting c) (at (here e)) (here e).candidate-test.taken e.before.if1.left (inside c)
+          remembered i.kept (agreed c.before.before) c.if-not-clears_at-3.true-raw,
     )
 
-add_setting : tie.Need-overflow-add-setting invariant-loop decreases-loop invariant-candidate decreases-candidate invariant-sum decreases-sum
+add_setting : tie.Need-overflow_step-setting invariant-loop decreases-loop invariant-candidate decreases-candidate invariant-sum decreases-sum
 add_setting c =
-    let d = c.before.before in
-    record { fits = omega (arith, low (by d) (setting d) (inside d)) }
+    record { fits = omega (arith, low (by c) (setting c) (inside c)) }
 
-loop_less : tie.Need-loop-smaller invariant-loop decreases-loop invariant-candidate decreases-candidate invariant-sum decreases-sum
+loop_less : tie.Need-loop-setting-smaller invariant-loop decreases-loop invariant-candidate decreases-candidate invariant-sum decreases-sum
 loop_less c = omega arith
 
-loop_again : tie.Need-loop-preserved invariant-loop decreases-loop invariant-candidate decreases-candidate invariant-sum decreases-sum
+loop_again : tie.Need-loop-setting-preserved invariant-loop decreases-loop invariant-candidate decreases-candidate invariant-sum decreases-sum
 loop_again c =
-    let d = c.before.before in
-    let p = (start (halves (here (by d)))).pre in
-    setting_more p.0 (l (here (by d))) d.before.loop.invariant (inside d) (agreed c.before) c.if8.false
+    let p = (start (halves (here (by c)))).requires in
+    setting_more p.0 (l (here (by c))) c.loop-setting.invariant (inside c) (agreed c.before) c.if-not-clears_at-3.false-raw
 
-returns : tie.Need-returns invariant-loop decreases-loop invariant-candidate decreases-candidate invariant-sum decreases-sum
+returns : tie.Need-returns-in-candidate invariant-loop decreases-loop invariant-candidate decreases-candidate invariant-sum decreases-sum
 returns c =
-    let scanned = c.before.before in
-    let e = of scanned in
+    let e = of c in
     let h = halves (here e) in
-    let scaled = scanned.before in
-    found (start h).pre.0 (at (here e)) (here e).candidate-test.taken e.before.if1.left e.if2.left
-    scaled.before.scale_fits.ensures scaled.if7.false c.before.loop.invariant (omega (arith, c.loop-test.false, h.settings.ensures))
+    found (start h).requires.0 (at (here e)) (here e).candidate-test.taken e.before.if1.left e.if2.left
+    c.scale_fits.ensures c.if-not-scale_fits.false-raw c.loop-setting.invariant (omega (arith, c.loop-setting-test.false, h.settings.ensures))
 
-add_sum_4 : tie.Need-overflow-add-sum-4 invariant-loop decreases-loop invariant-candidate decreases-candidate invariant-sum decreases-sum
-add_sum_4 c = omega (arith, c.before.candidate.invariant.1.sum_high)
+add_sum_4 : tie.Need-overflow_step-sum-in-sum invariant-loop decreases-loop invariant-candidate decreases-candidate invariant-sum decreases-sum
+add_sum_4 c = omega (arith, c.candidate.invariant.1.sum_high)
 
-sum_less_4 : tie.Need-sum-smaller-4 invariant-loop decreases-loop invariant-candidate decreases-candidate invariant-sum decreases-sum
-sum_less_4 c = omega (arith, c.before.candidate.invariant.1.sum_high, c.before.candidate.invariant.0)
+sum_less_4 : tie.Need-sum-smaller invariant-loop decreases-loop invariant-candidate decreases-candidate invariant-sum decreases-sum
+sum_less_4 c = omega (arith, c.candidate.invariant.1.sum_high, c.candidate.invariant.0)
 
-sum_again_4 : tie.Need-sum-preserved-4 invariant-loop decreases-loop invariant-candidate decreases-candidate invariant-sum decreases-sum
+sum_again_4 : tie.Need-sum-preserved invariant-loop decreases-loop invariant-candidate decreases-candidate invariant-sum decreases-sum
 sum_again_4 c =
-    let d = c.before.before.before in
-    let p = (start (sound d)).pre in
-    past_dial p.0 c.before.candidate.invariant.1 c.candidate-test.false
+    let p = (start (sound c)).requires in
+    past_dial p.0 c.candidate.invariant.1 c.candidate-test.false
 
-returns_2 : tie.Need-returns-2 invariant-loop decreases-loop invariant-candidate decreases-candidate invariant-sum decreases-sum
+returns_2 : tie.Need-returns invariant-loop decreases-loop invariant-candidate decreases-candidate invariant-sum decreases-sum
 returns_2 c =
-    let p = (start (whole c.before.before)).pre in
-    none p.0 c.before.sum.invariant c.sum-test.false
+    let p = (start (whole c.before.before)).requires in
+    none p.0 c.sum.invariant c.sum-test.false
 
 pub scan_spec : {M : Type 1} → statement M
 scan_spec =

@@ -12,17 +12,17 @@ use Rattle.pair_search.proofs.RangeLaws.{greater_l}
 use Rattle.pair_search.proofs.unchecked.serves_k.Statement.{statement}
 use Rattle.pair_search.proofs.unchecked.serves_k.Tie as tie
 
-returns : tie.Need-returns
+returns : tie.Need-returns-then-sum-k
 returns c e l h m = absurd (true≢false e)
 
-returns_2 : tie.Need-returns-2
-returns_2 c e l h m = absurd (omega (arith, c.if2.true, h, m))
+returns_2 : tie.Need-returns-then-l-gt32
+returns_2 c e l h m = absurd (omega (arith, c.if-l-gt32.true, h, m))
 
-returns_3 : tie.Need-returns-3
+returns_3 : tie.Need-returns
 returns_3 c e l h m =
-    let a = c.before.before.before.before.args in
-    let first = c.before.rules-out-k in
-    let second = c.rules-out-k2 in
+    let a = c.args in
+    let first = c.rules_out_k-last in
+    let second = c.rules_out_k-earlier in
     let more : a.sum - a.k ≤ l = omega (arith, h) in
     or_case first.result second.result (T_is (first.result || second.result) (not-false (first.result || second.result) e))
     (λ t. inl (greater_l a.thresholds _ _ a.k (a.sum - a.k) l first.ensures t more))

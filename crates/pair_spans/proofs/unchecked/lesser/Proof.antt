@@ -8,17 +8,15 @@ use Rattle.pair_spans.specs.SpanLaws.{le_refl, le_swap}
 use Rattle.pair_spans.proofs.unchecked.lesser.Statement.{statement}
 use Rattle.pair_spans.proofs.unchecked.lesser.Tie as tie
 
-returns : tie.Need-returns
+returns : tie.Need-returns-then-x-y
 returns c =
-    let s = c.before in
-    let t : le_z s.args.x s.args.y ≡ true = simp (to_z-of_z s.ranges.x, to_z-of_z s.ranges.y) at c.if1.true in
-    simp (to_z-of_z s.ranges.x) (le_refl s.args.x, T_is _ t)
+    let t : le_z c.args.x c.args.y ≡ true = simp (to_z-of_z c.ranges.x, to_z-of_z c.ranges.y) at c.if-x-y.true in
+    simp (to_z-of_z c.ranges.x) (le_refl c.args.x, T_is _ t)
 
-returns_2 : tie.Need-returns-2
+returns_2 : tie.Need-returns
 returns_2 c =
-    let s = c.before in
-    let t : le_z s.args.x s.args.y ≡ false = simp (to_z-of_z s.ranges.x, to_z-of_z s.ranges.y) at c.if1.false in
-    simp (to_z-of_z s.ranges.y) (le_swap s.args.x s.args.y t, le_refl s.args.y)
+    let t : le_z c.args.x c.args.y ≡ false = simp (to_z-of_z c.ranges.x, to_z-of_z c.ranges.y) at c.if-x-y.false in
+    simp (to_z-of_z c.ranges.y) (le_swap c.args.x c.args.y t, le_refl c.args.y)
 
 pub lesser_spec : {M : Type 1} → statement M
 lesser_spec = tie.close (tie.spec returns returns_2)

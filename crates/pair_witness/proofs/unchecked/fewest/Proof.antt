@@ -18,32 +18,32 @@ use borrow.Author.Rules.{rules}
 use Rattle.pair_witness.proofs.unchecked.fewest.Statement.{statement}
 use Rattle.pair_witness.proofs.unchecked.fewest.Tie as tie
 
-abbrev invariant-loop2 : tie.invariant-loop2
+abbrev invariant-loop2 : tie.invariant-loop-low
 invariant-loop2 a sums-u sums-v k l count high_count highs lows mixes span-v span least₀ shown₀ high lit reach low₀ least shown low =
     Passing (clears_on (aligned_in a) k l) (2 ^ a.count) least shown (high * lows + low) × (low ≤ lows)
 
-abbrev decreases-loop2 : tie.decreases-loop2
+abbrev decreases-loop2 : tie.decreases-loop-low
 decreases-loop2 a sums-u sums-v k l count high_count highs lows mixes span-v span least₀ shown₀ high lit reach low₀ least shown low = lows - low
 
-abbrev invariant-loop : tie.invariant-loop
+abbrev invariant-loop : tie.invariant-loop-high
 invariant-loop a sums-u sums-v k l count high_count highs lows mixes span-v span least₀ shown₀ high₀ least shown high =
     Passing (clears_on (aligned_in a) k l) (2 ^ a.count) least shown (high * lows) × (high ≤ highs)
 
-abbrev decreases-loop : tie.decreases-loop
+abbrev decreases-loop : tie.decreases-loop-high
 decreases-loop a sums-u sums-v k l count high_count highs lows mixes span-v span least₀ shown₀ high₀ least shown high = highs - high
 
-settings_requires : tie.Need-settings-requires invariant-loop2 decreases-loop2 invariant-loop decreases-loop
-settings_requires c κs = omega (arith, c.high-feeds.ensures, c.before.requires.0.searchable.few)
+settings_requires : tie.Need-settings-highs-requires invariant-loop2 decreases-loop2 invariant-loop decreases-loop
+settings_requires c κs = omega (arith, c.high_feeds-high_count.ensures, c.requires.0.searchable.few)
 
-sub_settings : tie.Need-overflow-sub-settings invariant-loop2 decreases-loop2 invariant-loop decreases-loop
-sub_settings c = omega (arith, c.before.high-feeds.ensures)
+sub_settings : tie.Need-overflow_sub-count invariant-loop2 decreases-loop2 invariant-loop decreases-loop
+sub_settings c = omega (arith, c.high_feeds-high_count.ensures)
 
-settings_requires_2 : tie.Need-settings-requires-2 invariant-loop2 decreases-loop2 invariant-loop decreases-loop
-settings_requires_2 c κs = omega (arith, c.before.before.requires.0.searchable.few)
+settings_requires_2 : tie.Need-settings-lows-requires invariant-loop2 decreases-loop2 invariant-loop decreases-loop
+settings_requires_2 c κs = omega (arith, c.requires.0.searchable.few)
 
 -- the two halves
 abbrev Halves : Type 0
-Halves = tie.After-settings2 invariant-loop2 decreases-loop2 invariant-loop decreases-loop
+Halves = tie.After-settings-lows invariant-loop2 decreases-loop2 invariant-loop decreases-loop
 
 module _ (c : Halves) where
   abbrev start : tie.Start invariant-loop2 decreases-loop2 invariant-loop decreases-loop
@@ -53,7 +53,7 @@ module _ (c : Halves) where
   count = start.args.a.count
 
   few : count ≤ 16
-  few = start.pre.0.searchable.few
+  few = start.requires.0.searchable.few
 
   abbrev highs : ℕ
   highs = c.before.settings.result
@@ -74,34 +74,33 @@ module _ (c : Halves) where
   lows_some = omega (arith, lows_is, pow_pos (count - (count - 8)))
 
   tables : SumTables start.args.sums-u.now start.args.sums-v.now
-  tables = let p = start.pre in tables_small p.0.searchable p.1.0 p.1.1
+  tables = let p = start.requires in tables_small p.0.searchable p.1.0 p.1.1
 
-mixed_sums_requires : tie.Need-mixed-sums-requires invariant-loop2 decreases-loop2 invariant-loop decreases-loop
+mixed_sums_requires : tie.Need-mixed_sums-mixes-requires invariant-loop2 decreases-loop2 invariant-loop decreases-loop
 mixed_sums_requires c κs = (tables c, ((start c).requires.0.dial, lows_few c))
 
-span_requires : tie.Need-span-requires invariant-loop2 decreases-loop2 invariant-loop decreases-loop
-span_requires c κs = let h = c.before.before in let f = lows_few h in let s = lows_some h in search rules
+span_requires : tie.Need-span-span_v-requires invariant-loop2 decreases-loop2 invariant-loop decreases-loop
+span_requires c κs = let f = lows_few h in let s = lows_some c in search rules
 
-span_requires_2 : tie.Need-span-requires-2 invariant-loop2 decreases-loop2 invariant-loop decreases-loop
+span_requires_2 : tie.Need-span-span-requires invariant-loop2 decreases-loop2 invariant-loop decreases-loop
 span_requires_2 c κs =
-    let h = c.before.before.before.before in
-    let f = lows_few h in
-    let s = lows_some h in
+    let f = lows_few c in
+    let s = lows_some c in
     search rules
 
 -- the sums on the low half, and their ends
 abbrev Mixed : Type 0
-Mixed = tie.After-span2 invariant-loop2 decreases-loop2 invariant-loop decreases-loop
+Mixed = tie.After-span-span invariant-loop2 decreases-loop2 invariant-loop decreases-loop
 
 abbrev both : Mixed → Halves
 both m = m.before.before.before.before.before
 
-loop_holds : tie.Need-loop-init invariant-loop2 decreases-loop2 invariant-loop decreases-loop
+loop_holds : tie.Need-loop-high-init invariant-loop2 decreases-loop2 invariant-loop decreases-loop
 loop_holds c = (placed (0 * lows (both c)) (omega arith) begin, omega arith)
 
 -- a setting of the high half
 abbrev High : Type 0
-High = tie.In-loop invariant-loop2 decreases-loop2 invariant-loop decreases-loop
+High = tie.In-loop-high invariant-loop2 decreases-loop2 invariant-loop decreases-loop
 
 abbrev halves : High → Halves
 halves d = both d.before.before
@@ -112,26 +111,25 @@ high d = d.before.loop.high
 high_low : (d : High) → high d < 256
 high_low d = let h = halves d in omega (arith, d.loop-test.taken, high_few (count h) (highs h) (few h) (highs_is h))
 
-add_high : tie.Need-overflow-add-high invariant-loop2 decreases-loop2 invariant-loop decreases-loop
+add_high : tie.Need-overflow_step-high invariant-loop2 decreases-loop2 invariant-loop decreases-loop
 add_high c = record { fits = omega (arith, high_low c.before) }
 
-loop_less : tie.Need-loop-smaller invariant-loop2 decreases-loop2 invariant-loop decreases-loop
+loop_less : tie.Need-loop-high-smaller-then-least-lit invariant-loop2 decreases-loop2 invariant-loop decreases-loop
 loop_less c = omega arith
 
-loop_again : tie.Need-loop-preserved invariant-loop2 decreases-loop2 invariant-loop decreases-loop
+loop_again : tie.Need-loop-high-preserved-then-least-lit invariant-loop2 decreases-loop2 invariant-loop decreases-loop
 loop_again c =
-    let d = c.before in
-    let h = halves d in
-    let least = d.before.loop.least in
-    let over = high_ones (count h) (highs h) (lows h) (high d) least (few h) (highs_is h) (lows_is h) d.loop-test.true c.if1.true in
-    (placed ((high d + 1) * lows h) (omega arith) (many_lit (lows h) d.before.loop.invariant.0 over), omega arith)
+    let h = halves c in
+    let least = c.loop-high.least in
+    let over = high_ones (count h) (highs h) (lows h) (high c) least (few h) (highs_is h) (lows_is h) c.loop-high-test.true c.if-least-lit.true in
+    (placed ((high c + 1) * lows h) (omega arith) (many_lit (lows h) c.loop-high.invariant.0 over), omega arith)
 
-low_thresholds_requires : tie.Need-low-thresholds-requires invariant-loop2 decreases-loop2 invariant-loop decreases-loop
-low_thresholds_requires c κs = let d = c.before in (tables (halves d), ((start (halves d)).pre.0.searchable.fair.near, high_low d))
+low_thresholds_requires : tie.Need-low_thresholds-reach-requires invariant-loop2 decreases-loop2 invariant-loop decreases-loop
+low_thresholds_requires c κs = (tables (halves c), ((start (halves c)).requires.0.searchable.fair.near, high_low c))
 
 -- what is left for the low half
 abbrev Left : Type 0
-Left = tie.After-low-thresholds invariant-loop2 decreases-loop2 invariant-loop decreases-loop
+Left = tie.After-low_thresholds-reach invariant-loop2 decreases-loop2 invariant-loop decreases-loop
 
 abbrev by : Left → High
 by r = r.before.before
@@ -142,50 +140,48 @@ reached r =
     let s = start h in
     let x = high (by r) in
     subst (ThresholdsWithin 10000000) (sym r.low-thresholds.ensures)
-    (reduced_near s.args.a.thresholds _ _ s.pre.0.searchable.fair.near ((tables h).u_small (256 + x)) ((tables h).v_small (256 + x)))
+    (reduced_near s.args.a.thresholds _ _ s.requires.0.searchable.fair.near ((tables h).u_small (256 + x)) ((tables h).v_small (256 + x)))
 
-block_clears_requires : tie.Need-block-clears-requires invariant-loop2 decreases-loop2 invariant-loop decreases-loop
+block_clears_requires : tie.Need-block_clears-requires invariant-loop2 decreases-loop2 invariant-loop decreases-loop
 block_clears_requires c κs =
-    let r = c.before in
-    let m = (by r).before.before in
+    let m = (by c).before.before in
     let h = both m in
     let of_v = m.before.before in
     let sums = of_v.before.before.mixed-sums.ensures in
-    (reached r, ((start h).pre.0.dial, (lows_few h, (sums, (of_v.span.ensures, m.span2.ensures)))))
+    (reached c, ((start h).requires.0.dial, (lows_few h, (sums, (of_v.span.ensures, m.span2.ensures)))))
 
 -- a setting of the high half, and each of the low half
 halved_by : (d : High) (j : ℕ) → j < lows (halves d) → SettingHalves (count (halves d)) (lows (halves d)) (high d) j
 halved_by d j l = let h = halves d in halved (count h) (highs h) (lows h) (high d) j (few h) (highs_is h) (lows_is h) d.loop-test.taken l
 
-add_high_2 : tie.Need-overflow-add-high-2 invariant-loop2 decreases-loop2 invariant-loop decreases-loop
+add_high_2 : tie.Need-overflow_step-high-then-block_clears invariant-loop2 decreases-loop2 invariant-loop decreases-loop
 add_high_2 c = record { fits = omega (arith, high_low (by c.before.before.before)) }
 
-loop_less_2 : tie.Need-loop-smaller-2 invariant-loop2 decreases-loop2 invariant-loop decreases-loop
+loop_less_2 : tie.Need-loop-high-smaller-then-block_clears invariant-loop2 decreases-loop2 invariant-loop decreases-loop
 loop_less_2 c = omega arith
 
-loop_again_2 : tie.Need-loop-preserved-2 invariant-loop2 decreases-loop2 invariant-loop decreases-loop
+loop_again_2 : tie.Need-loop-high-preserved-then-block_clears invariant-loop2 decreases-loop2 invariant-loop decreases-loop
 loop_again_2 c =
-    let r = c.before.before.before in
-    let d = by r in
+    let d = by c in
     let h = halves d in
-    let p = (start h).pre in
-    let clear = sym c.before.block-clears.ensures ∙ c.if2.true in
+    let p = (start h).requires in
+    let clear = sym c.block_clears.ensures ∙ c.if-block_clears.true in
     let all = block_on p.0.searchable p.1.0 p.1.1 (start h).args.k (start h).args.l (lows h) (high d) (halved_by d)
-    r.low-thresholds.ensures clear in
+    c.low_thresholds-reach.ensures clear in
     (placed ((high d + 1) * lows h) (omega arith) (block_agreeing (lows h) d.before.loop.inv.0 all), omega arith)
 
 -- a block that is not clear
-abbrev left_for : tie.Else2 invariant-loop2 decreases-loop2 invariant-loop decreases-loop → Left
+abbrev left_for : tie.Else-block_clears invariant-loop2 decreases-loop2 invariant-loop decreases-loop → Left
 left_for u = u.before.before.before
 
-loop2_holds : tie.Need-loop2-init invariant-loop2 decreases-loop2 invariant-loop decreases-loop
+loop2_holds : tie.Need-loop-low-init invariant-loop2 decreases-loop2 invariant-loop decreases-loop
 loop2_holds c =
     let d = by (left_for c) in
     (placed (high d * lows (halves d) + 0) (omega arith) d.before.loop.inv.0, omega arith)
 
 -- a setting of the low half
 abbrev Low : Type 0
-Low = tie.In-loop2 invariant-loop2 decreases-loop2 invariant-loop decreases-loop
+Low = tie.In-loop-low invariant-loop2 decreases-loop2 invariant-loop decreases-loop
 
 abbrev left : Low → Left
 left d = left_for d.before.before
@@ -216,102 +212,96 @@ inside d = setting_low (count (whole d)) (number d) (few (whole d)) (setting d).
 lit : (d : Low) → ones (number d) ≡ ones (high (of d)) + ones (low d)
 lit d = half_ones (count (whole d)) (lows (whole d)) (high (of d)) (low d) (setting d) (low_low d)
 
-add_ones : tie.Need-overflow-add-ones invariant-loop2 decreases-loop2 invariant-loop decreases-loop
+add_ones : tie.Need-overflow_add-ones invariant-loop2 decreases-loop2 invariant-loop decreases-loop
 add_ones c = record { fits = omega (arith, ones-le 8 (high (of c)) (high_low (of c)), ones-le 8 (low c) (low_low c)) }
 
-add_low : tie.Need-overflow-add-low invariant-loop2 decreases-loop2 invariant-loop decreases-loop
+add_low : tie.Need-overflow_step-low invariant-loop2 decreases-loop2 invariant-loop decreases-loop
 add_low c = record { fits = omega (arith, low_low c.before) }
 
-loop2_less : tie.Need-loop2-smaller invariant-loop2 decreases-loop2 invariant-loop decreases-loop
+loop2_less : tie.Need-loop-low-smaller-then-least-ones invariant-loop2 decreases-loop2 invariant-loop decreases-loop
 loop2_less c = omega arith
 
 -- the setting after it
 onward : (d : Low) → number d + 1 ≡ high (of d) * lows (whole d) + (low d + 1)
 onward d = omega arith
 
-loop2_again : tie.Need-loop2-preserved invariant-loop2 decreases-loop2 invariant-loop decreases-loop
+loop2_again : tie.Need-loop-low-preserved-then-least-ones invariant-loop2 decreases-loop2 invariant-loop decreases-loop
 loop2_again c =
-    let d = c.before in
-    let over : (j : ℕ) → j < 1 → d.before.loop2.least ≤ ones (number d + j) =
-    λ j h. let e : number d + j ≡ number d = omega (arith, h) in rw e (omega (arith, lit d, c.if3.true)) in
-    (placed _ (onward d) (many_lit 1 d.before.loop2.invariant.0 over), omega arith)
+    let over : (j : ℕ) → j < 1 → c.loop-low.least ≤ ones (number c + j) =
+    λ j h. let e : number c + j ≡ number c = omega (arith, h) in rw e (omega (arith, lit c, c.if-least-ones.true)) in
+    (placed _ (onward c) (many_lit 1 c.loop-low.invariant.0 over), omega arith)
 
-clears_low_requires : tie.Need-clears-low-requires invariant-loop2 decreases-loop2 invariant-loop decreases-loop
+clears_low_requires : tie.Need-clears_low-requires invariant-loop2 decreases-loop2 invariant-loop decreases-loop
 clears_low_requires c κs =
-    let d = c.before in
-    (tables (whole d), (reached (left d), ((start (whole d)).pre.0.dial, low_low d)))
+    (tables (whole c), (reached (left c), ((start (whole c)).requires.0.dial, low_low c)))
 
 -- what its test says
-agreed : (c : tie.After-clears-low invariant-loop2 decreases-loop2 invariant-loop decreases-loop) → let d = c.before.before in let s = (start (whole d)).args in
-    c.clears-low.result ≡ clears_on (aligned_in s.a) s.k s.l (number d)
+agreed : (c : tie.After-clears_low invariant-loop2 decreases-loop2 invariant-loop decreases-loop) → let s = (start (whole c)).args in
+    c.clears_low.result ≡ clears_on (aligned_in s.a) s.k s.l (number c)
 agreed c =
-    let d = c.before.before in
-    let h = whole d in
-    let p = (start h).pre in
-    tested_low p.0.searchable p.1.0 p.1.1 (start h).args.k (start h).args.l (lows h) (high (of d)) (low d) (setting d)
-    (rw (left d).low-thresholds.ensures at c.clears-low.ensures)
+    let h = whole c in
+    let p = (start h).requires in
+    tested_low p.0.searchable p.1.0 p.1.1 (start h).args.k (start h).args.l (lows h) (high (of c)) (low c) (setting c)
+    (rw (left c).low-thresholds.ensures at c.clears_low.ensures)
 
-add_low_2 : tie.Need-overflow-add-low-2 invariant-loop2 decreases-loop2 invariant-loop decreases-loop
+add_low_2 : tie.Need-overflow_step-low-then-clears_low invariant-loop2 decreases-loop2 invariant-loop decreases-loop
 add_low_2 c = record { fits = omega (arith, low_low c.before.before.before) }
 
-loop2_less_2 : tie.Need-loop2-smaller-2 invariant-loop2 decreases-loop2 invariant-loop decreases-loop
+loop2_less_2 : tie.Need-loop-low-smaller-then-clears_low invariant-loop2 decreases-loop2 invariant-loop decreases-loop
 loop2_less_2 c = omega arith
 
-loop2_again_2 : tie.Need-loop2-preserved-2 invariant-loop2 decreases-loop2 invariant-loop decreases-loop
+loop2_again_2 : tie.Need-loop-low-preserved-then-clears_low invariant-loop2 decreases-loop2 invariant-loop decreases-loop
 loop2_again_2 c =
-    let d = c.before.before.before in
-    (placed _ (onward d) (agreeing d.before.loop2.invariant.0 (sym (agreed c.before) ∙ c.if4.true)), omega arith)
+    (placed _ (onward c) (agreeing c.loop-low.invariant.0 (sym (agreed c.before) ∙ c.if-clears_low.true)), omega arith)
 
-mul_shown : tie.Need-overflow-mul-shown invariant-loop2 decreases-loop2 invariant-loop decreases-loop
+mul_shown : tie.Need-overflow_mul-shown invariant-loop2 decreases-loop2 invariant-loop decreases-loop
 mul_shown c = record { fits = omega (arith, inside c.before.before.before) }
 
-add_shown : tie.Need-overflow-add-shown invariant-loop2 decreases-loop2 invariant-loop decreases-loop
+add_shown : tie.Need-overflow_add-shown invariant-loop2 decreases-loop2 invariant-loop decreases-loop
 add_shown c = record { fits = omega (arith, inside c.before.before.before) }
 
-add_low_3 : tie.Need-overflow-add-low-3 invariant-loop2 decreases-loop2 invariant-loop decreases-loop
+add_low_3 : tie.Need-overflow_step-low-in-loop-low invariant-loop2 decreases-loop2 invariant-loop decreases-loop
 add_low_3 c = record { fits = omega (arith, low_low c.before.before.before) }
 
-loop2_less_3 : tie.Need-loop2-smaller-3 invariant-loop2 decreases-loop2 invariant-loop decreases-loop
+loop2_less_3 : tie.Need-loop-low-smaller invariant-loop2 decreases-loop2 invariant-loop decreases-loop
 loop2_less_3 c = omega arith
 
-loop2_again_3 : tie.Need-loop2-preserved-3 invariant-loop2 decreases-loop2 invariant-loop decreases-loop
+loop2_again_3 : tie.Need-loop-low-preserved invariant-loop2 decreases-loop2 invariant-loop decreases-loop
 loop2_again_3 c =
-    let e = c.before.before in
-    let d = e.before in
-    let kept = better d.before.loop2.invariant.0 (setting d).inside (omega (arith, lit d, e.if3.false)) (sym (agreed c.before) ∙ c.if4.false) in
-    (rw (lit d) at (placed _ (onward d) kept), omega arith)
+    let kept = better c.loop-low.invariant.0 (setting c).inside (omega (arith, lit c, c.if-least-ones.false)) (sym (agreed c.before) ∙ c.if-clears_low.false) in
+    (rw (lit c) at (placed _ (onward c) kept), omega arith)
 
-add_high_3 : tie.Need-overflow-add-high-3 invariant-loop2 decreases-loop2 invariant-loop decreases-loop
+add_high_3 : tie.Need-overflow_step-high-in-loop-high invariant-loop2 decreases-loop2 invariant-loop decreases-loop
 add_high_3 c = record { fits = omega (arith, high_low (by (left_for c.before.before))) }
 
-loop_less_3 : tie.Need-loop-smaller-3 invariant-loop2 decreases-loop2 invariant-loop decreases-loop
+loop_less_3 : tie.Need-loop-high-smaller invariant-loop2 decreases-loop2 invariant-loop decreases-loop
 loop_less_3 c = omega arith
 
-loop_again_3 : tie.Need-loop-preserved-3 invariant-loop2 decreases-loop2 invariant-loop decreases-loop
+loop_again_3 : tie.Need-loop-high-preserved invariant-loop2 decreases-loop2 invariant-loop decreases-loop
 loop_again_3 c =
     let d = by (left_for c.before.before) in
-    let i = c.before.loop2.invariant in
-    let e : c.before.loop2.low ≡ lows (halves d) = omega (arith, i.1, c.loop2-test.false) in
+    let i = c.loop-low.invariant in
+    let e : c.loop-low.low ≡ lows (halves d) = omega (arith, i.1, c.loop-low-test.false) in
     (placed ((high d + 1) * lows (halves d)) (omega (arith, e)) i.0, omega arith)
 
 -- every setting was passed
-all : (c : tie.After-loop invariant-loop2 decreases-loop2 invariant-loop decreases-loop) → let h = both c.before.before in 2 ^ count h ≤ c.before.loop.high * lows h
+all : (c : tie.After-loop-high invariant-loop2 decreases-loop2 invariant-loop decreases-loop) → let h = both c.before.before in 2 ^ count h ≤ c.loop-high.high * lows h
 all c =
     let h = both c.before.before in
-    let e : c.before.loop.high ≡ highs h = omega (arith, c.before.loop.invariant.1, c.loop-test.false) in
+    let e : c.loop-high.high ≡ highs h = omega (arith, c.loop-high.invariant.1, c.loop-high-test.false) in
     rw e (omega (arith, halves_all (count h) (highs h) (lows h) (highs_is h) (lows_is h)))
 
-returns : tie.Need-returns invariant-loop2 decreases-loop2 invariant-loop decreases-loop
+returns : tie.Need-returns-then-least-gt16 invariant-loop2 decreases-loop2 invariant-loop decreases-loop
 unfolding FewestUnclear
 returns c =
     let d = c.before in
     let s = start (both d.before.before) in
-    let small : 2 ^ s.args.a.count ≤ 65536 = pow_mono {i = s.args.a.count} {j = 16} s.pre.0.searchable.few in
-    nothing d.before.loop.invariant.0 (all d) small c.if5.true
+    let small : 2 ^ s.args.a.count ≤ 65536 = pow_mono {i = s.args.a.count} {j = 16} s.requires.0.searchable.few in
+    nothing d.loop-high.invariant.0 (all d) small c.if-least-gt16.true
 
-returns_2 : tie.Need-returns-2 invariant-loop2 decreases-loop2 invariant-loop decreases-loop
+returns_2 : tie.Need-returns invariant-loop2 decreases-loop2 invariant-loop decreases-loop
 unfolding FewestUnclear
-returns_2 c = let d = c.before in found d.before.loop.invariant.0 (all d) c.if5.false
+returns_2 c = let d = c.before in found d.loop-high.invariant.0 (all d) c.if-least-gt16.false
 
 pub fewest_spec : {M : Type 1} → statement M
 fewest_spec =

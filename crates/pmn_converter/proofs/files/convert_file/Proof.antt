@@ -16,48 +16,45 @@ use Rattle.pmn_converter.specs.FileLaws.{converted_open}
 use Rattle.pmn_converter.proofs.files.convert_file.Statement.{statement}
 use Rattle.pmn_converter.proofs.files.convert_file.Tie as tie
 
-refusal_requires : tie.Need-refusal-requires
-refusal_requires c κs = (λ i. (c.before.before.before.shared-slice-known.given i).fits, c.read.ensures)
+refusal_requires : tie.Need-refusal-code-requires
+refusal_requires c κs = (λ i. (c.shared_slice_known-1.given i).fits, c.read-read.ensures)
 
-returns : tie.Need-returns
+returns : tie.Need-returns-then-code-ne0
 unfolding conversion_places
 returns c =
-    let a = c.before.before.before.before.before.before.args in
-    refused_two a.out.now a.answer.now (open_refused c.before.refusal.ensures _ c.if1.true)
+    let a = c.args in
+    refused_two a.out.now a.answer.now (open_refused c.refusal-code.ensures _ c.if-code-ne0.true)
 
 -- the file that was read
-file_open : (c : tie.Else1) → let at_read = c.before.before in
-    let a = at_read.before.before.before.before.args in
-    FileOpen a.file.now (length a.answer.now) 1 at_read.read.result.network
-file_open c = c.before.refusal.ensures.gives c.if1.false
+file_open : (c : tie.Else-code-ne0) → 
+    let a = c.args in
+    FileOpen a.file.now (length a.answer.now) 1 c.read-read.result.network
+file_open c = c.refusal-code.ensures.gives c.if-code-ne0.false
 
-returns_2 : tie.Need-returns-2
+returns_2 : tie.Need-returns-then-not-is_convertible
 unfolding net_of
 returns_2 c =
     let s = c.before.before.before in
-    let a = s.before.before.before.before.before.before.args in
-    let no = sym c.before.is-convertible.ensures ∙ not-true _ c.if2.true in
+    let a = s.args in
+    let no = sym c.is_convertible.ensures ∙ not-true _ c.if-not-is_convertible.true-raw in
     refused_two a.out.now a.answer.now (converted_open (length a.out.now) (file_open s) ∙ conversion_refused _ (length a.out.now) no)
 
 -- the record can be converted
-can : (c : tie.Else2) → let at_read = c.before.before.before.before.before in convertible at_read.read.result.network.board ≡ true
-can c = sym c.before.is-convertible.ensures ∙ not-false _ c.if2.false
+can : (c : tie.Else-not-is_convertible) → convertible c.read-read.result.network.board ≡ true
+can c = sym c.is_convertible.ensures ∙ not-false _ c.if-not-is_convertible.false-raw
 
-put_file_requires : tie.Need-put-file-requires
+put_file_requires : tie.Need-put_file-requires
 put_file_requires c κs =
-    let at_other = c.before.before in
-    let o = file_open at_other.before.before.before.before in
-    (with_sound _ (file_sound o) (can at_other.before) at_other.in-other-version.ensures, o.room)
+    let o = file_open c.before.before.before.before.before.before.before in
+    (with_sound _ (file_sound o) (can c.before.before.before.before) c.in_other_version-other.ensures, o.room)
 
-returns_3 : tie.Need-returns-3
+returns_3 : tie.Need-returns
 returns_3 c =
-    let at_put = c.before.before.before.before in
-    let at_other = at_put.before.before.before in
-    let s = at_other.before.before.before.before in
-    let a = s.before.before.before.before.before.before.args in
+    let s = c.before.before.before.before.before.before.before.before.before.before.before.before in
+    let a = s.args in
     let o = file_open s in
-    let made = with_file _ (file_sound o) (can at_other.before) at_other.in-other-version.ensures (length a.out.now) in
-    same_two a.out.now a.answer.now (converted_open (length a.out.now) o ∙ made) at_put.put_file.ensures
+    let made = with_file _ (file_sound o) (can c.before.before.before.before.before.before.before.before.before) c.in_other_version-other.ensures (length a.out.now) in
+    same_two a.out.now a.answer.now (converted_open (length a.out.now) o ∙ made) c.put_file.ensures
 
 pub convert_file_spec : {M : Type 1} → statement M
 convert_file_spec =

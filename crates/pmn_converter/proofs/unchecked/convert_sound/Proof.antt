@@ -15,34 +15,29 @@ use Rattle.pmn_converter.specs.ConversionLaws.{conversion_refused, with_written,
 use Rattle.pmn_converter.proofs.unchecked.convert_sound.Statement.{statement}
 use Rattle.pmn_converter.proofs.unchecked.convert_sound.Tie as tie
 
-returns : tie.Need-returns
+returns : tie.Need-returns-then-not-is_convertible
 unfolding as_converted stored net_of
 returns c =
-    let start = c.before.before.before.before in
-    let r = start.args.network in
-    let out = start.args.out.now in
-    let e = sym (conversion_refused (net_of r) (length out) (sym c.before.is-convertible.ensures ∙ not-true _ c.if1.true)) in
+    let r = c.args.network in
+    let out = c.args.out.now in
+    let e = sym (conversion_refused (net_of r) (length out) (sym c.is_convertible.ensures ∙ not-true _ c.if-not-is_convertible.true-raw)) in
     (ap as_converted e, ap (λ (a : Answer (List ℕ)). stored a out) e)
 
 -- the record can be converted
-can : (c : tie.Else1) → convertible c.before.before.before.before.args.network.board ≡ true
-can c = sym c.before.is-convertible.ensures ∙ not-false _ c.if1.false
+can : (c : tie.Else-not-is_convertible) → convertible c.args.network.board ≡ true
+can c = sym c.is_convertible.ensures ∙ not-false _ c.if-not-is_convertible.false-raw
 
-write_sound_requires : tie.Need-write-sound-requires
+write_sound_requires : tie.Need-write_sound-written-requires
 write_sound_requires c κs =
-    let at_other = c.before in
-    let start = at_other.before.before.before.before.before in
-    with_sound start.args.network start.requires (can at_other.before) at_other.in-other-version.ensures
+    with_sound c.args.network c.requires (can c.before.before) c.in_other_version-other.ensures
 
-returns_2 : tie.Need-returns-2
+returns_2 : tie.Need-returns
 returns_2 c =
-    let w = c.before.before.write-sound in
-    let at_other = c.before.before.before.before in
-    let start = at_other.before.before.before.before.before in
-    let r = start.args.network in
-    let e = at_other.in-other-version.ensures in (
-      with_written r start.requires (can at_other.before) e (length start.args.out.now) w.ensures.0,
-      with_bytes r start.requires (can at_other.before) e start.args.out.now w.ensures.1,
+    let w = c.write_sound-written in
+    let r = c.args.network in
+    let e = c.in_other_version-other.ensures in (
+      with_written r c.requires (can c.before.before.before.before.before) e (length c.args.out.now) w.ensures.0,
+      with_bytes r c.requires (can c.before.before.before.before.before) e c.args.out.now w.ensures.1,
     )
 
 pub convert_sound_spec : {M : Type 1} → statement M

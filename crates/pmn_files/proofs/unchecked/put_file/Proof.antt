@@ -7,12 +7,9 @@ use Rattle.pmn_files.proofs.unchecked.put_file.Tie as tie
 
 returns : tie.Need-returns
 returns c =
-    let at_put = c.before.before in
-    let at_write = at_put.before.before.before.before in
-    let start = at_write.before.before.before.before in
-    let w = at_write.write-sound.ensures in
-    let l = file_left start.args.network start.requires.0 start.args.out.now start.args.answer.now w.0 w.1 in
-    (at_put.put_one.ensures.0 ∙ l.0, (l.1.0, at_put.put_one.ensures.1 ∙ l.1.1))
+    let w = c.write_sound-written.ensures in
+    let l = file_left c.args.network c.requires.0 c.args.out.now c.args.answer.now w.0 w.1 in
+    (c.put_one.ensures.0 ∙ l.0, (l.1.0, c.put_one.ensures.1 ∙ l.1.1))
 
 pub put_file_spec : {M : Type 1} → statement M
 put_file_spec = tie.close (tie.spec (λ c κs. search rules) (λ c κs. search rules) (λ c. search rules) (λ c. search rules) returns)

@@ -19,59 +19,58 @@ use Rattle.pmn_gate.proofs.unchecked.read_feed.Statement.{statement}
 use Rattle.pmn_gate.proofs.unchecked.read_feed.Tie as tie
 
 -- the signal that was read, as the format tests it
-signal_is : (c : tie.After-wide) → let a = c.before.before.before.before.args in
+signal_is : (c : tie.After-wide-s) → let a = c.args in
     let x = get_or a.file.now a.at 0 in
-    (leb a.low x && ltb x a.own) ≡ (leb a.low c.wide.result && ltb c.wide.result a.own)
-signal_is c = let a = c.before.before.before.before.args in ap (λ (x : ℕ). leb a.low x && ltb x a.own) (sym c.wide.ensures.0)
+    (leb a.low x && ltb x a.own) ≡ (leb a.low c.wide-s.result && ltb c.wide-s.result a.own)
+signal_is c = let a = c.args in ap (λ (x : ℕ). leb a.low x && ltb x a.own) (sym c.wide-s.ensures.0)
 
 -- the weight that was read
-weight_is : (c : tie.After-get-int) → let at_wide = c.before.before.before in
-    let a = at_wide.before.before.before.before.args in
-    to_z w32 (of_z w32 c.get-int.result) ≡ int_at a.file.now (a.at + 1)
-weight_is c = to_z-of_z (record { sfits = c.get-int.type-inv }) ∙ c.get-int.ensures
+weight_is : (c : tie.After-get_int-weight) → 
+    let a = c.args in
+    to_z w32 (of_z w32 c.get_int-weight.result) ≡ int_at a.file.now (a.at + 1)
+weight_is c = to_z-of_z (record { sfits = c.get_int-weight.type_inv }) ∙ c.get_int-weight.ensures
 
-returns : tie.Need-returns
-returns c = let a = c.before.before.args in record { says = sym (feed_end a.own a.low a.at a.file.now c.if1.true); inside = omega arith }
+returns : tie.Need-returns-then-file-at
+returns c = let a = c.args in record { says = sym (feed_end a.own a.low a.at a.file.now c.if-file-at.true); inside = omega arith }
 
-returns_2 : tie.Need-returns-2
+returns_2 : tie.Need-returns-then-not-fits
 returns_2 c =
-    let a = c.before.before.before.before.before.args in
+    let a = c.args in
     record {
-      says = sym (feed_crossed a.own a.low a.at a.file.now (omega arith) (signal_is c.before ∙ not-true _ c.if2.true));
+      says = sym (feed_crossed a.own a.low a.at a.file.now (omega arith) (signal_is c.before ∙ not-true _ c.if-not-fits.true-raw));
       inside = omega arith;
     }
 
-returns_3 : tie.Need-returns-3
+returns_3 : tie.Need-returns-then-file-at-lt5
 returns_3 c =
-    let a = c.before.before.before.before.before.before.args in
-    let fits = signal_is c.before.before ∙ not-false _ c.before.if2.false in
+    let a = c.args in
+    let fits = signal_is c.before.before ∙ not-false _ c.if-not-fits.false-raw in
     record {
       says = sym (feed_short a.own a.low a.at a.file.now fits (omega arith) (omega arith));
       inside = omega arith;
     }
 
 -- the whole feed, by what the test of its weight says
-whole : (c : tie.After-weight-sound) {b : Bool} → c.weight-sound.result ≡ b → let at_wide = c.before.before.before.before in
-    let a = at_wide.before.before.before.before.args in
+whole : (c : tie.After-weight_sound) {b : Bool} → c.weight_sound.result ≡ b → let at_wide = c.before.before.before.before in
+    let a = at_wide.args in
     parse_feed a.own a.low (drop a.at a.file.now) ≡ check b 6 (done (feed_at_place a.file.now a.at) (drop (a.at + 5) a.file.now))
 unfolding weight_ok
 whole c e =
     let at_wide = c.before.before.before.before in
-    let a = at_wide.before.before.before.before.args in
-    feed_whole a.own a.low a.at a.file.now (signal_is at_wide ∙ not-false _ c.before.before.before.if2.false) (omega arith)
-    (sym (c.weight-sound.ensures ∙ ap (λ (z : ℤ). in_scale z && not (is_zero z)) (weight_is c.before)) ∙ e)
+    let a = at_wide.args in
+    feed_whole a.own a.low a.at a.file.now (signal_is at_wide ∙ not-false _ c.if-not-fits.false-raw) (omega arith)
+    (sym (c.weight_sound.ensures ∙ ap (λ (z : ℤ). in_scale z && not (is_zero z)) (weight_is c.before)) ∙ e)
 
-returns_4 : tie.Need-returns-4
-returns_4 c = record { says = sym (whole c.before (not-true _ c.if4.true)); inside = omega arith }
+returns_4 : tie.Need-returns-then-not-weight_sound
+returns_4 c = record { says = sym (whole c.before (not-true _ c.if-not-weight_sound.true-raw)); inside = omega arith }
 
-returns_5 : tie.Need-returns-5
+returns_5 : tie.Need-returns
 returns_5 c =
-    let at_wide = c.before.before.before.before.before in
-    let a = at_wide.before.before.before.before.args in
+    let a = c.args in
     let s = a.file.now in
     record {
       says = ap (λ (z : ℤ). done (record { signal = get_or s a.at 0; weight = z }) (drop (a.at + 5) s)) (weight_is c.before.before)
-          ∙ sym (whole c.before (not-false _ c.if4.false));
+          ∙ sym (whole c.before (not-false _ c.if-not-weight_sound.false-raw));
       inside = omega arith;
     }
 

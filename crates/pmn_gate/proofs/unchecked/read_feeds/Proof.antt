@@ -11,40 +11,36 @@ use Rattle.pmn_gate.proofs.FeedsLoop.{FeedsSoFar, feeds_start, feeds_bad, feeds_
 use Rattle.pmn_gate.proofs.unchecked.read_feeds.Statement.{statement}
 use Rattle.pmn_gate.proofs.unchecked.read_feeds.Tie as tie
 
-abbrev invariant-loop : tie.invariant-loop
+abbrev invariant-loop : tie.invariant-loop-i
 invariant-loop file start own fanin threshold count signals₀ weights₀ at₀ low₀ i₀ signals weights at low i =
     FeedsSoFar file start own fanin signals weights at low i
 
-abbrev decreases-loop : tie.decreases-loop
+abbrev decreases-loop : tie.decreases-loop-i
 decreases-loop file start own fanin threshold count signals₀ weights₀ at₀ low₀ i₀ signals weights at low i =
     fanin - i
 
-loop_holds : tie.Need-loop-init invariant-loop decreases-loop
-loop_holds c = let a = c.before.before.args in feeds_start a.file.now a.start a.own a.fanin c.before.before.requires.0
+loop_holds : tie.Need-loop-i-init invariant-loop decreases-loop
+loop_holds c = let a = c.args in feeds_start a.file.now a.start a.own a.fanin c.requires.0
 
-returns : tie.Need-returns invariant-loop decreases-loop
+returns : tie.Need-returns-in-Bad invariant-loop decreases-loop
 returns c =
-    let at_read = c.before.before.before.before in
-    let at_loop = at_read.before.before in
-    let l = at_loop.loop in
-    let a = at_loop.before.before.before.args in
-    let g = c.before.before.f.given in
-    let f = subst (FeedAnswered a.own l.low l.at a.file.now) g.1 at_read.read-feed.ensures in
+    let l = c.loop-i in
+    let a = c.args in
+    let g = c.f-1.given in
+    let f = subst (FeedAnswered a.own l.low l.at a.file.now) g.1 c.read_feed-f.ensures in
     seen_refused g.0.0 f.inside c.no_gate.ensures (feeds_bad l.invariant (omega arith) f)
 
-loop_again : tie.Need-loop-preserved invariant-loop decreases-loop
+loop_again : tie.Need-loop-i-preserved invariant-loop decreases-loop
 loop_again c =
-    let at_read = c.before.before.before.before in
-    let at_loop = at_read.before.before in
-    let l = at_loop.loop in
-    let a = at_loop.before.before.before.args in
-    let g = c.before.before.f2.given in
-    let f = subst (FeedAnswered a.own l.low l.at a.file.now) g.1 at_read.read-feed.ensures in
-    let weight_is = to_z-of_z {w = w32} {z = g.0.1.0} (record { sfits = c.before.known-told2.given.1.0.1 }) in
+    let l = c.loop-i in
+    let a = c.args in
+    let g = c.f-in-Got-1.given in
+    let f = subst (FeedAnswered a.own l.low l.at a.file.now) g.1 c.read_feed-f.ensures in
+    let weight_is = to_z-of_z {w = w32} {z = g.0.1.0} (record { sfits = c.known_told-in-Got-1.given.1.0.1 }) in
     feeds_got l.invariant (omega arith) (omega arith) f weight_is (omega arith)
 
-returns_2 : tie.Need-returns-2 invariant-loop decreases-loop
-returns_2 c = feeds_end c.before.loop.invariant (omega arith) refl (to_z-of_z c.before.before.before.before.ranges.threshold)
+returns_2 : tie.Need-returns invariant-loop decreases-loop
+returns_2 c = feeds_end c.loop-i.invariant (omega arith) refl (to_z-of_z c.ranges.threshold)
 
 pub read_feeds_spec : {M : Type 1} → statement M
 read_feeds_spec =

@@ -16,28 +16,25 @@ use Rattle.pmn_gate.proofs.Kept.{margins_plain}
 use Rattle.pmn_gate.proofs.unchecked.read_kept.Statement.{statement}
 use Rattle.pmn_gate.proofs.unchecked.read_kept.Tie as tie
 
-returns : tie.Need-returns
+returns : tie.Need-returns-then-board
 returns c =
-    let test = c.before in
-    let start = test.before.before.before.before in
-    let a = start.args in
+    let a = c.args in
     let b = a.board in
     let s = a.file.now in
     let l = drop a.start s in
-    let r = c.read-feeds.result in
-    let m = T_and (eqb b.on 0) (eqb b.off 1) (T_is _ test.if1.true) in
+    let r = c.read_feeds.result in
+    let m = T_and (eqb b.on 0) (eqb b.off 1) (T_is _ c.if-board.true) in
     margins_plain b a.own a.fanin a.threshold l (eqb→eq b.on 0 m.0) (eqb→eq b.off 1 m.1)
-    (subst (λ (z : ℤ). ReadAnswered (gate_places z) s (parse_feeds a.own a.fanin 0 [] l) r.code r.next r.gate) (to_z-of_z start.ranges.threshold)
-    c.read-feeds.ensures)
+    (subst (λ (z : ℤ). ReadAnswered (gate_places z) s (parse_feeds a.own a.fanin 0 [] l) r.code r.next r.gate) (to_z-of_z c.ranges.threshold)
+    c.read_feeds.ensures)
 
-returns_2 : tie.Need-returns-2
+returns_2 : tie.Need-returns
 returns_2 c =
-    let start = c.before.before.before.before.before in
-    let a = start.args in
+    let a = c.args in
     let s = a.file.now in
-    let r = c.read-tested.result in
+    let r = c.read_tested.result in
     subst (λ (z : ℤ). ReadAnswered gate_record s (parse_kept a.board a.own a.fanin z (drop a.start s)) r.code r.next r.gate)
-    (to_z-of_z start.ranges.threshold) c.read-tested.ensures
+    (to_z-of_z c.ranges.threshold) c.read_tested.ensures
 
 pub read_kept_spec : {M : Type 1} → statement M
 read_kept_spec =

@@ -19,56 +19,49 @@ use Rattle.pmn_gate.proofs.unchecked.read_tested.Statement.{statement}
 use Rattle.pmn_gate.proofs.unchecked.read_tested.Tie as tie
 
 -- the feeds that were read, with the threshold as it was given
-seen : (c : tie.After-read-feeds) → let a = c.before.before.args in let r = c.read-feeds.result in
+seen : (c : tie.After-read_feeds-read) → let a = c.args in let r = c.read_feeds-read.result in
     ReadAnswered (gate_places a.threshold) a.file.now (parse_feeds a.own a.fanin 0 [] (drop a.start a.file.now)) r.code r.next r.gate
 seen c =
-    let a = c.before.before.args in
-    let r = c.read-feeds.result in
+    let a = c.args in
+    let r = c.read_feeds-read.result in
     subst
     (λ (z : ℤ). ReadAnswered (gate_places z) a.file.now (parse_feeds a.own a.fanin 0 [] (drop a.start a.file.now)) r.code r.next r.gate)
-    (to_z-of_z c.before.before.ranges.threshold) c.read-feeds.ensures
+    (to_z-of_z c.ranges.threshold) c.read_feeds-read.ensures
 
-returns : tie.Need-returns
+returns : tie.Need-returns-then-code-ne0
 returns c =
     let at_read = c.before.before in
-    let a = at_read.before.before.args in
-    let r = at_read.read-feeds in
-    let bad = c.before.if1.true in
+    let a = at_read.args in
+    let r = at_read.read_feeds-read in
+    let bad = c.if-code-ne0.true in
     seen_refused r.result.code (omega arith) c.no_gate.ensures
     (ap (λ (x : Read (List Feed)). and_then x (gate_kept a.board a.threshold)) (failed (seen at_read) bad))
 
 -- the bytes from the first feed on
-from_start : (c : tie.After-shared-slice-known) → let a = c.before.args in Bytes (drop a.start a.file.now)
-from_start c = let a = c.before.args in bytes_drop a.start a.file.now (bytes_of a.file.now (λ i. (c.shared-slice-known.given i).fits))
+from_start : (c : tie.After-shared_slice_known-1) → let a = c.args in Bytes (drop a.start a.file.now)
+from_start c = let a = c.args in bytes_drop a.start a.file.now (bytes_of a.file.now (λ i. (c.shared_slice_known-1.given i).fits))
 
-gate_keeps_requires : tie.Need-gate-keeps-requires
+gate_keeps_requires : tie.Need-gate_keeps-requires
 gate_keeps_requires c κs =
     let at_read = c.before.before in
-    let start = at_read.before.before in
-    let a = start.args in
-    row_scale a.own a.fanin a.threshold (drop a.start a.file.now) (from_start at_read.before) start.requires.1 start.requires.2
-    (seen at_read) c.before.if1.false
+    let a = c.args in
+    row_scale a.own a.fanin a.threshold (drop a.start a.file.now) (from_start at_read.before) c.requires.1 c.requires.2
+    (seen at_read) c.if-code-ne0.false
 
-returns_2 : tie.Need-returns-2
+returns_2 : tie.Need-returns-then-not-gate_keeps
 returns_2 c =
-    let at_keeps = c.before.before in
-    let at_else = at_keeps.before.before in
-    let at_read = at_else.before in
-    let start = at_read.before.before in
-    let a = start.args in
-    seen_refused 24 (omega arith) c.no-gate2.ensures
-    (margins_broken a.own a.fanin a.threshold (drop a.start a.file.now) (from_start at_read.before) start.requires.1 start.requires.2
-    (seen at_read) at_else.if1.false a.board (sym at_keeps.gate-keeps.ensures ∙ not-true _ c.before.if2.true))
+    let at_read = c.before.before.before.before.before in
+    let a = c.args in
+    seen_refused 24 (omega arith) c.no_gate-then-not-gate_keeps.ensures
+    (margins_broken a.own a.fanin a.threshold (drop a.start a.file.now) (from_start at_read.before) c.requires.1 c.requires.2
+    (seen at_read) c.if-code-ne0.false a.board (sym c.gate_keeps.ensures ∙ not-true _ c.if-not-gate_keeps.true-raw))
 
-returns_3 : tie.Need-returns-3
+returns_3 : tie.Need-returns
 returns_3 c =
-    let at_keeps = c.before in
-    let at_else = at_keeps.before.before in
-    let at_read = at_else.before in
-    let start = at_read.before.before in
-    let a = start.args in
-    margins_kept a.own a.fanin a.threshold (drop a.start a.file.now) (from_start at_read.before) start.requires.1 start.requires.2
-    (seen at_read) at_else.if1.false a.board (sym at_keeps.gate-keeps.ensures ∙ not-false _ c.if2.false)
+    let at_read = c.before.before.before.before in
+    let a = c.args in
+    margins_kept a.own a.fanin a.threshold (drop a.start a.file.now) (from_start at_read.before) c.requires.1 c.requires.2
+    (seen at_read) c.if-code-ne0.false a.board (sym c.gate_keeps.ensures ∙ not-false _ c.if-not-gate_keeps.false-raw)
 
 pub read_tested_spec : {M : Type 1} → statement M
 read_tested_spec =

@@ -8,55 +8,46 @@ use Rattle.pmn_header.proofs.HeadLaws.{head_refused}
 use Rattle.pmn_header.proofs.unchecked.read_counts.Statement.{statement}
 use Rattle.pmn_header.proofs.unchecked.read_counts.Tie as tie
 
-returns : tie.Need-returns
+returns : tie.Need-returns-then-code-ne0
 returns c =
-    let at_inputs = c.before.before in
-    let a = at_inputs.before.before.args in
-    let bad = c.before.if1.true in
-    let i = at_inputs.read_count in
-    head_refused i.result.code (omega arith) c.no-head.ensures (inputs_refused a.board (drop a.start a.file.now) (failed i.ensures bad))
+    let a = c.args in
+    let bad = c.if-code-ne0.true in
+    let i = c.read_count-inputs in
+    head_refused i.result.code (omega arith) c.no_head.ensures (inputs_refused a.board (drop a.start a.file.now) (failed i.ensures bad))
 
-returns_2 : tie.Need-returns-2
+returns_2 : tie.Need-returns-then-code-ne0-2
 returns_2 c =
-    let at_gates = c.before.before in
-    let at_inputs = at_gates.before.before in
-    let a = at_inputs.before.before.args in
+    let a = c.args in
     let s = a.file.now in
-    let bad = c.before.if2.true in
-    let i = at_inputs.read_count in
-    let g = at_gates.read-count2 in
-    head_refused g.result.code (omega arith) c.no-head2.ensures
-    (gates_number_refused a.board (drop a.start s) i.result.count (drop i.result.next s) (read_as i.ensures at_gates.before.if1.false)
+    let bad = c.if-code-ne0-2.true in
+    let i = c.read_count-inputs in
+    let g = c.read_count-gates in
+    head_refused g.result.code (omega arith) c.no_head-then-code-ne0-2.ensures
+    (gates_number_refused a.board (drop a.start s) i.result.count (drop i.result.next s) (read_as i.ensures c.if-code-ne0.false)
     (failed g.ensures bad))
 
-returns_3 : tie.Need-returns-3
+returns_3 : tie.Need-returns-then-code-ne0-3
 returns_3 c =
-    let at_outputs = c.before.before in
-    let at_gates = at_outputs.before.before in
-    let at_inputs = at_gates.before.before in
-    let a = at_inputs.before.before.args in
+    let a = c.args in
     let s = a.file.now in
-    let bad = c.before.if3.true in
-    let i = at_inputs.read_count in
-    let g = at_gates.read-count2 in
-    let o = at_outputs.read-count3 in
-    head_refused o.result.code (omega arith) c.no-head3.ensures
-    (outputs_number_refused a.board (drop a.start s) i.result.count (drop i.result.next s) (read_as i.ensures at_gates.before.if1.false)
-    g.result.count (drop g.result.next s) (read_as g.ensures at_outputs.before.if2.false) (failed o.ensures bad))
+    let bad = c.if-code-ne0-3.true in
+    let i = c.read_count-inputs in
+    let g = c.read_count-gates in
+    let o = c.read_count-outputs in
+    head_refused o.result.code (omega arith) c.no_head-then-code-ne0-3.ensures
+    (outputs_number_refused a.board (drop a.start s) i.result.count (drop i.result.next s) (read_as i.ensures c.if-code-ne0.false)
+    g.result.count (drop g.result.next s) (read_as g.ensures c.if-code-ne0-2.false) (failed o.ensures bad))
 
-returns_4 : tie.Need-returns-4
+returns_4 : tie.Need-returns
 returns_4 c =
-    let at_outputs = c.before in
-    let at_gates = at_outputs.before.before in
-    let at_inputs = at_gates.before.before in
-    let a = at_inputs.before.before.args in
+    let a = c.args in
     let s = a.file.now in
-    let i = at_inputs.read_count in
-    let g = at_gates.read-count2 in
-    let o = at_outputs.read-count3 in
-    let read_i = read_as i.ensures at_gates.before.if1.false in
-    let read_g = read_as g.ensures at_outputs.before.if2.false in
-    let read_o = read_as o.ensures c.if3.false in
+    let i = c.read_count-inputs in
+    let g = c.read_count-gates in
+    let o = c.read_count-outputs in
+    let read_i = read_as i.ensures c.if-code-ne0.false in
+    let read_g = read_as g.ensures c.if-code-ne0-2.false in
+    let read_o = read_as o.ensures c.if-code-ne0-3.false in
     let l = drop a.start s in
     let l₁ = drop i.result.next s in
     let l₂ = drop g.result.next s in

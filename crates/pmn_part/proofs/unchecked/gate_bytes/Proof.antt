@@ -10,16 +10,15 @@ use Rattle.pmn_part.proofs.unchecked.gate_bytes.Statement.{statement}
 use Rattle.pmn_part.proofs.unchecked.gate_bytes.Tie as tie
 
 -- the gate lies in the file
-within : (c : tie.After-gate-start) → let s = c.before.before.args.file.now in
-    c.gate-start.result + (5 + 5 * get_or s c.gate-start.result 0) ≤ length s
+within : (c : tie.After-gate_start-at) → let s = c.args.file.now in
+    c.gate_start-at.result + (5 + 5 * get_or s c.gate_start-at.result 0) ≤ length s
 within c =
-    let a = c.before.before in
-    rw c.gate-start.ensures (start_within a.args.file.now a.args.g a.requires a.args.g (le_refl a.args.g))
+    rw c.gate_start-at.ensures (start_within c.args.file.now c.args.g c.requires c.args.g (le_refl c.args.g))
 
-shared_slice_read_wide : tie.Need-shared-slice-read-wide
+shared_slice_read_wide : tie.Need-bounds-file-at
 shared_slice_read_wide c = omega (arith, within c.before)
 
-add_end_2 : tie.Need-overflow-add-end-2
+add_end_2 : tie.Need-overflow_add-end-2
 add_end_2 c = omega (arith, within c.before.before)
 
 part_result_end : tie.Need-slice-bounds-result-end
@@ -27,13 +26,11 @@ part_result_end c = omega (arith, within c.before.before)
 
 returns : tie.Need-returns
 returns c =
-    let at_wide = c.before in
-    let at_start = at_wide.before.before in
-    let s = at_start.before.before.args.file.now in
-    let at = at_start.gate-start.result in
-    let w = at_wide.wide.ensures.0 in
-    ap (λ (j : ℕ). take j (drop at s)) (let e : at + (5 + 5 * at_wide.wide.result) - at ≡ 5 + 5 * get_or s at 0 = omega arith in e)
-    ∙ ap (λ (j : ℕ). take (5 + 5 * get_or s j 0) (drop j s)) at_start.gate-start.ensures
+    let s = c.args.file.now in
+    let at = c.gate_start-at.result in
+    let w = c.wide.ensures.0 in
+    ap (λ (j : ℕ). take j (drop at s)) (let e : at + (5 + 5 * c.wide.result) - at ≡ 5 + 5 * get_or s at 0 = omega arith in e)
+    ∙ ap (λ (j : ℕ). take (5 + 5 * get_or s j 0) (drop j s)) c.gate_start-at.ensures
 
 pub gate_bytes_spec : {M : Type 1} → statement M
 gate_bytes_spec =

@@ -7,34 +7,31 @@ use Rattle.pmn_reader.proofs.GatesLoop.{GatesSoFar, gates_start, gates_bad, gate
 use Rattle.pmn_reader.proofs.unchecked.read_gates.Statement.{statement}
 use Rattle.pmn_reader.proofs.unchecked.read_gates.Tie as tie
 
-abbrev invariant-loop : tie.invariant-loop
+abbrev invariant-loop : tie.invariant-loop-g
 invariant-loop file start board inputs gates fanins₀ signals₀ weights₀ thresholds₀ at₀ g₀ fanins signals weights thresholds at g =
     GatesSoFar file board start inputs gates fanins signals weights thresholds at g
 
-abbrev decreases-loop : tie.decreases-loop
+abbrev decreases-loop : tie.decreases-loop-g
 decreases-loop file start board inputs gates fanins₀ signals₀ weights₀ thresholds₀ at₀ g₀ fanins signals weights thresholds at g =
     gates - g
 
-loop_holds : tie.Need-loop-init invariant-loop decreases-loop
-loop_holds c = let a = c.before.args in gates_start a.file.now a.board a.start a.inputs a.gates c.before.requires.0
+loop_holds : tie.Need-loop-g-init invariant-loop decreases-loop
+loop_holds c = let a = c.args in gates_start a.file.now a.board a.start a.inputs a.gates c.requires.0
 
-returns : tie.Need-returns invariant-loop decreases-loop
+returns : tie.Need-returns-then-code-ne0 invariant-loop decreases-loop
 returns c =
-    let at_read = c.before.before in
-    let bad = c.before.if1.true in
-    seen_refused at_read.read-gate.result.code (omega arith) c.no_gates.ensures
-    (gates_bad at_read.before.before.loop.invariant (omega arith) (failed at_read.read-gate.ensures bad))
+    let bad = c.if-code-ne0.true in
+    seen_refused c.read_gate-r.result.code (omega arith) c.no_gates.ensures
+    (gates_bad c.loop-g.invariant (omega arith) (failed c.read_gate-r.ensures bad))
 
-loop_again : tie.Need-loop-preserved invariant-loop decreases-loop
+loop_again : tie.Need-loop-g-preserved invariant-loop decreases-loop
 loop_again c =
-    let at_else = c.before.before.before.before.before.before in
-    let at_read = at_else.before in
-    let r = at_read.read-gate in
-    gates_got at_read.before.before.loop.invariant (omega arith) (omega arith) (found r.ensures at_else.if1.false)
-    r.ensures.inside c.store-gate.ensures
+    let r = c.read_gate-r in
+    gates_got c.loop-g.invariant (omega arith) (omega arith) (found r.ensures c.if-code-ne0.false)
+    r.ensures.inside c.store_gate.ensures
 
-returns_2 : tie.Need-returns-2 invariant-loop decreases-loop
-returns_2 c = gates_end c.before.loop.invariant (omega arith)
+returns_2 : tie.Need-returns invariant-loop decreases-loop
+returns_2 c = gates_end c.loop-g.invariant (omega arith)
 
 pub read_gates_spec : {M : Type 1} → statement M
 read_gates_spec =

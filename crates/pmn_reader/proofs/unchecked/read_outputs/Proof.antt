@@ -11,42 +11,41 @@ use Rattle.pmn_reader.proofs.OutputsLoop.{OutputsSoFar, outputs_start, outputs_c
 use Rattle.pmn_reader.proofs.unchecked.read_outputs.Statement.{statement}
 use Rattle.pmn_reader.proofs.unchecked.read_outputs.Tie as tie
 
-abbrev invariant-loop : tie.invariant-loop
+abbrev invariant-loop : tie.invariant-loop-j
 invariant-loop file start inputs gates count drivers₀ at₀ j₀ drivers at j = OutputsSoFar file start inputs gates count drivers at j
 
-abbrev decreases-loop : tie.decreases-loop
+abbrev decreases-loop : tie.decreases-loop-j
 decreases-loop file start inputs gates count drivers₀ at₀ j₀ drivers at j = count - j
 
 -- the signal that was read, as the format tests it
-signal_is : (c : tie.After-is-gate invariant-loop decreases-loop) → let at_loop = c.before.before.before.before.before in
-    let a = at_loop.before.before.args in
-    gate_signal a.inputs a.gates (get_or a.file.now at_loop.loop.at 0) ≡ c.is_gate.result
+signal_is : (c : tie.After-is_gate-fits invariant-loop decreases-loop) → 
+    let a = c.args in
+    gate_signal a.inputs a.gates (get_or a.file.now c.loop-j.at 0) ≡ c.is_gate-fits.result
 signal_is c =
-    let at_loop = c.before.before.before.before.before in
-    let a = at_loop.before.before.args in
-    ap (gate_signal a.inputs a.gates) (sym c.before.wide.ensures.0) ∙ sym c.is_gate.ensures
+    let a = c.args in
+    ap (gate_signal a.inputs a.gates) (sym c.wide.ensures.0) ∙ sym c.is_gate-fits.ensures
 
-loop_holds : tie.Need-loop-init invariant-loop decreases-loop
-loop_holds c = let a = c.before.args in outputs_start a.file.now a.start a.inputs a.gates a.count c.before.requires.0
+loop_holds : tie.Need-loop-j-init invariant-loop decreases-loop
+loop_holds c = let a = c.args in outputs_start a.file.now a.start a.inputs a.gates a.count c.requires.0
 
-returns : tie.Need-returns invariant-loop decreases-loop
-returns c = seen_refused 4 (omega arith) c.no-outputs.ensures (outputs_cut c.before.before.before.loop.invariant (omega arith) (omega arith))
+returns : tie.Need-returns-then-file-at invariant-loop decreases-loop
+returns c = seen_refused 4 (omega arith) c.no_outputs.ensures (outputs_cut c.loop-j.invariant (omega arith) (omega arith))
 
-returns_2 : tie.Need-returns-2 invariant-loop decreases-loop
+returns_2 : tie.Need-returns-then-not-fits invariant-loop decreases-loop
 returns_2 c =
     let at_test = c.before.before in
-    seen_refused 8 (omega arith) c.no-outputs2.ensures
-    (outputs_stray at_test.before.before.before.before.before.loop.invariant (omega arith) (omega arith)
-    (signal_is at_test ∙ not-true _ c.before.if2.true))
+    seen_refused 8 (omega arith) c.no_outputs-then-not-fits.ensures
+    (outputs_stray at_test.loop-j.invariant (omega arith) (omega arith)
+    (signal_is at_test ∙ not-true _ c.if-not-fits.true-raw))
 
-loop_again : tie.Need-loop-preserved invariant-loop decreases-loop
+loop_again : tie.Need-loop-j-preserved invariant-loop decreases-loop
 loop_again c =
     let at_test = c.before in
-    outputs_got at_test.before.before.before.before.before.loop.invariant (omega arith) (omega arith) (omega arith)
-    (signal_is at_test ∙ not-false _ c.if2.false)
+    outputs_got at_test.loop-j.invariant (omega arith) (omega arith) (omega arith)
+    (signal_is at_test ∙ not-false _ c.if-not-fits.false-raw)
 
-returns_3 : tie.Need-returns-3 invariant-loop decreases-loop
-returns_3 c = outputs_end c.before.loop.invariant (omega arith)
+returns_3 : tie.Need-returns invariant-loop decreases-loop
+returns_3 c = outputs_end c.loop-j.invariant (omega arith)
 
 pub read_outputs_spec : {M : Type 1} → statement M
 read_outputs_spec =

@@ -8,7 +8,7 @@ use Rattle.pmn_reader.proofs.unchecked.refuse.Tie as tie
 
 returns : tie.Need-returns
 unfolding as_loaded
-returns c = ap (λ (n : Network). record { code = c.before.args.code; network = n }) c.blank.ensures
+returns c = ap (λ (n : Network). record { code = c.args.code; network = n }) c.blank-network.ensures
 
 pub refuse_spec : {M : Type 1} → statement M
 refuse_spec = tie.close (tie.spec (λ c κs. search rules) returns)

@@ -7,9 +7,9 @@ use Rattle.pmn_versions.proofs.unchecked.in_other_version.Tie as tie
 returns : tie.Need-returns
 unfolding other_record
 returns c =
-    let r = c.before.before.args.network in
+    let r = c.args.network in
     λ i. record {
-      board = c.other_version.ensures i;
+      board = c.other_version-other.ensures i;
       inputs = r.inputs;
       gates = r.gates;
       outputs = r.outputs;

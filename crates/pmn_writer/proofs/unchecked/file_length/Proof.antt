@@ -10,35 +10,32 @@ use Rattle.pmn_writer.specs.WritingLaws.{gates_length_none, gates_length_more}
 use Rattle.pmn_writer.proofs.unchecked.file_length.Statement.{statement}
 use Rattle.pmn_writer.proofs.unchecked.file_length.Tie as tie
 
-abbrev invariant-loop : tie.invariant-loop
+abbrev invariant-loop : tie.invariant-loop-g
 invariant-loop fanins gates outputs total₀ g₀ total g = (g ≤ gates) × (total ≡ total₀ + gates_length fanins g) × (total ≤ 10 + 85 * g)
 
-abbrev decreases-loop : tie.decreases-loop
+abbrev decreases-loop : tie.decreases-loop-g
 decreases-loop fanins gates outputs total₀ g₀ total g = gates - g
 
-loop_holds : tie.Need-loop-init invariant-loop decreases-loop
+loop_holds : tie.Need-loop-g-init invariant-loop decreases-loop
 loop_holds c =
-    let a = c.before.args in
+    let a = c.args in
     let e = gates_length_none a.fanins.now in
-    let f : c.header-length.result ≡ header_length a.board = c.header-length.ensures in
+    let f : c.header_length-total.result ≡ header_length a.board = c.header_length-total.ensures in
     (zero-le, omega arith, omega (arith, header_long a.board))
 
-loop_again : tie.Need-loop-preserved invariant-loop decreases-loop
+loop_again : tie.Need-loop-g-preserved invariant-loop decreases-loop
 loop_again c =
-    let l = c.before.before.before.loop in
-    let start = c.before.before.before.before.before in
-    let e = gates_length_more start.args.fanins.now l.g in
-    let m = start.requires.0.few_feeds l.g (omega arith) in
+    let l = c.loop-g in
+    let e = gates_length_more c.args.fanins.now l.g in
+    let m = c.requires.0.few_feeds l.g (omega arith) in
     (omega arith, omega arith, omega arith)
 
 returns : tie.Need-returns invariant-loop decreases-loop
 returns c =
-    let l = c.before.loop in
-    let at_header = c.before.before in
-    let start = at_header.before in
-    let e : l.g ≡ start.args.gates = omega arith in
-    let f = ap (gates_length start.args.fanins.now) e in
-    let h : at_header.header-length.result ≡ header_length start.args.board = at_header.header-length.ensures in
+    let l = c.loop-g in
+    let e : l.g ≡ c.args.gates = omega arith in
+    let f = ap (gates_length c.args.fanins.now) e in
+    let h : c.header_length-total.result ≡ header_length c.args.board = c.header_length-total.ensures in
     omega arith
 
 pub file_length_spec : {M : Type 1} → statement M

@@ -7,10 +7,10 @@ use borrow.Author.Rules.{rules}
 use Rattle.pmn_writing.proofs.unchecked.put_counts.Statement.{statement}
 use Rattle.pmn_writing.proofs.unchecked.put_counts.Tie as tie
 
-slice_write_out_2 : tie.Need-slice-write-out-2
+slice_write_out_2 : tie.Need-bounds-out-1
 slice_write_out_2 c = simp length-set (omega arith)
 
-slice_write_out_3 : tie.Need-slice-write-out-3
+slice_write_out_3 : tie.Need-bounds-out-2
 slice_write_out_3 c = simp length-set (omega arith)
 
 returns : tie.Need-returns

@@ -17,20 +17,16 @@ use Rattle.pmn_writing.proofs.unchecked.put_gate.Tie as tie
 
 returns : tie.Need-returns
 returns c =
-    let feeds = c.before.before in
-    let lent = feeds.before.before in
-    let pair = lent.before.before.before.before.before in
-    let start = pair.before.before.before.before.before in
-    let gate = start.args.t2 in
-    let x₀ = start.args.out.now in
-    let count = pair.before.before.before.wide.result in
+    let gate = c.args.gate in
+    let x₀ = c.args.out.now in
+    let count = c.wide-count.result in
     let e : count ≡ gate.fanin = omega arith in
     let head = gate.fanin ∷ int_bytes gate.threshold in (
       omega arith,
-      write_on x₀ pair.put-pair.new.0 feeds.put-feeds.new.0 head (first_feeds gate.signals gate.weights count) 5 (5 * count)
-          (pair.put-pair.ensures ∙ ap (λ (z : ℤ). (gate.fanin ∷ int_bytes z) ++ drop 5 x₀)
-          (to_z-of_z {w = w32} {z = gate.threshold} (record { sfits = pair.before.struct_told.given.1.0.1 })))
-          refl (first_feeds_length gate.signals gate.weights count) (omega arith) feeds.put-feeds.ensures
+      write_on x₀ c.put_pair.new.0 c.put_feeds.new.0 head (first_feeds gate.signals gate.weights count) 5 (5 * count)
+          (c.put_pair.ensures ∙ ap (λ (z : ℤ). (gate.fanin ∷ int_bytes z) ++ drop 5 x₀)
+          (to_z-of_z {w = w32} {z = gate.threshold} (record { sfits = c.struct_told-1.given.1.0.1 })))
+          refl (first_feeds_length gate.signals gate.weights count) (omega arith) c.put_feeds.ensures
           ∙ ap (λ (k : ℕ). (head ++ first_feeds gate.signals gate.weights k) ++ drop (5 + 5 * count) x₀) e
           ∙ ap (λ (l : List ℕ). l ++ drop (5 + 5 * count) x₀) (sym (gate_in_bytes gate)),
     )

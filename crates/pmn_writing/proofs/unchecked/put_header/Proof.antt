@@ -11,44 +11,39 @@ use Rattle.pmn_format.specs.Format.{mark_bytes}
 use Rattle.pmn_writing.proofs.unchecked.put_header.Statement.{statement}
 use Rattle.pmn_writing.proofs.unchecked.put_header.Tie as tie
 
-put_board_requires : tie.Need-put-board-requires
-put_board_requires c κs = omega (arith, mark_bytes_length c.before.before.args.board)
+put_board_requires : tie.Need-put_board-at-requires
+put_board_requires c κs = omega (arith, mark_bytes_length c.args.board)
 
 -- the counts have room
-room : (c : tie.After-put-board) → c.put-board.result + 3 ≤ length c.put-board.new.0
-room c = omega (arith, c.put-board.ensures.0, c.put-board.auto.0, mark_bytes_length c.before.before.before.args.board)
+room : (c : tie.After-put_board-at) → c.put_board-at.result + 3 ≤ length c.put_board-at.new.0
+room c = omega (arith, c.put_board-at.ensures.0, c.put_board-at.auto.0, mark_bytes_length c.args.board)
 
-sub_put_counts : tie.Need-overflow-sub-put-counts
+sub_put_counts : tie.Need-slice_bounds-put_counts-count
 sub_put_counts c = omega (arith, room c.before.before)
 
 part_put_counts_start : tie.Need-slice-bounds-put-counts-start
 part_put_counts_start c = omega (arith, room c.before.before)
 
-put_counts_requires : tie.Need-put-counts-requires
+put_counts_requires : tie.Need-put_counts-requires
 put_counts_requires c κs =
     let put = c.before.before.before in
-    let start = put.before.before.before in
-    let t = tail_length put.put-board.result put.put-board.new.0 in
-    (start.requires.0, omega (arith, room put))
+    let t = tail_length put.put_board-at.result put.put_board-at.new.0 in
+    (c.requires.0, omega (arith, room put))
 
-add_result : tie.Need-overflow-add-result
+add_result : tie.Need-overflow_add-result
 add_result c =
-    let put = c.before.before.before.before.before.before in
-    let b = put.before.before.before.args.board in
-    omega (arith, put.put-board.ensures.0, mark_bytes_length b, header_long b)
+    let b = c.args.board in
+    omega (arith, c.put_board-at.ensures.0, mark_bytes_length b, header_long b)
 
 returns : tie.Need-returns
 returns c =
-    let counts = c.before.before in
-    let put = counts.before.before.before.before in
-    let start = put.before.before.before in
-    let a = start.args in
-    let at = put.put-board.result in
-    let e = put.put-board.ensures.0 in
+    let a = c.args in
+    let at = c.put_board-at.result in
+    let e = c.put_board-at.ensures.0 in
     let l = mark_bytes_length a.board in (
       omega arith,
-      write_on a.out.now put.put-board.new.0 counts.put-counts.new.0 (mark_bytes a.board) (a.inputs ∷ a.gates ∷ a.outputs ∷ []) at 3
-          put.put-board.ensures.1 (sym put.put-board.ensures.0) refl (omega arith) counts.put-counts.ensures,
+      write_on a.out.now c.put_board-at.new.0 c.put_counts.new.0 (mark_bytes a.board) (a.inputs ∷ a.gates ∷ a.outputs ∷ []) at 3
+          c.put_board-at.ensures.1 (sym c.put_board-at.ensures.0) refl (omega arith) c.put_counts.ensures,
     )
 
 pub put_header_spec : {M : Type 1} → statement M

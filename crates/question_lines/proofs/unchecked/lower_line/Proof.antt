@@ -14,32 +14,31 @@ use Rattle.question_lines.proofs.unchecked.lower_line.Statement.{statement}
 use Rattle.question_lines.proofs.unchecked.lower_line.Tie as tie
 
 -- m, as it is read back
-least_is : (c : tie.After-sum-of) → to_z w32 (of_z w32 c.sum_of.result) ≡ least (gate_in c.before.before.args.gate).feeds
-least_is c = read_back w32 c.sum_of.type-inv (c.sum_of.ensures ∙ sided_least (gate_in c.before.before.args.gate).feeds)
+least_is : (c : tie.After-sum_of-least) → to_z w32 (of_z w32 c.sum_of-least.result) ≡ least (gate_in c.args.gate).feeds
+least_is c = read_back w32 c.sum_of-least.type_inv (c.sum_of-least.ensures ∙ sided_least (gate_in c.args.gate).feeds)
 
-sum_of_requires : tie.Need-sum-of-requires
-sum_of_requires c κs = c.before.requires.0
+sum_of_requires : tie.Need-sum_of-least-requires
+sum_of_requires c κs = c.requires.0
 
-feed_terms_requires : tie.Need-feed-terms-requires
-feed_terms_requires c κs = c.before.before.requires
+feed_terms_requires : tie.Need-feed_terms-feeds-requires
+feed_terms_requires c κs = c.requires
 
-sub_with_term : tie.Need-overflow-sub-with-term
-sub_with_term c = let start = c.before.before.before in lower_own_fits start.args.gate start.requires.0 c.before.sum_of.result (least_is c.before)
+sub_with_term : tie.Need-overflow_sub-least
+sub_with_term c = lower_own_fits c.args.gate c.requires.0 c.sum_of-least.result (least_is c.before)
 
-with_term_requires : tie.Need-with-term-requires
-with_term_requires c κs = feeds_extendable _ _ _ _ c.before.before.before.requires.0 c.feed-terms.ensures
+with_term_requires : tie.Need-with_term-requires
+with_term_requires c κs = feeds_extendable _ _ _ _ c.requires.0 c.feed_terms-feeds.ensures
 
 returns : tie.Need-returns
 unfolding gate_in
 returns c =
-    let start = c.before.before.before.before in
-    let a = start.args in
+    let a = c.args in
     let φ = second_variable a.inputs a.shift in
     let g = gate_in a.gate in
     let least_back = least_is c.before.before in
     stands_is (lower_is φ a.y g)
-    (stands_next a.y (stands_is (ap (feed_terms false φ g) least_back) c.before.feed-terms.ensures)
-    (lower_own a.gate start.requires.0 c.before.before.sum_of.result least_back) c.with-term.ensures)
+    (stands_next a.y (stands_is (ap (feed_terms false φ g) least_back) c.feed_terms-feeds.ensures)
+    (lower_own a.gate c.requires.0 c.sum_of-least.result least_back) c.with_term.ensures)
 
 pub lower_line_spec : {M : Type 1} → statement M
 lower_line_spec =

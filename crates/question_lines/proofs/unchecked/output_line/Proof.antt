@@ -14,44 +14,40 @@ use Rattle.question_lines.proofs.unchecked.output_line.Tie as tie
 below : (c : tie.Start) → c.args.i / 2 < 16
 below c = let h = c.requires.1 in omega (arith, small_counts c.requires.0)
 
-element_copy_out_wide : tie.Need-element-copy-out-wide
+element_copy_out_wide : tie.Need-bounds-first-j
 element_copy_out_wide c = below c
 
-element_copy_out_wide_2 : tie.Need-element-copy-out-wide-2
+element_copy_out_wide_2 : tie.Need-bounds-second-j
 element_copy_out_wide_2 c = below c.before.before
 
-variable_of_requires : tie.Need-variable-of-requires
-variable_of_requires c κs = let s = small_counts c.before.before.before.before.requires.0 in omega (arith, c.wide2.ensures)
+variable_of_requires : tie.Need-variable_of-q-requires
+variable_of_requires c κs = let s = small_counts c.requires.0 in omega (arith, c.wide.ensures)
 
-add_d : tie.Need-overflow-add-d
-add_d c = let s = small_counts c.before.before.before.before.before.requires.0 in record { fits = omega arith }
+add_d : tie.Need-overflow_add-d
+add_d c = let s = small_counts c.requires.0 in record { fits = omega arith }
 
-add_d_2 : tie.Need-overflow-add-d-2
-add_d_2 c = let s = small_counts c.before.before.before.before.before.requires.0 in record { fits = omega arith }
+add_d_2 : tie.Need-overflow_add-d-2
+add_d_2 c = let s = small_counts c.requires.0 in record { fits = omega arith }
 
-add_d_3 : tie.Need-overflow-add-d-3
+add_d_3 : tie.Need-overflow_add-d-3
 add_d_3 c = let s = small_counts c.before.before.before.before.before.requires.0 in let h = below c.before.before.before.before.before in
     record { fits = omega arith }
 
-returns : tie.Need-returns
+returns : tie.Need-returns-then-i-eq0
 returns c =
-    let named = c.before.before in
-    let start = named.before.before.before.before.before in
-    let a = start.args in
+    let a = c.args in
     stands_is
-    (even_output start.requires.0 a.i start.requires.1 named.before.before.before.wide.ensures.0
-    (named.variable-of.ensures ∙ ap (second_variable a.t1.inputs a.t1.gates) named.before.wide2.ensures.0) refl c.before.if1.true)
-    c.three-terms.ensures
+    (even_output c.requires.0 a.i c.requires.1 c.wide-p.ensures.0
+    (c.variable_of-q.ensures ∙ ap (second_variable a.t1.inputs a.t1.gates) c.wide.ensures.0) refl c.if-i-eq0.true)
+    c.three_terms.ensures
 
-returns_2 : tie.Need-returns-2
+returns_2 : tie.Need-returns
 returns_2 c =
-    let named = c.before.before in
-    let start = named.before.before.before.before.before in
-    let a = start.args in
+    let a = c.args in
     stands_is
-    (odd_output start.requires.0 a.i start.requires.1 named.before.before.before.wide.ensures.0
-    (named.variable-of.ensures ∙ ap (second_variable a.t1.inputs a.t1.gates) named.before.wide2.ensures.0) refl c.before.if1.false)
-    c.three-terms2.ensures
+    (odd_output c.requires.0 a.i c.requires.1 c.wide-p.ensures.0
+    (c.variable_of-q.ensures ∙ ap (second_variable a.t1.inputs a.t1.gates) c.wide.ensures.0) refl c.if-i-eq0.false)
+    c.three_terms-2.ensures
 
 pub output_line_spec : {M : Type 1} → statement M
 output_line_spec =

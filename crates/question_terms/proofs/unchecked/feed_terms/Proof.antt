@@ -19,82 +19,79 @@ use Rattle.question_terms.specs.SumLaws.{small_back}
 use Rattle.question_terms.proofs.unchecked.feed_terms.Statement.{statement}
 use Rattle.question_terms.proofs.unchecked.feed_terms.Tie as tie
 
-abbrev invariant-loop : tie.invariant-loop
+abbrev invariant-loop : tie.invariant-loop-i
 invariant-loop inputs shift negative right gate line₀ i₀ i-end line i =
     (i ≤ i-end) × RecordOfLine line (first_terms negative (second_variable inputs shift) gate (to_z w32 right) i)
 
-abbrev decreases-loop : tie.decreases-loop
+abbrev decreases-loop : tie.decreases-loop-i
 decreases-loop inputs shift negative right gate line₀ i₀ i-end line i = i-end - i
 
 -- the number of the loop's feed is below the gate's count
-below : (c : tie.In-loop invariant-loop decreases-loop) → (c.before.loop.i < c.before.before.before.before.args.t1.fanin) × (c.before.loop.i < 16)
-below c = let w = c.before.before in omega (arith, w.wide.ensures, w.before.before.requires.0.few)
+below : (c : tie.In-loop-i invariant-loop decreases-loop) → (c.loop-i.i < c.args.gate.fanin) × (c.loop-i.i < 16)
+below c = omega (arith, c.wide-i-end.ensures, c.requires.0.few)
 
 -- its weight is small
-small : (c : tie.In-loop invariant-loop decreases-loop) → nat_abs (get_or c.before.before.before.before.args.t1.weights c.before.loop.i (pos 0)) ≤ scale
-small c = let start = c.before.before.before.before in scaled_at start.args.t1 start.requires.0 c.before.loop.i (below c).0
+small : (c : tie.In-loop-i invariant-loop decreases-loop) → nat_abs (get_or c.args.gate.weights c.loop-i.i (pos 0)) ≤ scale
+small c = scaled_at c.args.gate c.requires.0 c.loop-i.i (below c).0
 
-loop_holds : tie.Need-loop-init invariant-loop decreases-loop
+loop_holds : tie.Need-loop-i-init invariant-loop decreases-loop
 loop_holds c =
-    let a = c.before.before.args in (
+    let a = c.args in (
       omega arith,
       stands_is (first_none a.negative (second_variable a.inputs a.shift) a.t1 (to_z w32 (of_z w32 a.right)))
-          c.before.no-terms.ensures,
+          c.no_terms-line.ensures,
     )
 
-element_copy_out_wide : tie.Need-element-copy-out-wide invariant-loop decreases-loop
+element_copy_out_wide : tie.Need-bounds-gate-i invariant-loop decreases-loop
 element_copy_out_wide c = (below c).1
 
-mul_signed : tie.Need-overflow-mul-signed invariant-loop decreases-loop
+mul_signed : tie.Need-offset_bounds-gate-i invariant-loop decreases-loop
 mul_signed c = let h = below c.before.before.before in record { fits = omega arith }
 
-element_copy_out_signed : tie.Need-element-copy-out-signed invariant-loop decreases-loop
+element_copy_out_signed : tie.Need-bounds-gate-i-in-loop-i invariant-loop decreases-loop
 element_copy_out_signed c = (below c.before.before.before).1
 
-signed_requires : tie.Need-signed-requires invariant-loop decreases-loop
+signed_requires : tie.Need-signed-coefficient-requires invariant-loop decreases-loop
 signed_requires c κs = let h = small c.before.before.before.before in rw (small_back _ h) h
 
-with_term_requires : tie.Need-with-term-requires invariant-loop decreases-loop
+with_term_requires : tie.Need-with_term-line-requires invariant-loop decreases-loop
 with_term_requires c κs =
     let in_loop = c.before.before.before.before.before in
-    let l = in_loop.before.loop in
-    let a = in_loop.before.before.before.before.args in
+    let l = in_loop.loop-i in
+    let a = in_loop.args in
     let h = below in_loop in
     stands_extendable l.invariant.1
     (omega (arith, first_count a.negative (second_variable a.inputs a.shift) a.t1 (to_z w32 (of_z w32 a.right)) l.i))
 
-add_i : tie.Need-overflow-add-i invariant-loop decreases-loop
+add_i : tie.Need-overflow_step-i invariant-loop decreases-loop
 add_i c = let h = below c.before.before.before.before.before.before in record { fits = omega arith }
 
-loop_less : tie.Need-loop-smaller invariant-loop decreases-loop
-loop_less c = let h = c.before.before.before.before.before.before.loop-test.true in omega arith
+loop_less : tie.Need-loop-i-smaller invariant-loop decreases-loop
+loop_less c = let h = c.loop-i-test.true in omega arith
 
-loop_again : tie.Need-loop-preserved invariant-loop decreases-loop
+loop_again : tie.Need-loop-i-preserved invariant-loop decreases-loop
 loop_again c =
-    let made = c.before in
-    let named = made.before.before in
-    let in_loop = named.before.before.before in
-    let l = in_loop.before.loop in
-    let a = in_loop.before.before.before.before.args in
+    let in_loop = c.before.before.before.before.before.before in
+    let l = in_loop.loop-i in
+    let a = in_loop.args in
     let φ = second_variable a.inputs a.shift in
     let w = get_or a.t1.weights l.i (pos 0) in
-    let h = in_loop.loop-test.true in (
+    let h = in_loop.loop-i-test.true in (
       omega arith,
       stands_is (first_step a.negative φ a.t1 (to_z w32 (of_z w32 a.right)) l.i (stands_line l.invariant.1)
-          (named.variable-of.ensures ∙ ap φ named.before.wide2.ensures.0)
-          (read_back w32 made.signed.type-inv (made.signed.ensures ∙ ap (λ (z : ℤ). cond a.negative (neg_ℤ z) z) (small_back w (small in_loop)))))
-          c.with-term.ensures,
+          (c.variable_of-variable.ensures ∙ ap φ c.wide.ensures.0)
+          (read_back w32 c.signed-coefficient.type_inv (c.signed-coefficient.ensures ∙ ap (λ (z : ℤ). cond a.negative (neg_ℤ z) z) (small_back w (small in_loop)))))
+          c.with_term-line.ensures,
     )
 
 returns : tie.Need-returns invariant-loop decreases-loop
 returns c =
-    let l = c.before.loop in
-    let start = c.before.before.before.before in
-    let a = start.args in
+    let l = c.loop-i in
+    let a = c.args in
     let φ = second_variable a.inputs a.shift in
-    let e : l.i ≡ a.t1.fanin = omega (arith, c.before.before.wide.ensures) in
+    let e : l.i ≡ a.t1.fanin = omega (arith, c.wide-i-end.ensures) in
     stands_is
-    (ap (λ (z : ℤ). first_terms a.negative φ a.t1 z l.i) (to_z-of_z start.ranges.right)
+    (ap (λ (z : ℤ). first_terms a.negative φ a.t1 z l.i) (to_z-of_z c.ranges.right)
     ∙ ap (first_terms a.negative φ a.t1 a.right) e
     ∙ first_all a.negative φ a.t1 a.right)
     l.invariant.1

@@ -14,21 +14,21 @@ use Rattle.question_terms.proofs.unchecked.signed.Tie as tie
 minus_fits : (c : tie.Start) → SFits w32 (pos 0 -ℤ c.args.weight)
 minus_fits c = size_fits w32 (pos 0 -ℤ c.args.weight) (omega (arith, size_minus c.args.weight, c.requires))
 
-sub_result : tie.Need-overflow-sub-result
-sub_result c = rw (to_z-of_z c.before.ranges.weight) (minus_fits c.before)
+sub_result : tie.Need-overflow_sub-result
+sub_result c = rw (to_z-of_z c.ranges.weight) (minus_fits c.before)
 
-returns : tie.Need-returns
+returns : tie.Need-returns-then-negative
 returns c =
-    let w = c.before.args.weight in
-    ap (λ (z : ℤ). to_z w32 (of_z w32 (pos 0 -ℤ z))) (to_z-of_z c.before.ranges.weight)
+    let w = c.args.weight in
+    ap (λ (z : ℤ). to_z w32 (of_z w32 (pos 0 -ℤ z))) (to_z-of_z c.ranges.weight)
     ∙ to_z-of_z (minus_fits c.before)
     ∙ +ℤ_idl (neg_ℤ w)
-    ∙ sym (ap (λ (b : Bool). cond b (neg_ℤ w) w) c.if1.true)
+    ∙ sym (ap (λ (b : Bool). cond b (neg_ℤ w) w) c.if-negative.true)
 
-returns_2 : tie.Need-returns-2
+returns_2 : tie.Need-returns-else-negative
 returns_2 c =
-    let w = c.before.args.weight in
-    to_z-of_z c.before.ranges.weight ∙ sym (ap (λ (b : Bool). cond b (neg_ℤ w) w) c.if1.false)
+    let w = c.args.weight in
+    to_z-of_z c.ranges.weight ∙ sym (ap (λ (b : Bool). cond b (neg_ℤ w) w) c.if-negative.false)
 
 pub signed_spec : {M : Type 1} → statement M
 signed_spec = tie.close (tie.spec sub_result returns returns_2)

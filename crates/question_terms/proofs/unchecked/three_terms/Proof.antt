@@ -10,37 +10,37 @@ use Rattle.question_terms.proofs.unchecked.three_terms.Statement.{statement}
 use Rattle.question_terms.proofs.unchecked.three_terms.Tie as tie
 
 -- no terms, one and two
-none : (c : tie.After-no-terms) → RecordOfLine c.no-terms.result (no_terms c.before.args.right)
-none c = stands_is (ap no_terms (to_z-of_z c.before.ranges.right)) c.no-terms.ensures
+none : (c : tie.After-no_terms) → RecordOfLine c.no_terms.result (no_terms c.args.right)
+none c = stands_is (ap no_terms (to_z-of_z c.ranges.right)) c.no_terms.ensures
 
-first : (c : tie.After-with-term)
-    → RecordOfLine c.with-term.result
-    (extended (no_terms c.before.before.args.right) (term c.before.before.args.p c.before.before.args.coefficient))
-first c = let start = c.before.before in stands_next start.args.p (none c.before) (to_z-of_z start.ranges.coefficient) c.with-term.ensures
+first : (c : tie.After-with_term-one)
+    → RecordOfLine c.with_term-one.result
+    (extended (no_terms c.args.right) (term c.args.p c.args.coefficient))
+first c = stands_next c.args.p (none c.before) (to_z-of_z c.ranges.coefficient) c.with_term-one.ensures
 
-second : (c : tie.After-with-term2) → RecordOfLine c.with-term2.result
-    (extended (extended (no_terms c.before.before.before.args.right)
-    (term c.before.before.before.args.p c.before.before.before.args.coefficient))
-    (term c.before.before.before.args.q c.before.before.before.args.coefficient))
-second c = let start = c.before.before.before in stands_next start.args.q (first c.before) (to_z-of_z start.ranges.coefficient)
-    c.with-term2.ensures
+second : (c : tie.After-with_term-two) → RecordOfLine c.with_term-two.result
+    (extended (extended (no_terms c.args.right)
+    (term c.args.p c.args.coefficient))
+    (term c.args.q c.args.coefficient))
+second c = stands_next c.args.q (first c.before) (to_z-of_z c.ranges.coefficient)
+    c.with_term-two.ensures
 
-with_term_requires : tie.Need-with-term-requires
+with_term_requires : tie.Need-with_term-one-requires
 unfolding no_terms
 with_term_requires c κs = stands_extendable (none c) (omega arith)
 
-with_term_requires_2 : tie.Need-with-term-requires-2
+with_term_requires_2 : tie.Need-with_term-two-requires
 unfolding no_terms extended
 with_term_requires_2 c κs = stands_extendable (first c) (omega arith)
 
-with_term_requires_3 : tie.Need-with-term-requires-3
+with_term_requires_3 : tie.Need-with_term-requires
 unfolding no_terms extended
 with_term_requires_3 c κs = stands_extendable (second c) (omega arith)
 
 returns : tie.Need-returns
 returns c =
-    let a = c.before.before.before.before.args in
-    stands_is (three_is a.p a.q a.d a.coefficient a.right) (stands_next a.d (second c.before) refl c.with-term3.ensures)
+    let a = c.args in
+    stands_is (three_is a.p a.q a.d a.coefficient a.right) (stands_next a.d (second c.before) refl c.with_term.ensures)
 
 pub three_terms_spec : {M : Type 1} → statement M
 three_terms_spec =

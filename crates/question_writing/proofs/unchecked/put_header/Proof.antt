@@ -20,66 +20,65 @@ long : (c : tie.Start) → length (decimal c.args.variables) + length (decimal c
 long c = omega (arith, header_text_length c.args.variables c.args.lines, c.requires)
 
 -- where the first word is put, and the start before it
-abbrev at_start : tie.After-put-number → tie.Start
+abbrev at_start : tie.After-put_number-at → tie.Start
 at_start c = c.before.before.before.before
 
-abbrev at_first : tie.After-put-number2 → tie.After-put-number
+abbrev at_first : tie.After-put_number → tie.After-put_number-at
 at_first c = c.before.before.before.before.before
 
 -- the first word with its number
-first : (c : tie.After-put-number) → TextPut (variable_word ++ decimal c.before.before.before.before.args.variables) c.put-number.result
-    c.before.before.before.before.args.out.now c.put-number.new.0
+first : (c : tie.After-put_number-at) → TextPut (variable_word ++ decimal c.args.variables) c.put_number-at.result
+    c.args.out.now c.put_number-at.new.0
 unfolding variable_word
-first c = c.put-number.ensures
+first c = c.put_number-at.ensures
 
-first_room : (c : tie.After-put-number) → c.put-number.result + length (decimal c.before.before.before.before.args.lines) + 15 ≤ length
-    c.before.before.before.before.args.out.now
-first_room c = omega (arith, c.put-number.ensures.long, long c.before.before.before.before)
+first_room : (c : tie.After-put_number-at) → c.put_number-at.result + length (decimal c.args.lines) + 15 ≤ length
+    c.args.out.now
+first_room c = omega (arith, c.put_number-at.ensures.long, long c.before.before.before.before.before)
 
-first_long : (c : tie.After-put-number) → length c.put-number.new.0 ≡ length c.before.before.before.before.args.out.now
+first_long : (c : tie.After-put_number-at) → length c.put_number-at.new.0 ≡ length c.args.out.now
 first_long c = put_length (first c) (omega (arith, first_room c))
 
 -- the second
-room : (c : tie.After-put-number2)
-    → c.before.before.before.before.before.put-number.result + c.put-number2.result < length (at_start (at_first c)).args.out.now
-room c = omega (arith, c.put-number2.ensures.long, first_room c.before.before.before.before.before)
+room : (c : tie.After-put_number)
+    → c.put_number-at.result + c.put_number.result < length (at_start (at_first c)).args.out.now
+room c = omega (arith, c.put_number.ensures.long, first_room c.before.before.before.before.before.before)
 
-second : (c : tie.After-put-number2) →
-    let done = c.before.before.before.before.before in
-    let a = done.before.before.before.before.args in
-    let at = done.put-number.result in
-    let xs = done.put-number.new.0 in
-    TextPut ((variable_word ++ decimal a.variables) ++ (constraint_word ++ decimal a.lines)) (at + c.put-number2.result) a.out.now
-    (put_mid at (length xs - at) xs c.put-number2.new.0)
+second : (c : tie.After-put_number) →
+    let a = c.args in
+    let at = c.put_number-at.result in
+    let xs = c.put_number-at.new.0 in
+    TextPut ((variable_word ++ decimal a.variables) ++ (constraint_word ++ decimal a.lines)) (at + c.put_number.result) a.out.now
+    (put_mid at (length xs - at) xs c.put_number.new.0)
 unfolding constraint_word
-second c = let h = room c in put_part (first c.before.before.before.before.before) (omega arith) c.put-number2.ensures
+second c = let h = room c in put_part (first c.before.before.before.before.before.before) (omega arith) c.put_number.ensures
 
-put_number_requires : tie.Need-put-number-requires
-put_number_requires c κs = omega (arith, long c.before.before.before)
+put_number_requires : tie.Need-put_number-at-requires
+put_number_requires c κs = omega (arith, long c.before.before.before.before)
 
-sub_put_number : tie.Need-overflow-sub-put-number
+sub_put_number : tie.Need-slice_bounds-put_number-count
 sub_put_number c = omega (arith, first_long c.before.before, first_room c.before.before)
 
 part_put_number_start : tie.Need-slice-bounds-put-number-start
 part_put_number_start c = omega (arith, first_long c.before.before, first_room c.before.before)
 
-put_number_requires_2 : tie.Need-put-number-requires-2
+put_number_requires_2 : tie.Need-put_number-requires
 put_number_requires_2 c κs =
-    let done = c.before.before.before.before in
-    omega (arith, first_long done, first_room done, tail_length done.put-number.result done.put-number.new.0)
+    let done = c.before.before.before.before.before in
+    omega (arith, first_long done, first_room done, tail_length done.put_number-at.result done.put_number-at.new.0)
 
-add_end : tie.Need-overflow-add-end
+add_end : tie.Need-overflow_add-end
 add_end c = record {
   fits = omega
-      (arith, room c.before.before, (at_start (at_first c.before.before)).well-formed.0.0);
+      (arith, room c.before.before, (at_start (at_first c.before.before)).well_formed.0.0);
 }
 
-slice_write_out : tie.Need-slice-write-out
+slice_write_out : tie.Need-bounds-out-end
 slice_write_out c = let done = c.before.before in let h = room done in omega (arith, put_length (second done) (omega arith))
 
-add_result : tie.Need-overflow-add-result
+add_result : tie.Need-overflow_add-result
 add_result c = record
-    { fits = omega (arith, room c.before.before, (at_start (at_first c.before.before)).well-formed.0.0) }
+    { fits = omega (arith, room c.before.before, (at_start (at_first c.before.before)).well_formed.0.0) }
 
 returns : tie.Need-returns
 returns c =
@@ -87,7 +86,7 @@ returns c =
     let a = (at_start (at_first done)).args in
     put_text (put_byte (second done) 10 (room done)) (header_parts a.variables a.lines)
 
-same_length : tie.Need-same-length
+same_length : tie.Need-shape_of-out
 same_length c = let h = room c.before.before in put_length (returns c) (omega arith)
 
 pub put_header_spec : {M : Type 1} → statement M

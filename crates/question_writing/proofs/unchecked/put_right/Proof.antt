@@ -16,32 +16,30 @@ use Rattle.question_writing.proofs.unchecked.put_right.Statement.{statement}
 use Rattle.question_writing.proofs.unchecked.put_right.Tie as tie
 
 -- the size of the number
-size_is : (c : tie.After-magnitude) → c.magnitude.result ≡ nat_abs c.before.before.args.z
-size_is c = c.magnitude.ensures ∙ ap nat_abs (to_z-of_z c.before.before.ranges.z)
+size_is : (c : tie.After-magnitude-size) → c.magnitude-size.result ≡ nat_abs c.args.z
+size_is c = c.magnitude-size.ensures ∙ ap nat_abs (to_z-of_z c.ranges.z)
 
 -- the text below 0, and from 0 on
-below : (c : tie.Then1) → 45 ∷ decimal c.before.magnitude.result ≡ right_side c.before.before.before.args.z
+below : (c : tie.Then-z-lt0) → 45 ∷ decimal c.magnitude-size.result ≡ right_side c.args.z
 below c =
-    let start = c.before.before.before in
     ap (λ (n : ℕ). 45 ∷ decimal n) (size_is c.before)
-    ∙ sym (right_below start.args.z (below_sign start.args.z (rw (to_z-of_z start.ranges.z) at c.if1.true)))
+    ∙ sym (right_below c.args.z (below_sign c.args.z (rw (to_z-of_z c.ranges.z) at c.if-z-lt0.true)))
 
-above : (c : tie.Else1) → decimal c.before.magnitude.result ≡ right_side c.before.before.before.args.z
+above : (c : tie.Else-z-lt0) → decimal c.magnitude-size.result ≡ right_side c.args.z
 above c =
-    let start = c.before.before.before in
-    ap decimal (size_is c.before) ∙ sym (right_above start.args.z (above_sign start.args.z (rw (to_z-of_z start.ranges.z) at c.if1.false)))
+    ap decimal (size_is c.before) ∙ sym (right_above c.args.z (above_sign c.args.z (rw (to_z-of_z c.ranges.z) at c.if-z-lt0.false)))
 
-put_number_requires : tie.Need-put-number-requires
-put_number_requires c κs = omega (arith, ap length (below c.before.before), c.before.before.before.before.before.requires)
+put_number_requires : tie.Need-put_number-requires
+put_number_requires c κs = omega (arith, ap length (below c.before.before.before), c.requires)
 
-returns : tie.Need-returns
-returns c = let done = c.before.before in put_text done.put-number.ensures (below done.before.before.before)
+returns : tie.Need-returns-then-z-lt0
+returns c = put_text c.put_number.ensures (below c.before.before.before.before.before.before)
 
-put_decimal_requires : tie.Need-put-decimal-requires
-put_decimal_requires c κs = omega (arith, ap length (above c.before), c.before.before.before.before.requires)
+put_decimal_requires : tie.Need-put_decimal-requires
+put_decimal_requires c κs = omega (arith, ap length (above c.before), c.requires)
 
-returns_2 : tie.Need-returns-2
-returns_2 c = let done = c.before.before in put_text done.put-decimal.ensures (above done.before.before)
+returns_2 : tie.Need-returns
+returns_2 c = put_text c.put_decimal.ensures (above c.before.before.before.before)
 
 pub put_right_spec : {M : Type 1} → statement M
 put_right_spec =

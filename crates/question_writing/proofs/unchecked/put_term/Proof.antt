@@ -21,68 +21,67 @@ long : (c : tie.Start) → length (coefficient c.args.coefficient) + length (dec
 long c = omega (arith, term_length c.args.variable c.args.coefficient, c.requires.1)
 
 -- the coefficient
-first : (c : tie.After-put-coefficient) → TextPut (coefficient c.before.before.before.args.coefficient) c.put-coefficient.result
-    c.before.before.before.args.out.now c.put-coefficient.new.0
-first c = put_text c.put-coefficient.ensures (ap coefficient (to_z-of_z c.before.before.before.ranges.coefficient))
+first : (c : tie.After-put_coefficient-at) → TextPut (coefficient c.args.coefficient) c.put_coefficient-at.result
+    c.args.out.now c.put_coefficient-at.new.0
+first c = put_text c.put_coefficient-at.ensures (ap coefficient (to_z-of_z c.ranges.coefficient))
 
-first_room : (c : tie.After-put-coefficient)
-    → c.put-coefficient.result + length (decimal (c.before.before.before.args.variable + 1)) + 3 ≤ length c.before.before.before.args.out.now
+first_room : (c : tie.After-put_coefficient-at)
+    → c.put_coefficient-at.result + length (decimal (c.args.variable + 1)) + 3 ≤ length c.args.out.now
 first_room c = omega (arith, (first c).long, long c.before.before.before)
 
-first_long : (c : tie.After-put-coefficient) → length c.put-coefficient.new.0 ≡ length c.before.before.before.args.out.now
+first_long : (c : tie.After-put_coefficient-at) → length c.put_coefficient-at.new.0 ≡ length c.args.out.now
 first_long c = put_length (first c) (omega (arith, first_room c))
 
 -- the variable after it
 -- where the coefficient is put, and the start before it
-abbrev at_start : tie.After-put-coefficient → tie.Start
+abbrev at_start : tie.After-put_coefficient-at → tie.Start
 at_start c = c.before.before.before
 
-abbrev at_coefficient : tie.After-put-number → tie.After-put-coefficient
+abbrev at_coefficient : tie.After-put_number → tie.After-put_coefficient-at
 at_coefficient c = c.before.before.before.before.before
 
-room : (c : tie.After-put-number)
-    → c.before.before.before.before.before.put-coefficient.result + c.put-number.result < length (at_start (at_coefficient c)).args.out.now
-room c = omega (arith, c.put-number.ensures.long, first_room c.before.before.before.before.before)
+room : (c : tie.After-put_number)
+    → c.put_coefficient-at.result + c.put_number.result < length (at_start (at_coefficient c)).args.out.now
+room c = omega (arith, c.put_number.ensures.long, first_room c.before.before.before.before.before.before)
 
-named : (c : tie.After-put-number) →
-    let done = c.before.before.before.before.before in
-    let a = done.before.before.before.args in
-    let at = done.put-coefficient.result in
-    let xs = done.put-coefficient.new.0 in
-    TextPut (coefficient a.coefficient ++ ((32 ∷ 120 ∷ []) ++ decimal (a.variable + 1))) (at + c.put-number.result) a.out.now
-    (put_mid at (length xs - at) xs c.put-number.new.0)
-named c = let h = room c in put_part (first c.before.before.before.before.before) (omega arith) c.put-number.ensures
+named : (c : tie.After-put_number) →
+    let a = c.args in
+    let at = c.put_coefficient-at.result in
+    let xs = c.put_coefficient-at.new.0 in
+    TextPut (coefficient a.coefficient ++ ((32 ∷ 120 ∷ []) ++ decimal (a.variable + 1))) (at + c.put_number.result) a.out.now
+    (put_mid at (length xs - at) xs c.put_number.new.0)
+named c = let h = room c in put_part (first c.before.before.before.before.before.before) (omega arith) c.put_number.ensures
 
-put_coefficient_requires : tie.Need-put-coefficient-requires
+put_coefficient_requires : tie.Need-put_coefficient-at-requires
 put_coefficient_requires c κs = let start = c.before.before in
     omega (arith, ap (λ z. length (coefficient z)) (to_z-of_z start.ranges.coefficient), long start)
 
-sub_put_number : tie.Need-overflow-sub-put-number
+sub_put_number : tie.Need-slice_bounds-put_number-count
 sub_put_number c = omega (arith, first_long c.before.before, first_room c.before.before)
 
 part_put_number_start : tie.Need-slice-bounds-put-number-start
 part_put_number_start c = omega (arith, first_long c.before.before, first_room c.before.before)
 
-add_put_number : tie.Need-overflow-add-put-number
-add_put_number c = let lent = c.before.before.before in record { fits = omega (arith, lent.before.before.before.before.requires.0) }
+add_put_number : tie.Need-overflow_add-variable
+add_put_number c = record { fits = omega (arith, c.requires.0) }
 
-put_number_requires : tie.Need-put-number-requires
+put_number_requires : tie.Need-put_number-requires
 put_number_requires c κs =
-    let done = c.before.before.before.before in
-    omega (arith, first_long done, first_room done, tail_length done.put-coefficient.result done.put-coefficient.new.0)
+    let done = c.before.before.before.before.before in
+    omega (arith, first_long done, first_room done, tail_length done.put_coefficient-at.result done.put_coefficient-at.new.0)
 
-add_end : tie.Need-overflow-add-end
+add_end : tie.Need-overflow_add-end
 add_end c = record {
   fits = omega
-      (arith, room c.before.before, (at_start (at_coefficient c.before.before)).well-formed.0.0);
+      (arith, room c.before.before, (at_start (at_coefficient c.before.before)).well_formed.0.0);
 }
 
-slice_write_out : tie.Need-slice-write-out
+slice_write_out : tie.Need-bounds-out-end
 slice_write_out c = let done = c.before.before in let h = room done in omega (arith, put_length (named done) (omega arith))
 
-add_result : tie.Need-overflow-add-result
+add_result : tie.Need-overflow_add-result
 add_result c = record
-    { fits = omega (arith, room c.before.before, (at_start (at_coefficient c.before.before)).well-formed.0.0) }
+    { fits = omega (arith, room c.before.before, (at_start (at_coefficient c.before.before)).well_formed.0.0) }
 
 returns : tie.Need-returns
 returns c =
@@ -90,7 +89,7 @@ returns c =
     let a = (at_start (at_coefficient done)).args in
     put_text (put_byte (named done) 32 (room done)) (term_parts a.variable a.coefficient)
 
-same_length : tie.Need-same-length
+same_length : tie.Need-shape_of-out
 same_length c = let h = room c.before.before in put_length (returns c) (omega arith)
 
 pub put_term_spec : {M : Type 1} → statement M

@@ -8,21 +8,19 @@ use Rattle.scorer_ball.specs.Words.{game_of}
 use Rattle.scorer_ball.proofs.unchecked.ball_code.Statement.{statement}
 use Rattle.scorer_ball.proofs.unchecked.ball_code.Tie as tie
 
-returns : tie.Need-returns
+returns : tie.Need-returns-then-lane-gt10
 unfolding ball checks code_of game_of
-returns c = rw (lt-leb c.before.before.args.lane.frame 10 c.if1.true)
+returns c = rw (lt-leb c.args.lane.frame 10 c.if-lane-gt10.true)
 
-returns_2 : tie.Need-returns-2
+returns_2 : tie.Need-returns-then-raises
 unfolding ball checks code_of game_of
 returns_2 c =
-    let played = c.before.before in
-    rw (le-leb played.before.before.args.lane.frame 10 played.if1.false, sym c.before.raises.ensures ∙ c.if2.true)
+    rw (le-leb c.args.lane.frame 10 c.if-lane-gt10.false, sym c.raises.ensures ∙ c.if-raises.true)
 
-returns_3 : tie.Need-returns-3
+returns_3 : tie.Need-returns
 unfolding ball checks code_of game_of
 returns_3 c =
-    let played = c.before.before in
-    rw (le-leb played.before.before.args.lane.frame 10 played.if1.false, sym c.before.raises.ensures ∙ c.if2.false)
+    rw (le-leb c.args.lane.frame 10 c.if-lane-gt10.false, sym c.raises.ensures ∙ c.if-raises.false)
 
 pub ball_code_spec : {M : Type 1} → statement M
 ball_code_spec = tie.close (tie.spec returns (λ c κs. search rules) returns_2 returns_3)

@@ -11,26 +11,26 @@ use Rattle.scorer_ball.proofs.unchecked.felled_by.Statement.{statement}
 use Rattle.scorer_ball.proofs.unchecked.felled_by.Tie as tie
 
 -- the pins felled and those that stand after the ball are those that stood before it
-split : (c : tie.After-standing2) →
-    let a = c.before.before.args in
-    felled_by (pins_in a.before) (pins_in a.after) + c.standing2.result ≡ c.before.standing.result
+split : (c : tie.After-standing-2) →
+    let a = c.args in
+    felled_by (pins_in a.before) (pins_in a.after) + c.standing-2.result ≡ c.standing.result
 split c =
-    let p = c.before.before.requires in
-    let b = c.before.before.args.before in
-    let a = c.before.before.args.after in
+    let p = c.requires in
+    let b = c.args.before in
+    let a = c.args.after in
     let s = felled_word b a p.ten_before p.ten_after p.same_rack in
-    let before = pins_ones b p.ten_before ∙ sym c.before.standing.ensures in
-    let after = pins_ones a p.ten_after ∙ sym c.standing2.ensures in
+    let before = pins_ones b p.ten_before ∙ sym c.standing.ensures in
+    let after = pins_ones a p.ten_after ∙ sym c.standing-2.ensures in
     omega arith
 
-sub_result : tie.Need-overflow-sub-result
+sub_result : tie.Need-overflow_sub-result
 sub_result c = omega (arith, split c)
 
-cast_result : tie.Need-overflow-cast-result
+cast_result : tie.Need-overflow_cast-result
 cast_result c =
-    let p = c.before.before.requires in
-    let b = c.before.before.args.before in
-    let before = pins_ones b p.ten_before ∙ sym c.before.standing.ensures in
+    let p = c.requires in
+    let b = c.args.before in
+    let before = pins_ones b p.ten_before ∙ sym c.standing.ensures in
     omega (arith, ones-le 10 b p.ten_before)
 
 returns : tie.Need-returns

@@ -8,28 +8,27 @@ use Rattle.scorer_places.specs.PlaceLaws.{copied_none, copied_next, copied_all}
 use Rattle.scorer_places.proofs.unchecked.put_felled.Statement.{statement}
 use Rattle.scorer_places.proofs.unchecked.put_felled.Tie as tie
 
-abbrev invariant-loop : tie.invariant-loop
+abbrev invariant-loop : tie.invariant-loop-i
 invariant-loop answer₀ felled i₀ i-end answer i = CopiedToFront felled answer₀ answer i
 
-abbrev decreases-loop : tie.decreases-loop
+abbrev decreases-loop : tie.decreases-loop-i
 decreases-loop answer₀ felled i₀ i-end answer i = length felled - i
 
-loop_holds : tie.Need-loop-init invariant-loop decreases-loop
+loop_holds : tie.Need-loop-i-init invariant-loop decreases-loop
 loop_holds c = copied_none _ _
 
-cast_answer : tie.Need-overflow-cast-answer invariant-loop decreases-loop
-cast_answer c = omega (arith, (c.shared-slice-known.given c.before.before.loop.i).fits)
+cast_answer : tie.Need-overflow_cast-answer invariant-loop decreases-loop
+cast_answer c = omega (arith, (c.shared_slice_known-1.given c.loop-i.i).fits)
 
-loop_again : tie.Need-loop-preserved invariant-loop decreases-loop
+loop_again : tie.Need-loop-i-preserved invariant-loop decreases-loop
 loop_again c =
-    let l = c.before.before in
-    copied_next l.loop.invariant c.before.loop-test.true l.before.requires
+    copied_next c.loop-i.invariant c.loop-i-test.true c.requires
 
-same_length : tie.Need-same-length invariant-loop decreases-loop
-same_length c = c.before.loop.invariant.long
+same_length : tie.Need-shape_of-answer invariant-loop decreases-loop
+same_length c = c.loop-i.invariant.long
 
 returns : tie.Need-returns invariant-loop decreases-loop
-returns c = copied_all c.before.loop.invariant (omega arith)
+returns c = copied_all c.loop-i.invariant (omega arith)
 
 pub put_felled_spec : {M : Type 1} → statement M
 put_felled_spec =

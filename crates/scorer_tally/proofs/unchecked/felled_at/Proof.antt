@@ -7,14 +7,13 @@ use lib.Seq.{get_or-take}
 use Rattle.scorer_tally.proofs.unchecked.felled_at.Statement.{statement}
 use Rattle.scorer_tally.proofs.unchecked.felled_at.Tie as tie
 
-returns : tie.Need-returns
+returns : tie.Need-returns-then-i-balls
 returns c =
-    let s = c.before.before.before in
-    (c.wide.ensures.0 ∙ sym (get_or-take s.args.balls s.args.felled.now s.args.i 0 c.before.before.if1.true), c.wide.ensures.1)
+    (c.wide.ensures.0 ∙ sym (get_or-take c.args.balls c.args.felled.now c.args.i 0 c.if-i-balls.true), c.wide.ensures.1)
 
-returns_2 : tie.Need-returns-2
+returns_2 : tie.Need-returns
 returns_2 c =
-    let a = c.before.args in
+    let a = c.args in
     let thrown = take a.balls a.felled.now in
     (sym (get_or-eq_default thrown 0 {n = a.i} (omega (arith, length-take a.balls a.felled.now))), omega arith)
 

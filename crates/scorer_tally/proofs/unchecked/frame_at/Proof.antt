@@ -10,29 +10,28 @@ use Rattle.scorer_tally.proofs.unchecked.frame_at.Statement.{statement}
 use Rattle.scorer_tally.proofs.unchecked.frame_at.Tie as tie
 
 -- the three balls read are the first of the list
-opens : (c : tie.After-felled-at3) →
-    let a = c.before.before.before.args in
+opens : (c : tie.After-felled_at-third) →
+    let a = c.args in
     FirstBalls (drop a.at (take a.balls a.felled.now))
-    c.before.before.felled-at.result c.before.felled-at2.result c.felled-at3.result
+    c.felled_at-first.result c.felled_at-second.result c.felled_at-third.result
 opens c =
-    let s = c.before.before.before in
-    let l = take s.args.balls s.args.felled.now in
-    let at = s.args.at in
+    let l = take c.args.balls c.args.felled.now in
+    let at = c.args.at in
     record {
-      one = c.before.before.felled-at.ensures.0 ∙ ap (λ (k : ℕ). get_or l k 0) (let e : at ≡ at + 0 = omega arith in e) ∙ sym (get_or-drop at l 0 0);
-      two = c.before.felled-at2.ensures.0 ∙ sym (get_or-drop at l 1 0);
-      three = c.felled-at3.ensures.0 ∙ sym (get_or-drop at l 2 0);
-      bytes = (c.before.before.felled-at.ensures.1, c.before.felled-at2.ensures.1, c.felled-at3.ensures.1);
+      one = c.felled_at-first.ensures.0 ∙ ap (λ (k : ℕ). get_or l k 0) (let e : at ≡ at + 0 = omega arith in e) ∙ sym (get_or-drop at l 0 0);
+      two = c.felled_at-second.ensures.0 ∙ sym (get_or-drop at l 1 0);
+      three = c.felled_at-third.ensures.0 ∙ sym (get_or-drop at l 2 0);
+      bytes = (c.felled_at-first.ensures.1, c.felled_at-second.ensures.1, c.felled_at-third.ensures.1);
     }
 
-returns : tie.Need-returns
-returns c = count_strike (opens c.before) c.if1.true
+returns : tie.Need-returns-then-first-eq10
+returns c = count_strike (opens c.before) c.if-first-eq10.true
 
-returns_2 : tie.Need-returns-2
-returns_2 c = count_spare (opens c.before.before) c.before.if1.false c.if2.true
+returns_2 : tie.Need-returns-then-first-second-eq10
+returns_2 c = count_spare (opens c.before.before) c.if-first-eq10.false c.if-first-second-eq10.true
 
-returns_3 : tie.Need-returns-3
-returns_3 c = count_open (opens c.before.before) c.before.if1.false c.if2.false
+returns_3 : tie.Need-returns
+returns_3 c = count_open (opens c.before.before) c.if-first-eq10.false c.if-first-second-eq10.false
 
 pub frame_at_spec : {M : Type 1} → statement M
 frame_at_spec =

@@ -11,21 +11,21 @@ use Rattle.scorer_tally.proofs.unchecked.sheet_of.Statement.{statement}
 use Rattle.scorer_tally.proofs.unchecked.sheet_of.Tie as tie
 
 -- the balls of the game
-many : (c : tie.Start) → length (take c.args.balls c.args.t1) ≡ c.args.balls
+many : (c : tie.Start) → length (take c.args.balls c.args.felled) ≡ c.args.balls
 many c =
-    let l : length c.args.t1 ≡ 21 = search rules in
-    length-take-le c.args.balls c.args.t1 (omega (arith, c.requires.0))
+    let l : length c.args.felled ≡ 21 = search rules in
+    length-take-le c.args.balls c.args.felled (omega (arith, c.requires.0))
 
-running_scores_requires : tie.Need-running-scores-requires
+running_scores_requires : tie.Need-running_scores-scored-requires
 running_scores_requires c κs =
-    let l : length c.before.args.t1 ≡ 21 = search rules in
-    (c.before.requires.0, omega arith)
+    let l : length c.args.felled ≡ 21 = search rules in
+    (c.requires.0, omega arith)
 
 returns : tie.Need-returns
 unfolding as_scored as_sheet
 returns c =
     let s = c.before.before.before in
-    let tally = c.before.running-scores.ensures in
+    let tally = c.running_scores-scored.ensures in
     let frames = ap (λ (x : Scored). x.frames) tally in
     let scores = ap (λ (x : Scored). x.scores) tally in
     rw (frames, scores, many s, ← s.requires.1)

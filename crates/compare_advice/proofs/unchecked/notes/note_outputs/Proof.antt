@@ -4,10 +4,10 @@ use Rattle.compare_advice.specs.Advice.{AsMany}
 use Rattle.compare_advice.proofs.unchecked.notes.note_outputs.Statement.{statement}
 use Rattle.compare_advice.proofs.unchecked.notes.note_outputs.Tie as tie
 
-abbrev invariant-loop : tie.invariant-loop
+abbrev invariant-loop : tie.invariant-loop-j
 invariant-loop notes₀ drivers outputs j₀ notes j = (j ≤ 16) × AsMany notes₀ notes
 
-abbrev decreases-loop : tie.decreases-loop
+abbrev decreases-loop : tie.decreases-loop-j
 decreases-loop notes₀ drivers outputs j₀ notes j = 16 - j
 
 pub note_outputs_spec : {M : Type 1} → statement M

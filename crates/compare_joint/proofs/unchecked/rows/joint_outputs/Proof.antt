@@ -10,24 +10,24 @@ use Rattle.question_theory.specs.Question.{second_variable}
 use Rattle.compare_joint.proofs.unchecked.rows.joint_outputs.Statement.{statement}
 use Rattle.compare_joint.proofs.unchecked.rows.joint_outputs.Tie as tie
 
-abbrev invariant-loop : tie.invariant-loop
+abbrev invariant-loop : tie.invariant-loop-j
 invariant-loop drivers outputs inputs gates outs₀ j₀ outs j = (j ≤ outputs) × Pasted 0 0 j (λ k. second_variable inputs gates (get_or drivers k 0)) outs₀ outs
 
-abbrev decreases-loop : tie.decreases-loop
+abbrev decreases-loop : tie.decreases-loop-j
 decreases-loop drivers outputs inputs gates outs₀ j₀ outs j = outputs - j
 
-loop_holds : tie.Need-loop-init invariant-loop decreases-loop
+loop_holds : tie.Need-loop-j-init invariant-loop decreases-loop
 loop_holds c = (omega arith, pasted_none _ _ _ _)
 
-loop_again : tie.Need-loop-preserved invariant-loop decreases-loop
+loop_again : tie.Need-loop-j-preserved invariant-loop decreases-loop
 loop_again c =
-    let loop = c.before.before.before.loop in
-    (omega arith, pasted_more _ _ loop.invariant.1 (omega arith) c.joint-signal.ensures)
+    let loop = c.loop-j in
+    (omega arith, pasted_more _ _ loop.invariant.1 (omega arith) c.joint_signal-signal.ensures)
 
 returns : tie.Need-returns invariant-loop decreases-loop
 returns c =
-    let full : c.before.loop.j ≡ c.before.before.args.outputs = omega arith in
-    rw full at c.before.loop.invariant.1
+    let full : c.loop-j.j ≡ c.args.outputs = omega arith in
+    rw full at c.loop-j.invariant.1
 
 pub joint_outputs_spec : {M : Type 1} → statement M
 joint_outputs_spec =

@@ -7,15 +7,15 @@ use Rattle.compare_theory.specs.SideBySideLaws.{second_most}
 use Rattle.compare_joint.proofs.unchecked.rows.joint_signal.Statement.{statement}
 use Rattle.compare_joint.proofs.unchecked.rows.joint_signal.Tie as tie
 
-cast_result : tie.Need-overflow-cast-result
+cast_result : tie.Need-overflow_cast-result
 cast_result c =
-    let a = c.before.before.args in
-    omega (arith, c.variable-of.ensures, c.before.wide.ensures, second_most a.inputs a.shift c.before.wide.result)
+    let a = c.args in
+    omega (arith, c.variable_of.ensures, c.wide.ensures, second_most a.inputs a.shift c.wide.result)
 
 returns : tie.Need-returns
 returns c =
-    let a = c.before.before.args in
-    c.variable-of.ensures ∙ ap (second_variable a.inputs a.shift) c.before.wide.ensures.0
+    let a = c.args in
+    c.variable_of.ensures ∙ ap (second_variable a.inputs a.shift) c.wide.ensures.0
 
 pub joint_signal_spec : {M : Type 1} → statement M
 joint_signal_spec = tie.close (tie.spec (λ c κs. search rules) (λ c κs. search rules) cast_result returns)

@@ -13,29 +13,28 @@ use Rattle.compare_joint.specs.RowLaws.{row_put}
 use Rattle.compare_joint.proofs.unchecked.rows.wires_row.Statement.{statement}
 use Rattle.compare_joint.proofs.unchecked.rows.wires_row.Tie as tie
 
-abbrev invariant-loop : tie.invariant-loop
+abbrev invariant-loop : tie.invariant-loop-i
 invariant-loop inputs shift gate row₀ count i₀ row i = (i ≤ 16) × Pasted 0 1 i (λ k. second_variable inputs shift (get_or gate.signals k 0)) row₀ row
 
-abbrev decreases-loop : tie.decreases-loop
+abbrev decreases-loop : tie.decreases-loop-i
 decreases-loop inputs shift gate row₀ count i₀ row i = 16 - i
 
-loop_holds : tie.Need-loop-init invariant-loop decreases-loop
+loop_holds : tie.Need-loop-i-init invariant-loop decreases-loop
 loop_holds c = (omega arith, pasted_none _ _ _ _)
 
-loop_again : tie.Need-loop-preserved invariant-loop decreases-loop
+loop_again : tie.Need-loop-i-preserved invariant-loop decreases-loop
 loop_again c =
-    let loop = c.before.before.before.loop in
-    (omega arith, pasted_more _ _ loop.invariant.1 (omega arith) c.joint-signal.ensures)
+    let loop = c.loop-i in
+    (omega arith, pasted_more _ _ loop.invariant.1 (omega arith) c.joint_signal-signal.ensures)
 
 returns : tie.Need-returns invariant-loop decreases-loop
 returns c =
-    let start = c.before.before.before in
-    let gate = start.args.t1 in
+    let gate = c.args.gate in
     let long : length gate.signals ≡ 16 = search rules in
-    let full : c.before.loop.i ≡ 16 = omega arith in
-    let φ = second_variable start.args.inputs start.args.shift in
-    row_put 0 refl (rw full at c.before.loop.invariant.1) gate.fanin (map φ gate.signals) (length-map gate.signals φ ∙ long)
-    c.before.before.count-number.ensures (λ i h. sym (get_d_map φ gate.signals i 0 0 (omega arith)))
+    let full : c.loop-i.i ≡ 16 = omega arith in
+    let φ = second_variable c.args.inputs c.args.shift in
+    row_put 0 refl (rw full at c.loop-i.invariant.1) gate.fanin (map φ gate.signals) (length-map gate.signals φ ∙ long)
+    c.count_number-count.ensures (λ i h. sym (get_d_map φ gate.signals i 0 0 (omega arith)))
 
 pub wires_row_spec : {M : Type 1} → statement M
 wires_row_spec =

@@ -12,32 +12,32 @@ use Rattle.compare_joint.specs.RowLaws.{mapped}
 use Rattle.compare_joint.proofs.unchecked.wiring.rewire_rows.Statement.{statement}
 use Rattle.compare_joint.proofs.unchecked.wiring.rewire_rows.Tie as tie
 
-abbrev invariant-loop : tie.invariant-loop
+abbrev invariant-loop : tie.invariant-loop-g
 invariant-loop rows₀ p q g₀ g_end rows g = (g ≤ g_end) × Pasted [] 0 g (λ k. moved_row p q (get_or rows₀ k [])) rows₀ rows
 
-abbrev decreases-loop : tie.decreases-loop
+abbrev decreases-loop : tie.decreases-loop-g
 decreases-loop rows₀ p q g₀ g_end rows g = g_end - g
 
-loop_holds : tie.Need-loop-init invariant-loop decreases-loop
+loop_holds : tie.Need-loop-g-init invariant-loop decreases-loop
 loop_holds c = (omega arith, pasted_none _ _ _ _)
 
-slice_copy_out_row : tie.Need-slice-copy-out-row invariant-loop decreases-loop
-slice_copy_out_row c = omega (arith, c.before.loop.invariant.1.long)
+slice_copy_out_row : tie.Need-slice_copy_out-row invariant-loop decreases-loop
+slice_copy_out_row c = omega (arith, c.loop-g.invariant.1.long)
 
-slice_set_from_result : tie.Need-slice-set-from-result invariant-loop decreases-loop
-slice_set_from_result c = omega (arith, c.before.before.before.loop.invariant.1.long)
+slice_set_from_result : tie.Need-bounds-rows-g invariant-loop decreases-loop
+slice_set_from_result c = omega (arith, c.loop-g.invariant.1.long)
 
-loop_again : tie.Need-loop-preserved invariant-loop decreases-loop
+loop_again : tie.Need-loop-g-preserved invariant-loop decreases-loop
 loop_again c =
-    let loop = c.before.before.before.loop in
-    let a = c.before.before.before.before.args in
-    (omega arith, pasted_more _ _ loop.invariant.1 (omega arith) (c.Moved-row.ensures ∙ ap (moved_row a.p a.q) (loop.invariant.1.after loop.g (omega arith))))
+    let loop = c.loop-g in
+    let a = c.args in
+    (omega arith, pasted_more _ _ loop.invariant.1 (omega arith) (c.moved_row-result.ensures ∙ ap (moved_row a.p a.q) (loop.invariant.1.after loop.g (omega arith))))
 
-same_length : tie.Need-same-length invariant-loop decreases-loop
-same_length c = c.before.loop.invariant.1.long
+same_length : tie.Need-shape_of-rows invariant-loop decreases-loop
+same_length c = c.loop-g.invariant.1.long
 
 returns : tie.Need-returns invariant-loop decreases-loop
-returns c = let a = c.before.before.args in mapped [] (moved_row a.p a.q) c.before.loop.invariant.1 (omega arith)
+returns c = let a = c.args in mapped [] (moved_row a.p a.q) c.loop-g.invariant.1 (omega arith)
 
 pub rewire_rows_spec : {M : Type 1} → statement M
 rewire_rows_spec =

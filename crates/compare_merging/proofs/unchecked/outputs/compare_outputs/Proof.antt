@@ -12,50 +12,39 @@ use Rattle.compare_merging.specs.TwinLaws.{alike_of}
 use Rattle.compare_merging.proofs.unchecked.outputs.compare_outputs.Statement.{statement}
 use Rattle.compare_merging.proofs.unchecked.outputs.compare_outputs.Tie as tie
 
-abbrev invariant-loop : tie.invariant-loop
+abbrev invariant-loop : tie.invariant-loop-j
 invariant-loop inputs gates wires weights drivers outs outputs budget left₀ j₀ left j =
     (j ≤ outputs) × (left ≤ budget) × Matched j drivers (joint inputs gates wires weights) outs
 
-abbrev decreases-loop : tie.decreases-loop
+abbrev decreases-loop : tie.decreases-loop-j
 decreases-loop inputs gates wires weights drivers outs outputs budget left₀ j₀ left j = outputs - j
 
 -- the loop's output has a place
-below : (c : tie.In-loop invariant-loop decreases-loop) → c.before.loop.j < 16
-below c = omega (arith, c.loop-test.true, c.before.before.requires.1)
+below : (c : tie.In-loop-j invariant-loop decreases-loop) → c.loop-j.j < 16
+below c = omega (arith, c.loop-j-test.true, c.requires.1)
 
-decide_twice_requires : tie.Need-decide-twice-requires invariant-loop decreases-loop
+decide_twice_requires : tie.Need-decide_twice-result-requires invariant-loop decreases-loop
 decide_twice_requires c κs =
-    let there = c.before in
-    let first = there.before.before in
-    let start = first.before.before.before.before in
-    (start.requires.0, omega (arith, first.wide.ensures.1), omega (arith, c.signal-index.ensures, there.if1.false))
+    (c.requires.0, omega (arith, c.wide-p.ensures.1), omega (arith, c.signal_index.ensures, c.if-q-ge-SIGNALS.false))
 
-returns_2 : tie.Need-returns-2 invariant-loop decreases-loop
+returns_2 : tie.Need-returns-then-result-ne0 invariant-loop decreases-loop
 returns_2 c =
-    let tried = c.before.before in
-    let at = tried.before.before.before.before.before.before.before in
-    (omega (arith, tried.decide-twice.ensures.0, at.loop.invariant.1), λ e. absurd (false≢true e))
+    (omega (arith, c.decide_twice-result.ensures.0, c.loop-j.invariant.1), λ e. absurd (false≢true e))
 
-loop_again : tie.Need-loop-preserved invariant-loop decreases-loop
+loop_again : tie.Need-loop-j-preserved invariant-loop decreases-loop
 loop_again c =
-    let tried = c.before.before in
-    let second = tried.before in
-    let first = second.before.before.before in
-    let inside = first.before.before in
-    let at = inside.before in
-    let a = at.before.args in
-    let alike = alike_of (tried.decide-twice.ensures.1 c.if2.false) first.wide.ensures.0 second.signal-index.ensures in (
-      omega (arith, inside.loop-test.true),
-      omega (arith, tried.decide-twice.ensures.0, at.loop.invariant.1),
-      matched_more at.loop.j a.drivers.now (joint a.inputs a.gates a.wires.now a.weights.now) a.outs.now at.loop.invariant.2
+    let a = c.args in
+    let alike = alike_of (c.decide_twice-result.ensures.1 c.if-result-ne0.false) c.wide-p.ensures.0 c.signal_index.ensures in (
+      omega (arith, c.loop-j-test.true),
+      omega (arith, c.decide_twice-result.ensures.0, c.loop-j.invariant.1),
+      matched_more c.loop-j.j a.drivers.now (joint a.inputs a.gates a.wires.now a.weights.now) a.outs.now c.loop-j.invariant.2
           (inr alike),
     )
 
-returns_3 : tie.Need-returns-3 invariant-loop decreases-loop
+returns_3 : tie.Need-returns invariant-loop decreases-loop
 returns_3 c =
-    let at = c.before in
-    let full : at.loop.j ≡ at.before.args.outputs = omega (arith, c.loop-test.false, at.loop.invariant.0) in
-    (at.loop.invariant.1, λ e. rw full at at.loop.invariant.2)
+    let full : c.loop-j.j ≡ c.args.outputs = omega (arith, c.loop-j-test.false, c.loop-j.invariant.0) in
+    (c.loop-j.invariant.1, λ e. rw full c c.loop-j.invariant.2)
 
 pub compare_outputs_spec : {M : Type 1} → statement M
 compare_outputs_spec =

@@ -8,26 +8,23 @@ use Rattle.compare_theory.specs.WiringLaws.{kept_same, kept_then}
 use Rattle.compare_merging.proofs.unchecked.outputs.merge_outputs.Statement.{statement}
 use Rattle.compare_merging.proofs.unchecked.outputs.merge_outputs.Tie as tie
 
-abbrev invariant-loop : tie.invariant-loop
+abbrev invariant-loop : tie.invariant-loop-j
 invariant-loop inputs gates wires₀ weights outs₀ notes₀ gates-first steps budget left₀ j₀ wires outs notes left j =
     (j ≤ 16) × (left ≤ budget) × Kept (joint inputs gates wires₀ weights) outs₀ (joint inputs gates wires weights) outs
 
-abbrev decreases-loop : tie.decreases-loop
+abbrev decreases-loop : tie.decreases-loop-j
 decreases-loop inputs gates wires₀ weights outs₀ notes₀ gates-first steps budget left₀ j₀ wires outs notes left j = 16 - j
 
-merge_output_requires : tie.Need-merge-output-requires invariant-loop decreases-loop
+merge_output_requires : tie.Need-merge_output-left-requires invariant-loop decreases-loop
 merge_output_requires c κs =
-    let inside = c.before.before.before in
-    let at = inside.before in
-    (at.loop.invariant.2.ready at.before.requires, inside.loop-test.true)
+    (c.loop-j.invariant.2.ready c.requires, c.loop-j-test.true)
 
-loop_again : tie.Need-loop-preserved invariant-loop decreases-loop
+loop_again : tie.Need-loop-j-preserved invariant-loop decreases-loop
 loop_again c =
-    let inside = c.before.before.before.before in
-    let at = inside.before in (
-      omega (arith, inside.loop-test.true),
-      omega (arith, at.loop.invariant.1, c.merge-output.ensures.1),
-      kept_then at.before.requires at.loop.invariant.2 c.merge-output.ensures.0,
+    (
+      omega (arith, c.loop-j-test.true),
+      omega (arith, c.loop-j.invariant.1, c.merge_output-left.ensures.1),
+      kept_then c.requires c.loop-j.invariant.2 c.merge_output-left.ensures.0,
     )
 
 pub merge_outputs_spec : {M : Type 1} → statement M

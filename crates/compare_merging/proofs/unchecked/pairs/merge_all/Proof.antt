@@ -8,24 +8,23 @@ use Rattle.compare_theory.specs.WiringLaws.{kept_same, kept_then}
 use Rattle.compare_merging.proofs.unchecked.pairs.merge_all.Statement.{statement}
 use Rattle.compare_merging.proofs.unchecked.pairs.merge_all.Tie as tie
 
-abbrev invariant-loop : tie.invariant-loop
+abbrev invariant-loop : tie.invariant-loop-q
 invariant-loop inputs gates wires₀ weights outs₀ notes₀ first end budget left₀ q₀ wires outs notes left q =
     (first ≤ q) × (left ≤ budget) × Kept (joint inputs gates wires₀ weights) outs₀ (joint inputs gates wires weights) outs
 
-abbrev decreases-loop : tie.decreases-loop
+abbrev decreases-loop : tie.decreases-loop-q
 decreases-loop inputs gates wires₀ weights outs₀ notes₀ first end budget left₀ q₀ wires outs notes left q = end - q
 
-merge_signal_requires : tie.Need-merge-signal-requires invariant-loop decreases-loop
+merge_signal_requires : tie.Need-merge_signal-left-requires invariant-loop decreases-loop
 merge_signal_requires c κs =
-    let at = c.before.before.before.before in
-    (at.loop.invariant.2.ready at.before.requires, at.loop.invariant.0)
+    (c.loop-q.invariant.2.ready c.requires, c.loop-q.invariant.0)
 
-loop_again : tie.Need-loop-preserved invariant-loop decreases-loop
+loop_again : tie.Need-loop-q-preserved invariant-loop decreases-loop
 loop_again c =
-    let at = c.before.before.before.before.before in (
-      omega (arith, at.loop.invariant.0),
-      omega (arith, at.loop.invariant.1, c.merge-signal.ensures.1),
-      kept_then at.before.requires at.loop.invariant.2 c.merge-signal.ensures.0,
+    (
+      omega (arith, c.loop-q.invariant.0),
+      omega (arith, c.loop-q.invariant.1, c.merge_signal-left.ensures.1),
+      kept_then c.requires c.loop-q.invariant.2 c.merge_signal-left.ensures.0,
     )
 
 pub merge_all_spec : {M : Type 1} → statement M

@@ -6,29 +6,23 @@ use Rattle.compare_theory.specs.WiringLaws.{kept_same}
 use Rattle.compare_merging.proofs.unchecked.pairs.merge_marked.Statement.{statement}
 use Rattle.compare_merging.proofs.unchecked.pairs.merge_marked.Tie as tie
 
-merge_requires : tie.Need-merge-requires
+merge_requires : tie.Need-merge-result-requires
 merge_requires c κs =
-    let marked = c.before.before.before in
-    let tested = marked.before in
-    let pre = tested.before.before.before.before.before.before.before.requires in
-    let there = (tested.same-mark.ensures (not-false _ marked.if2.false)).1 in
-    (pre.0, pre.1, omega (arith, there, tested.before.signal-index2.ensures))
+    let pre = c.requires in
+    let there = (c.same_mark.ensures (not-false _ c.if-not-same_mark.false-raw)).1 in
+    (pre.0, pre.1, omega (arith, there, c.signal_index-2.ensures))
 
-returns_3 : tie.Need-returns-3
+returns_3 : tie.Need-returns-then-result-ne1
 returns_3 c =
-    let tried = c.before.before.before.before in
-    (tried.merge.ensures.0, omega (arith, tried.merge.ensures.1, tried.before.before.before.least.ensures.0))
+    (c.merge-result.ensures.0, omega (arith, c.merge-result.ensures.1, c.least-given.ensures.0))
 
-look_near_requires : tie.Need-look-near-requires
+look_near_requires : tie.Need-look_near-requires
 look_near_requires c κs =
-    let tried = c.before.before.before.before.before.before in
-    let marked = tried.before.before.before.before in
-    tried.merge.ensures.0.ready marked.before.before.before.before.before.before.before.before.requires.0
+    c.merge-result.ensures.0.ready c.requires.0
 
-returns_4 : tie.Need-returns-4
+returns_4 : tie.Need-returns
 returns_4 c =
-    let tried = c.before.before.before.before.before.before.before in
-    (tried.merge.ensures.0, omega (arith, tried.merge.ensures.1, tried.before.before.before.least.ensures.0))
+    (c.merge-result.ensures.0, omega (arith, c.merge-result.ensures.1, c.least-given.ensures.0))
 
 pub merge_marked_spec : {M : Type 1} → statement M
 merge_marked_spec =

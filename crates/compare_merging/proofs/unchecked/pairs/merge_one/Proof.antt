@@ -8,34 +8,28 @@ use Rattle.compare_theory.specs.WiringLaws.{kept_same, kept_then}
 use Rattle.compare_merging.proofs.unchecked.pairs.merge_one.Statement.{statement}
 use Rattle.compare_merging.proofs.unchecked.pairs.merge_one.Tie as tie
 
-abbrev invariant-loop : tie.invariant-loop
+abbrev invariant-loop : tie.invariant-loop-p
 invariant-loop inputs gates wires₀ weights outs₀ notes₀ end q steps budget left₀ p₀ wires outs notes left p =
     (p ≤ end) × (left ≤ budget) × Kept (joint inputs gates wires₀ weights) outs₀ (joint inputs gates wires weights) outs
 
-abbrev decreases-loop : tie.decreases-loop
+abbrev decreases-loop : tie.decreases-loop-p
 decreases-loop inputs gates wires₀ weights outs₀ notes₀ end q steps budget left₀ p₀ wires outs notes left p = end - p
 
-merge_marked_requires : tie.Need-merge-marked-requires invariant-loop decreases-loop
+merge_marked_requires : tie.Need-merge_marked-tried-requires invariant-loop decreases-loop
 merge_marked_requires c κs =
-    let inside = c.before.before.before in
-    let at = inside.before in
-    let pre = at.before.requires in
-    (at.loop.invariant.2.ready pre.0, omega (arith, inside.loop-test.true, pre.1))
+    let pre = c.requires in
+    (c.loop-p.invariant.2.ready pre.0, omega (arith, c.loop-p-test.true, pre.1))
 
-returns : tie.Need-returns invariant-loop decreases-loop
+returns : tie.Need-returns-then-tried invariant-loop decreases-loop
 returns c =
-    let tried = c.before in
-    let at = tried.before.before.before.before.before in
-    (kept_then at.before.requires.0 at.loop.invariant.2 tried.merge-marked.ensures.0, omega (arith, at.loop.invariant.1, tried.merge-marked.ensures.1))
+    (kept_then c.requires.0 c.loop-p.invariant.2 c.merge_marked-tried.ensures.0, omega (arith, c.loop-p.invariant.1, c.merge_marked-tried.ensures.1))
 
-loop_again : tie.Need-loop-preserved invariant-loop decreases-loop
+loop_again : tie.Need-loop-p-preserved invariant-loop decreases-loop
 loop_again c =
-    let tried = c.before in
-    let inside = tried.before.before.before.before in
-    let at = inside.before in (
-      omega (arith, inside.loop-test.true),
-      omega (arith, at.loop.invariant.1, tried.merge-marked.ensures.1),
-      kept_then at.before.requires.0 at.loop.invariant.2 tried.merge-marked.ensures.0,
+    (
+      omega (arith, c.loop-p-test.true),
+      omega (arith, c.loop-p.invariant.1, c.merge_marked-tried.ensures.1),
+      kept_then c.requires.0 c.loop-p.invariant.2 c.merge_marked-tried.ensures.0,
     )
 
 pub merge_one_spec : {M : Type 1} → statement M

@@ -10,38 +10,33 @@ use Rattle.compare_merging.specs.TwinLaws.{same_none, same_more, bits_same, same
 use Rattle.compare_merging.proofs.unchecked.showing.same_gate.Statement.{statement}
 use Rattle.compare_merging.proofs.unchecked.showing.same_gate.Tie as tie
 
-abbrev invariant-loop : tie.invariant-loop
+abbrev invariant-loop : tie.invariant-loop-i
 invariant-loop wires weights others numbers count i₀ i = (i ≤ count + 1) × SameBelow wires weights others numbers i
 
-abbrev decreases-loop : tie.decreases-loop
+abbrev decreases-loop : tie.decreases-loop-i
 decreases-loop wires weights others numbers count i₀ i = (count + 1) - i
 
-loop_holds : tie.Need-loop-init invariant-loop decreases-loop
+loop_holds : tie.Need-loop-i-init invariant-loop decreases-loop
 loop_holds c = (omega arith, same_none _ _ _ _)
 
 -- the loop's place is in the rows
-in_rows : (c : tie.In-loop invariant-loop decreases-loop) → c.before.loop.i < 17
+in_rows : (c : tie.In-loop-i invariant-loop decreases-loop) → c.loop-i.i < 17
 in_rows c =
-    let counted = c.before.before in
-    omega (arith, c.loop-test.true, counted.signal-index.ensures, counted.before.before.requires.0.few)
+    omega (arith, c.loop-i-test.true, c.signal_index-count.ensures, c.requires.0.few)
 
-loop_again : tie.Need-loop-preserved invariant-loop decreases-loop
+loop_again : tie.Need-loop-i-preserved invariant-loop decreases-loop
 loop_again c =
-    let one = c.before.before.before in
-    let inside = one.before.before.before in
-    let loop = inside.before.loop in
-    let start = inside.before.before.before.before in
-    let small = start.requires.0.small loop.i in
-    let others_small = start.requires.1.small loop.i in (
-      omega (arith, inside.loop-test.true),
-      same_more loop.invariant.1 one.if1.false (bits_same (get_or start.args.weights.now loop.i (pos 0))
-          (get_or start.args.numbers.now loop.i (pos 0)) small others_small c.if2.false),
+    let loop = c.loop-i in
+    let small = c.requires.0.small loop.i in
+    let others_small = c.requires.1.small loop.i in (
+      omega (arith, c.loop-i-test.true),
+      same_more loop.invariant.1 c.if-wires-i.false (bits_same (get_or c.args.weights.now loop.i (pos 0))
+          (get_or c.args.numbers.now loop.i (pos 0)) small others_small c.if-weights-i.false),
     )
 
-returns_3 : tie.Need-returns-3 invariant-loop decreases-loop
+returns_3 : tie.Need-returns invariant-loop decreases-loop
 returns_3 c e =
-    let counted = c.before.before in
-    same_gate _ _ _ _ c.before.loop.i (omega (arith, c.loop-test.false, counted.signal-index.ensures)) c.before.loop.invariant.1
+    same_gate _ _ _ _ c.loop-i.i (omega (arith, c.loop-i-test.false, c.signal_index-count.ensures)) c.loop-i.invariant.1
 
 pub same_gate_spec : {M : Type 1} → statement M
 same_gate_spec =

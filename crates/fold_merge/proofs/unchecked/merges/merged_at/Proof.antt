@@ -35,72 +35,64 @@ abbrev edge : tie.Start → Edge
 edge c = let r = record_at c in edge_in r.board r.fanins r.thresholds r.signals r.weights r.inputs c.args.u c.args.v
 
 -- past the first test u feeds v
-joined : (c : tie.Else1) → let s = c.before.before in
-    let r = record_at s in
-    GateReads r.fanins r.thresholds r.signals r.weights r.inputs r.gates s.args.u s.args.v
+joined : (c : tie.Else-apart-ne0) → 
+    let r = record_at c in
+    GateReads r.fanins r.thresholds r.signals r.weights r.inputs r.gates c.args.u c.args.v
 joined c =
-    let s = c.before.before in
-    apart_none (record_at s) s.requires s.args.u s.args.v _ c.before.edge-code.ensures c.if1.false
+    apart_none (record_at c) c.requires c.args.u c.args.v _ c.edge_code-apart.ensures c.if-apart-ne0.false
 
-edge_ok : (c : tie.Else1) → EdgeOk (edge c.before.before)
+edge_ok : (c : tie.Else-apart-ne0) → EdgeOk (edge c.before.before)
 edge_ok c = let s = c.before.before in joined_ok (lent s) (joined c) (sound_board (record_at s) s.requires)
 
 -- the number of the first test that fails
-code_is : (c : tie.After-merge-code) → let s = c.before.before.before.before.before in
-    c.merge-code.result ≡ first_failing (merge_tests (edge s) s.args.k s.args.l)
+code_is : (c : tie.After-merge_code-code) → 
+    c.merge_code-code.result ≡ first_failing (merge_tests (edge c) c.args.k c.args.l)
 code_is c =
     let t = c.before.before.before in
-    let s = t.before.before in
-    c.merge-code.ensures
-    ∙ ap (λ (x : Alignment). first_failing (merge_tests_on x s.args.k s.args.l)) c.before.aligned_at.ensures
-    ∙ tests_on (edge s) (edge_ok t) s.args.k s.args.l
+    c.merge_code-code.ensures
+    ∙ ap (λ (x : Alignment). first_failing (merge_tests_on x c.args.k c.args.l)) c.aligned_at-a.ensures
+    ∙ tests_on (edge c) (edge_ok t) c.args.k c.args.l
 
 -- past the second test nothing refuses
-passed : (c : tie.Else2) → let s = c.before.before.before.before.before.before in Passed (merge_tests (edge s) s.args.k s.args.l)
-passed c = merge_passed _ _ _ _ (code_is c.before) c.if2.false
+passed : (c : tie.Else-code-ne0) → Passed (merge_tests (edge c) c.args.k c.args.l)
+passed c = merge_passed _ _ _ _ (code_is c.before) c.if-code-ne0.false
 
-edge_code_requires : tie.Need-edge-code-requires
+edge_code_requires : tie.Need-edge_code-apart-requires
 edge_code_requires c κs = lent c
 
-returns : tie.Need-returns
+returns : tie.Need-returns-then-apart-ne0
 returns c =
-    let s = c.before.before.before in
-    let a = s.args in
-    tried_none (record_at s) a.u a.v a.k a.l _ _ c.no_gate.ensures c.before.if1.true
-    (merge_apart (record_at s) s.requires a.u a.v _ c.before.before.edge-code.ensures c.before.if1.true a.k a.l)
+    let a = c.args in
+    tried_none (record_at c) a.u a.v a.k a.l _ _ c.no_gate.ensures c.if-apart-ne0.true
+    (merge_apart (record_at c) c.requires a.u a.v _ c.edge_code-apart.ensures c.if-apart-ne0.true a.k a.l)
 
-aligned_at_requires : tie.Need-aligned-at-requires
-aligned_at_requires c κs = let t = c.before in (lent t.before.before, (joined t, sound_board (record_at t.before.before) t.before.before.requires))
+aligned_at_requires : tie.Need-aligned_at-a-requires
+aligned_at_requires c κs = let t = c.before in (lent t.before.before, (joined t, sound_board (record_at t.before.before) t.requires))
 
-merge_code_requires : tie.Need-merge-code-requires
-merge_code_requires c κs = subst AlignmentOnScale (sym c.aligned_at.ensures) (aligned_fair _ (edge_ok c.before.before))
+merge_code_requires : tie.Need-merge_code-code-requires
+merge_code_requires c κs = subst AlignmentOnScale (sym c.aligned_at-a.ensures) (aligned_fair _ (edge_ok c.before.before))
 
-returns_2 : tie.Need-returns-2
+returns_2 : tie.Need-returns-then-code-ne0
 returns_2 c =
-    let t = c.before.before.before.before.before in
-    let s = t.before.before in
-    let a = s.args in
-    tried_none (record_at s) a.u a.v a.k a.l _ _ c.no-gate2.ensures c.before.if2.true
-    (merge_refused (record_at s) s.requires a.u a.v _ t.before.edge-code.ensures t.if1.false a.k a.l _ (code_is c.before.before)
-    c.before.if2.true)
+    let a = c.args in
+    tried_none (record_at c) a.u a.v a.k a.l _ _ c.no_gate-then-code-ne0.ensures c.if-code-ne0.true
+    (merge_refused (record_at c) c.requires a.u a.v _ c.edge_code-apart.ensures c.if-apart-ne0.false a.k a.l _ (code_is c.before.before)
+    c.if-code-ne0.true)
 
-merged_gate_requires : tie.Need-merged-gate-requires
+merged_gate_requires : tie.Need-merged_gate-gate-requires
 merged_gate_requires c κs =
     let t = c.before.before.before.before in
-    let s = t.before.before in
-    subst (λ (x : Alignment). Mergeable x s.args.k s.args.l) (sym c.before.before.aligned_at.ensures)
-    (fits_mergeable (edge s) s.args.k s.args.l (merge_fits _ _ _ (passed c)) (edge_ok t))
+    subst (λ (x : Alignment). Mergeable x c.args.k c.args.l) (sym c.aligned_at-a.ensures)
+    (fits_mergeable (edge c) c.args.k c.args.l (merge_fits _ _ _ (passed c)) (edge_ok t))
 
-returns_3 : tie.Need-returns-3
+returns_3 : tie.Need-returns
 returns_3 c =
-    let t = c.before.before.before.before.before in
-    let s = t.before.before in
-    let a = s.args in
-    let gate = fits_gate (edge s) a.k a.l (merge_fits _ _ _ (passed c.before)) c.merged-gate.result
-    (c.merged-gate.ensures ∙ ap (λ (x : Alignment). gate_record (merged_of x a.k a.l)) c.before.before.before.aligned_at.ensures) in
-    tried_gate (record_at s) a.u a.v a.k a.l _ _ gate.0 gate.1
-    (apart_gate (record_at s) s.requires a.u a.v _ t.before.edge-code.ensures t.if1.false)
-    (merge_accepted (record_at s) s.requires a.u a.v _ t.before.edge-code.ensures t.if1.false a.k a.l (passed c.before))
+    let a = c.args in
+    let gate = fits_gate (edge c) a.k a.l (merge_fits _ _ _ (passed c.before)) c.merged_gate-gate.result
+    (c.merged_gate-gate.ensures ∙ ap (λ (x : Alignment). gate_record (merged_of x a.k a.l)) c.aligned_at-a.ensures) in
+    tried_gate (record_at c) a.u a.v a.k a.l _ _ gate.0 gate.1
+    (apart_gate (record_at c) c.requires a.u a.v _ c.edge_code-apart.ensures c.if-apart-ne0.false)
+    (merge_accepted (record_at c) c.requires a.u a.v _ c.edge_code-apart.ensures c.if-apart-ne0.false a.k a.l (passed c.before))
 
 pub merged_at_spec : {M : Type 1} → statement M
 merged_at_spec =

@@ -6,11 +6,11 @@ use Rattle.pmn_opening.specs.AnswerLaws.{put_places, keep_places}
 use Rattle.pmn_opening.proofs.unchecked.places.put_one.Statement.{statement}
 use Rattle.pmn_opening.proofs.unchecked.places.put_one.Tie as tie
 
-returns : tie.Need-returns
-returns c = let a = c.before.args in (refl, put_places a.code (a.first ∷ []) a.answer.now c.if1.true c.before.requires)
+returns : tie.Need-returns-then-code-eq0
+returns c = let a = c.args in (refl, put_places a.code (a.first ∷ []) a.answer.now c.if-code-eq0.true c.requires)
 
-returns_2 : tie.Need-returns-2
-returns_2 c = let a = c.before.args in (refl, keep_places a.code (a.first ∷ []) a.answer.now c.if1.false)
+returns_2 : tie.Need-returns-else-code-eq0
+returns_2 c = let a = c.args in (refl, keep_places a.code (a.first ∷ []) a.answer.now c.if-code-eq0.false)
 
 pub put_one_spec : {M : Type 1} → statement M
 put_one_spec = tie.close (tie.spec (λ c. search rules) (λ c. search rules) returns returns_2)

@@ -8,20 +8,20 @@ use Rattle.pmn_opening.specs.AnswerLaws.{put_places, keep_places}
 use Rattle.pmn_opening.proofs.unchecked.places.put_three.Statement.{statement}
 use Rattle.pmn_opening.proofs.unchecked.places.put_three.Tie as tie
 
-slice_write_answer_2 : tie.Need-slice-write-answer-2
+slice_write_answer_2 : tie.Need-bounds-answer-1
 slice_write_answer_2 c = simp length-set (omega arith)
 
-slice_write_answer_3 : tie.Need-slice-write-answer-3
+slice_write_answer_3 : tie.Need-bounds-answer-2
 slice_write_answer_3 c = simp length-set (omega arith)
 
-same_length : tie.Need-same-length
+same_length : tie.Need-shape_of-answer
 same_length c = simp length-set
 
-returns : tie.Need-returns
-returns c = let a = c.before.args in (refl, put_places a.code (a.first ∷ a.second ∷ a.third ∷ []) a.answer.now c.if1.true c.before.requires)
+returns : tie.Need-returns-then-code-eq0
+returns c = let a = c.args in (refl, put_places a.code (a.first ∷ a.second ∷ a.third ∷ []) a.answer.now c.if-code-eq0.true c.requires)
 
-returns_2 : tie.Need-returns-2
-returns_2 c = let a = c.before.args in (refl, keep_places a.code (a.first ∷ a.second ∷ a.third ∷ []) a.answer.now c.if1.false)
+returns_2 : tie.Need-returns-else-code-eq0
+returns_2 c = let a = c.args in (refl, keep_places a.code (a.first ∷ a.second ∷ a.third ∷ []) a.answer.now c.if-code-eq0.false)
 
 pub put_three_spec : {M : Type 1} → statement M
 put_three_spec =
