@@ -23,7 +23,7 @@ unfolding driver_clear
 loop_again c = (omega arith, rw (c.loop-j.invariant.1, below_more))
 
 returns : tie.Need-returns invariant-loop decreases-loop
-returns c = let e : c.before.loop.j ≡ 16 = omega arith in rw e at c.loop-j.invariant.1
+returns c = let e : c.before.loop-j.j ≡ 16 = omega arith in rw e at c.loop-j.invariant.1
 
 pub drivers_clear_spec : {M : Type 1} → statement M
 drivers_clear_spec =

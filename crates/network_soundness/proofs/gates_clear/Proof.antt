@@ -27,7 +27,7 @@ loop_again c = (
 )
 
 returns : tie.Need-returns invariant-loop decreases-loop
-returns c = let e : c.before.loop.g ≡ 128 = omega arith in rw e at c.loop-g.invariant.1
+returns c = let e : c.before.loop-g.g ≡ 128 = omega arith in rw e at c.loop-g.invariant.1
 
 pub gates_clear_spec : {M : Type 1} → statement M
 gates_clear_spec =

@@ -22,7 +22,7 @@ loop_again : tie.Need-loop-p-preserved invariant-loop decreases-loop
 loop_again c = (omega arith, rw (c.loop-p.invariant.1, c.place_clear-ok.ensures, below_more))
 
 returns : tie.Need-returns invariant-loop decreases-loop
-returns c = let e : c.before.loop.p ≡ 2048 = omega arith in rw e at c.loop-p.invariant.1
+returns c = let e : c.before.loop-p.p ≡ 2048 = omega arith in rw e at c.loop-p.invariant.1
 
 pub places_clear_spec : {M : Type 1} → statement M
 places_clear_spec =

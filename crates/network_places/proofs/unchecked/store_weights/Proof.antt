@@ -28,7 +28,7 @@ loop_again c =
     (omega arith, pasted_more _ _ loop.invariant.1 (omega arith) (read_back w32 {r = get_or a.t3 loop.i (pos 0)} c.weights-1.given refl))
 
 returns : tie.Need-returns invariant-loop decreases-loop
-returns c = let full : c.before.loop.i ≡ 16 = omega arith in rw full at c.loop-i.invariant.1
+returns c = let full : c.before.loop-i.i ≡ 16 = omega arith in rw full at c.loop-i.invariant.1
 
 pub store_weights_spec : {M : Type 1} → statement M
 store_weights_spec =

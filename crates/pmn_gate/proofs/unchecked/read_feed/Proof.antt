@@ -28,7 +28,7 @@ signal_is c = let a = c.args in ap (λ (x : ℕ). leb a.low x && ltb x a.own) (s
 weight_is : (c : tie.After-get_int-weight) → 
     let a = c.args in
     to_z w32 (of_z w32 c.get_int-weight.result) ≡ int_at a.file.now (a.at + 1)
-weight_is c = to_z-of_z (record { sfits = c.get_int-weight.type_inv }) ∙ c.get_int-weight.ensures
+weight_is c = to_z-of_z {w = w32} (record { sfits = c.get_int-weight.type_inv }) ∙ c.get_int-weight.ensures
 
 returns : tie.Need-returns-then-file-at
 returns c = let a = c.args in record { says = sym (feed_end a.own a.low a.at a.file.now c.if-file-at.true); inside = omega arith }

@@ -25,7 +25,7 @@ use Rattle.pmn_gate.proofs.unchecked.read_gate.Tie as tie
 -- the threshold that was read
 threshold_is : (c : tie.After-get_int-threshold) → let a = c.args in
     to_z w32 (of_z w32 c.get_int-threshold.result) ≡ int_at a.file.now (a.at + 1)
-threshold_is c = to_z-of_z (record { sfits = c.get_int-threshold.type_inv }) ∙ c.get_int-threshold.ensures
+threshold_is c = to_z-of_z {w = w32} (record { sfits = c.get_int-threshold.type_inv }) ∙ c.get_int-threshold.ensures
 
 -- the whole gate, by what the test of its threshold says
 whole : (c : tie.After-in_scale) {b : Bool} → c.in_scale.result ≡ b → 

@@ -30,15 +30,15 @@ put_bytes_requires c κs = omega (arith, c.requires)
 sub_put_decimal : tie.Need-slice_bounds-put_decimal-count
 sub_put_decimal c = let done = c.before.before in omega (arith, room done, put_length done.put_bytes-at.ensures (room done))
 
-part_put_decimal_start : tie.Need-slice-bounds-put-decimal-start
-part_put_decimal_start c = let done = c.before.before in omega (arith, room done, put_length done.put-bytes.ensures (room done))
+part_put_decimal_start : tie.Need-slice_bounds-put_decimal-start
+part_put_decimal_start c = let done = c.before.before in omega (arith, room done, put_length done.put_bytes-at.ensures (room done))
 
 put_decimal_requires : tie.Need-put_decimal-requires
 put_decimal_requires c κs =
     let done = c.before.before.before in
     omega (
       arith,
-      tail_length done.put_bytes-at.result done.put_bytes-at.new.0,
+      tail_length done.put_bytes-at.result done.put_bytes-at.new.out,
       put_length done.put_bytes-at.ensures (room done),
       done.put_bytes-at.ensures.long,
       (start done).requires,
