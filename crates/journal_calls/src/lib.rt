@@ -102,8 +102,8 @@ pub fn compare(first: Record, second: Record, budget: u64) -> Compared
     if 64 < one {
         return compare_networks::unchecked::refusal(20);
     }
-    let other = second.journal.count;
-    if 64 < other {
+    let count = second.journal.count;
+    if 64 < count {
         return compare_networks::unchecked::refusal(20);
     }
     compare_networks::compare(first.network, second.network, budget)

@@ -60,7 +60,7 @@ places_negated : (fs : List Feed) (ds : List ℕ)
 unfolding places
 places_negated fs ds =
     ap (λ (ws : List ℤ). tab 16 (λ i. get_or ws i (pos 0))) (list_ext ds)
-    ∙ tab_same 16 _ _ (λ i h. ListN.get_d_map neg_ℤ (map (λ x. weight_of x fs) ds) i (pos 0))
+    ∙ tab_same 16 _ _ (λ i h. ListN.get_or-map neg_ℤ (map (λ x. weight_of x fs) ds) i (pos 0))
     ∙ sym (map_tab neg_ℤ 16 (λ i. get_or (map (λ x. weight_of x fs) ds) i (pos 0)))
   where
     list_ext : (xs : List ℕ) → map (λ x. weight_of x (map negated fs)) xs ≡ map neg_ℤ (map (λ x. weight_of x fs) xs)
@@ -131,7 +131,7 @@ pub gate_places_lem : (g : Gate) → gate_record g ≡ record {
 unfolding gate_record places signals_of
 gate_places_lem g =
     let s = tab_same 16 (λ i. (get_or g.feeds i no_feed).signal) (λ i. get_or (map (λ f. f.signal) g.feeds) i 0)
-    (λ i h. sym (ListN.get_d_map (λ f. f.signal) g.feeds i no_feed)) in
+    (λ i h. sym (ListN.get_or-map (λ f. f.signal) g.feeds i no_feed)) in
     let w = tab_same 16 (λ i. (get_or g.feeds i no_feed).weight) (λ i. get_or (map (λ f. f.weight) g.feeds) i (pos 0))
-    (λ i h. sym (ListN.get_d_map (λ f. f.weight) g.feeds i no_feed)) in
+    (λ i h. sym (ListN.get_or-map (λ f. f.weight) g.feeds i no_feed)) in
     λ j. record { fanin = length g.feeds; threshold = g.threshold; signals = s j; weights = w j }

@@ -84,7 +84,7 @@ module _ (c : tie.After-drivers_clear) where
 returns_3 : tie.Need-returns-then-not-gates_ok-outputs_ok
 returns_3 c =
     let d = c.before in
-    sym (rw (sound_parts (given d), boarded (at_else.before.before d).before.before, counted (at_else d), sym (tested d) ∙ not-true _ c.if-not-gates_ok-outputs_ok.true-raw))
+    sym (rw (sound_parts (given d), boarded (at_else d).before.before, counted (at_else d), sym (tested d) ∙ not-true _ c.if-not-gates_ok-outputs_ok.true-raw))
 
 -- past the third they are sound
 parted : (c : tie.Else-not-gates_ok-outputs_ok) → parts (given c.before) ≡ true
@@ -103,7 +103,7 @@ returns_4 : tie.Need-returns
 returns_4 c =
     let e = c.before.before.before.before in
     let d = c.before.before.before.before.before in
-    c.gates_keep.ensures ∙ sym (rw (sound_parts (given d), boarded (at_else.before.before d).before.before, counted (at_else d), parted e))
+    c.gates_keep.ensures ∙ sym (rw (sound_parts (given d), boarded (at_else d).before.before, counted (at_else d), parted e))
 
 pub is_sound_spec : {M : Type 1} → statement M
 is_sound_spec =

@@ -41,7 +41,7 @@ module _ (c : tie.After-forced_bit-own) where
   ends = c.ends_of-ends.ensures
 
   threshold_is : to_z w32 (of_z w32 threshold) ≡ threshold
-  threshold_is = to_z-of_z (record { sfits = c.threshold-1.given })
+  threshold_is = to_z-of_z {w = w32} (record { sfits = c.threshold-1.given })
 
   abbrev lowest : ℤ
   lowest = to_z w32 (of_z w32 c.ends_of-ends.result.least)
@@ -106,7 +106,7 @@ settle_feeds_requires c κs =
 settled_feeds : (c : tie.After-settle_feeds) (code : ℕ) → code ≢ 2
     → let h = f c.before.before.before.before in
     let last = c.settle_feeds.new in
-    Propagated (FitsRows (wires h) (weights h) (s h).args.signal) (bits h) (rests h) last.1.1.0 last.1.1.1.0 code 0
+    Propagated (FitsRows (wires h) (weights h) (s h).args.signal) (bits h) (rests h) last.rests.1.0 last.1.1.1.0 code 0
 settled_feeds c code d =
     let r = c.before.before.before.before in
     let h = f r in

@@ -72,7 +72,7 @@ module _ (c : tie.After-reason-down invariant-loop decreases-loop) where
   signal_is = c.signal_index-signal.ensures
 
   w_is : to_z w32 (of_z w32 w) ≡ w
-  w_is = to_z-of_z (record { sfits = c.weight-1.given })
+  w_is = to_z-of_z {w = w32} (record { sfits = c.weight-1.given })
 
   lowest_is : to_z w32 (of_z w32 c.least_share-low.result) ≡ lowest place
   lowest_is = let r = c.least_share-low in

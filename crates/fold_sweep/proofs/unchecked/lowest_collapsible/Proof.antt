@@ -95,7 +95,7 @@ count_readers_requires : tie.Need-count_readers-readers-requires invariant-loop 
 count_readers_requires c κs = lent_counted (lent_of _ (T_is (sound_record _) (turn_of c.before).requires.0))
 
 is_output_requires : tie.Need-is_output-requires invariant-loop decreases-loop
-is_output_requires c κs = (sizes (turn_of.before c.before.before).before).few_outputs
+is_output_requires c κs = (sizes (turn_of c.before.before).before.before).few_outputs
 
 add_g_2 : tie.Need-overflow_step-g-then-b-readers invariant-loop decreases-loop
 add_g_2 c = omega (arith, under (tested c.before))
@@ -152,7 +152,7 @@ refuser c =
     (c.hinted_pairs-pairs.ensures.refuses c.if-code-eq0.false)
 
 cast_last : tie.Need-overflow_cast-last invariant-loop decreases-loop
-cast_last c = omega (arith, (c.hinted_pairs-pairs.ensures.refuses c.if-code-eq0.false).within, (sizes (turn.before c).before).few_gates)
+cast_last c = omega (arith, (c.hinted_pairs-pairs.ensures.refuses c.if-code-eq0.false).within, (sizes (turn c).before.before).few_gates)
 
 element_write_hints : tie.Need-bounds-hints-g-in-loop-g invariant-loop decreases-loop
 element_write_hints c = under (turn c)

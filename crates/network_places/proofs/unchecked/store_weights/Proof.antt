@@ -25,7 +25,7 @@ loop_again : tie.Need-loop-i-preserved invariant-loop decreases-loop
 loop_again c =
     let a = c.args in
     let loop = c.loop-i in
-    (omega arith, pasted_more _ _ loop.invariant.1 (omega arith) (read_back w32 {r = get_or a.t3 loop.i (pos 0)} c.weights-1.given refl))
+    (omega arith, pasted_more _ _ loop.invariant.1 (omega arith) (read_back w32 {r = get_or a.row loop.i (pos 0)} c.weights-1.given refl))
 
 returns : tie.Need-returns invariant-loop decreases-loop
 returns c = let full : c.before.loop-i.i ≡ 16 = omega arith in rw full at c.loop-i.invariant.1

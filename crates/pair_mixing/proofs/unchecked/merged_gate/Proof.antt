@@ -35,7 +35,7 @@ fanin_low : (c : tie.In-loop-i invariant-loop decreases-loop) → c.loop-i.fanin
 fanin_low c =
     let a = c.args in
     let l = c.loop-i in
-    omega (arith, i_low c, combined_few a.t1 a.k a.l l.i l.fanin l.signals l.weights l.invariant.1)
+    omega (arith, i_low c, combined_few a.a a.k a.l l.i l.fanin l.signals l.weights l.invariant.1)
 
 -- the two weights at i, as the machine reads them back
 module _ (c : tie.In-loop-i invariant-loop decreases-loop) where
@@ -62,7 +62,7 @@ module _ (c : tie.In-loop-i invariant-loop decreases-loop) where
 
 -- and their mix
 w_is : (c : tie.After-mixed-w invariant-loop decreases-loop) → let d = c.before.before.before in let a = (start d).args in
-    to_z w32 (of_z w32 c.mixed-w.result) ≡ mixed_weight (aligned_in a.t1) a.k a.l (i d)
+    to_z w32 (of_z w32 c.mixed-w.result) ≡ mixed_weight (aligned_in a.a) a.k a.l (i d)
 w_is c =
     let d = c.before.before.before in
     let a = (start d).args in
@@ -141,7 +141,7 @@ returns c =
     let s = c.before.before.before.before.before.before in
     let a = s.args in
     let l = c.loop-i in
-    let end : l.i ≡ a.t1.count = omega (arith, l.invariant.0, c.loop-i-test.false) in
+    let end : l.i ≡ a.a.count = omega (arith, l.invariant.0, c.loop-i-test.false) in
     let t = read_back w32 c.mixed-threshold.type_inv (rw (own_is s, on_is s) at c.mixed-threshold.ensures) in
     (λ j. record { fanin = l.fanin; threshold = t j; signals = l.signals; weights = l.weights })
     ∙ combined_all a.t1 a.k a.l l.fanin l.signals l.weights (rw end at l.invariant.1)

@@ -26,17 +26,15 @@ returns : tie.Need-returns-in-Bad invariant-loop decreases-loop
 returns c =
     let l = c.loop-i in
     let a = c.args in
-    let g = c.f-1.given in
-    let f = subst (FeedAnswered a.own l.low l.at a.file.now) g.1 c.read_feed-f.ensures in
-    seen_refused g.0.0 f.inside c.no_gate.ensures (feeds_bad l.invariant (omega arith) f)
+    let f = subst (FeedAnswered a.own l.low l.at a.file.now) c.in-Bad.is c.read_feed-f.ensures in
+    seen_refused c.in-Bad.code f.inside c.no_gate.ensures (feeds_bad l.invariant (omega arith) f)
 
 loop_again : tie.Need-loop-i-preserved invariant-loop decreases-loop
 loop_again c =
     let l = c.loop-i in
     let a = c.args in
-    let g = c.f-in-Got-1.given in
-    let f = subst (FeedAnswered a.own l.low l.at a.file.now) g.1 c.read_feed-f.ensures in
-    let weight_is = to_z-of_z {w = w32} {z = g.0.1.0} (record { sfits = c.known_told-in-Got-1.given.1.0.1 }) in
+    let f = subst (FeedAnswered a.own l.low l.at a.file.now) c.in-Got.is c.read_feed-f.ensures in
+    let weight_is = to_z-of_z {w = w32} {z = c.in-Got.weight} c.in-Got.ranges.weight in
     feeds_got l.invariant (omega arith) (omega arith) f weight_is (omega arith)
 
 returns_2 : tie.Need-returns invariant-loop decreases-loop

@@ -21,7 +21,7 @@ shared_slice_read_wide c = omega (arith, within c.before)
 add_end_2 : tie.Need-overflow_add-end-2
 add_end_2 c = omega (arith, within c.before.before)
 
-part_result_end : tie.Need-slice-bounds-result-end
+part_result_end : tie.Need-slice_bounds-result-end
 part_result_end c = omega (arith, within c.before.before)
 
 returns : tie.Need-returns
