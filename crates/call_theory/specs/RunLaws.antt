@@ -212,3 +212,4 @@ reply_ran q (Drop u) g n e = plain_ran q (Drop u) (drop_gate q.net u) g (λ M h.
 reply_ran q (Collapse u) g n e = plain_ran q (Collapse u) (collapse q.net u) g (collapse_run q.net u) e
 reply_ran q (Sweep B) g n e = swept_ran q B g e
 reply_ran q (Preview u) g n e = shown_ran q u g e
+reply_ran q Undo g n e = elim n [ ]

@@ -44,13 +44,14 @@ returns_2 : tie.Need-returns
 unfolding as_sheet_line
 returns_2 c =
     let done = c.before.before.before.before.before.before.before in
-    let a = c.args in
+    let start = c.before.before.before.before.before.before.before.before.before.before in
+    let a = start.args in
     let out = a.out.now in
     let long = done.put_total-length.ensures.0.long in
     let put = put_text c.put_bytes.ensures (text_is done) in
     let gives = total_given a.totals out (omega (arith, long, c.if-out-length.false)) in (
       ap (λ (n : ℕ). record { code = 0; length = n }) (sym long) ∙ gives.0,
-      put.bytes ∙ ap (λ (n : ℕ). text_in c ++ drop n out) (sym put.long) ∙ gives.1,
+      put.bytes ∙ ap (λ (n : ℕ). text_in start ++ drop n out) (sym put.long) ∙ gives.1,
     )
 
 pub total_line_spec : {M : Type 1} → statement M

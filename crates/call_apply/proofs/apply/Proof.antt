@@ -22,11 +22,7 @@ returns c =
 -- past the first test, from where the arrays are lent
 abbrev at_else : tie.After-step_weights-2-1 → tie.Else-not-is_sound
 at_else c =
-    let at_drivers_lent = c.before.before.before.before.before.before in
-    let at_copied = at_drivers_lent.before.before.before.before.before in
-    let at_drivers = at_copied.before.before.before.before.before.before in
-    let at_board = at_drivers.before.before.before.before.before in
-    at_board.before.before.before
+    c.before.before.before.before.before.before.before.before.before.before.before.before.before.before.before.before.before.before.before.before.before.before.before.before.before
 
 apply_in_requires : tie.Need-apply_in-left-requires
 apply_in_requires c κs =

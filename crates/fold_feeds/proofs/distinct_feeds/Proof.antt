@@ -38,7 +38,7 @@ returns_2 c =
 
 -- past the second test u feeds v
 abbrev sound : tie.Else-apart-ne0 → tie.Else-not-is_sound
-sound c = let at_code = c.before in at_code.before.before.before.before.before.before
+sound c = c.before.before.before.before.before.before
 
 joined : (c : tie.Else-apart-ne0) → let a = (sound c).args in
     GateReads a.t1.fanins a.t1.thresholds a.t1.signals a.t1.weights a.t1.inputs a.t1.gates a.u a.v
@@ -53,8 +53,9 @@ aligned_at_requires c κs =
 
 returns_3 : tie.Need-returns
 returns_3 c =
-    let a = (sound c).args in
-    feeds_joined a.t1 (tested (sound c)) a.u a.v _ c.edge_code-apart.ensures c.if-apart-ne0.false
+    let t = c.before.before.before.before.before.before.before in
+    let a = (sound t).args in
+    feeds_joined a.t1 (tested (sound t)) a.u a.v _ t.edge_code-apart.ensures t.if-apart-ne0.false
     (c.listed.ensures ∙ ap feeds_of_alignment c.aligned_at-a.ensures)
 
 pub distinct_feeds_spec : {M : Type 1} → statement M

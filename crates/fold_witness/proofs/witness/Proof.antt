@@ -44,7 +44,7 @@ returns_2 c =
 
 -- past the second test u feeds v
 abbrev sound : tie.Else-apart-ne0 → tie.Else-not-is_sound
-sound c = let at_code = c.before in at_code.before.before.before.before.before.before
+sound c = c.before.before.before.before.before.before
 
 joined : (c : tie.Else-apart-ne0) → let a = (sound c).args in
     GateReads a.t1.fanins a.t1.thresholds a.t1.signals a.t1.weights a.t1.inputs a.t1.gates a.u a.v

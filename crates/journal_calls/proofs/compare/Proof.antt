@@ -14,20 +14,20 @@ returns c =
     let a = c.args in
     rw (tested_many a.first (tested a.second (compare_answer a.first.network a.second.network)) c.if-one-gt64.true) c.refusal.ensures
 
-returns_2 : tie.Need-returns-then-other-gt64
+returns_2 : tie.Need-returns-then-count-gt64
 unfolding compared_on
 returns_2 c =
     let a = c.args in
     let given = compare_answer a.first.network a.second.network in
-    let e = tested_few a.first (tested a.second given) c.if-one-gt64.false ∙ tested_many a.second given c.if-other-gt64.true in
-    rw e c.refusal-then-other-gt64.ensures
+    let e = tested_few a.first (tested a.second given) c.if-one-gt64.false ∙ tested_many a.second given c.if-count-gt64.true in
+    rw e c.refusal-then-count-gt64.ensures
 
 returns_3 : tie.Need-returns
 unfolding compared_on
 returns_3 c =
     let a = c.args in
     let given = compare_answer a.first.network a.second.network in
-    let e = tested_few a.first (tested a.second given) c.if-one-gt64.false ∙ tested_few a.second given c.if-other-gt64.false in
+    let e = tested_few a.first (tested a.second given) c.if-one-gt64.false ∙ tested_few a.second given c.if-count-gt64.false in
     rw e c.compare.ensures
 
 pub compare_spec : {M : Type 1} → statement M

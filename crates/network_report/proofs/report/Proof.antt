@@ -24,7 +24,7 @@ size_of_requires : tie.Need-size_of-requires
 size_of_requires c κs = tested c
 
 returns_2 : tie.Need-returns
-returns_2 c = c.type_size.ensures
+returns_2 c = c.size_of.ensures
 
 pub report_spec : {M : Type 1} → statement M
 report_spec = tie.close (tie.spec (λ c κs. search rules) returns size_of_requires returns_2)

@@ -52,13 +52,14 @@ put_bytes_requires c κs = let done = c.before.before.before.before in
 returns_2 : tie.Need-returns
 returns_2 c =
     let done = c.before.before.before.before.before.before.before in
-    let a = c.args in
+    let start = c.before.before.before.before.before.before.before.before.before.before in
+    let a = start.args in
     let out = a.out.now in
-    let text = text_of c in
+    let text = text_of start in
     let long = done.put_question-length.ensures.long in
     let put = put_text c.put_bytes.ensures (text_is done) in
     let gives = accepted_gives text out
-    (given a.first a.second a.n (length out) c.requires (omega (arith, long, c.if-out-length.false))) in (
+    (given a.first a.second a.n (length out) start.requires (omega (arith, long, c.if-out-length.false))) in (
       ap (λ (n : ℕ). record { code = 0; length = n }) (sym long) ∙ gives.0,
       put.bytes ∙ ap (λ (n : ℕ). text ++ drop n out) (sym put.long) ∙ gives.1,
     )

@@ -15,7 +15,7 @@ use Rattle.three_feeds.proofs.number.Tie as tie
 
 -- the number read
 abbrev read : tie.After-result-1 → ℤ
-read c = let a = c.before.before.args in get_or a.numbers.now (4 * c.before.wide.result + a.place) (pos 0)
+read c = let a = c.args in get_or a.numbers.now (4 * c.wide.result + a.place) (pos 0)
 
 small : (c : tie.After-result-1) → SFits w8 (read c)
 small c = record { sfits = c.result-1.given }

@@ -15,7 +15,7 @@ use Rattle.three_feeds_part.proofs.put_in.Tie as tie
 
 -- the gate
 abbrev gate_of : tie.After-gate_on-gate → Gate
-gate_of c = let a = c.before.before.args in gate_on_signals a.i a.j a.k a.a a.b a.c a.threshold
+gate_of c = let a = c.args in gate_on_signals a.i a.j a.k a.a a.b a.c a.threshold
 
 made : (c : tie.After-gate_on-gate) → gate_in c.gate_on-gate.result ≡ gate_of c
 made c =

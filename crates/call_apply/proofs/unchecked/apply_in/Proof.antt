@@ -30,26 +30,22 @@ at_merge c =
 
 abbrev at_drop : tie.After-drop_in-arg-in-Drop-10-1 → tie.In-Drop-2
 at_drop c =
-    let at_drivers = c.before.before.before.before.before.before in
-    at_drivers.before.before.before.before.before.before
+    c.before.before.before.before.before.before.before.before.before.before.before.before
 
 abbrev at_collapse : tie.After-collapse_in-arg-in-Collapse-10-1 → tie.In-Collapse-2
 at_collapse c =
-    let at_drivers = c.before.before.before.before.before.before in
-    at_drivers.before.before.before.before.before.before
+    c.before.before.before.before.before.before.before.before.before.before.before.before
 
 abbrev at_sweep : tie.After-sweep_in-arg-in-Sweep-10-1 → tie.In-Sweep-2
 at_sweep c =
-    let at_drivers = c.before.before.before.before.before.before in
-    at_drivers.before.before.before.before.before.before
+    c.before.before.before.before.before.before.before.before.before.before.before.before
 
 abbrev at_preview : tie.After-preview-in-arg5 → tie.In-Preview-2
 at_preview c = c.before.before.before.before.before.before
 
 abbrev at_undo : tie.After-undo_in-arg-in-Undo-10-1 → tie.In-Undo
 at_undo c =
-    let at_drivers = c.before.before.before.before.before.before in
-    at_drivers.before.before.before.before.before
+    c.before.before.before.before.before.before.before.before.before.before.before
 
 merge_in_requires : tie.Need-merge_in-requires
 merge_in_requires c κs = (at_merge c).requires

@@ -20,10 +20,10 @@ held c = let a = c.args in record_parts a.head a.fanins.now a.thresholds.now a.s
 
 -- the start, and the test before the collapse
 abbrev start_of : tie.After-collapse_pairs-pairs → tie.Start
-start_of c = c.before.before.before.before.before.before
+start_of c = c.before
 
 abbrev else_of : tie.After-collapse_entered-arg-11-1 → tie.Else-code-ne0
-else_of c = let network_lent = c.before.before.before.before.before.before in network_lent.before.before.before.before.before
+else_of c = c.before.before.before.before.before.before.before.before.before.before.before
 
 -- past the test the readers have their pairs
 folds : (c : tie.Else-code-ne0) → let s = start_of c.before in CollapsesBy (held s).network s.args.s c.collapse_pairs-pairs.result
@@ -34,13 +34,14 @@ number : (c : tie.Else-code-ne0) → let a = (start_of c.before).args in
 number c = let s = start_of c.before in gate_number (held s).network s.args.s (folds c).own
 
 collapse_pairs_requires : tie.Need-collapse_pairs-pairs-requires
-collapse_pairs_requires c κs = whole_network (held c) c.requires.whole
+collapse_pairs_requires c κs = let s = c in whole_network (held s) s.requires.whole
 
 returns : tie.Need-returns-then-code-ne0
 returns c =
-    let s = start_of c in
+    let tried = c.before.before in
+    let s = start_of tried in
     refused_parts s.args.head c.call_left.ensures
-    ∙ collapse_refused (held s) s.requires.whole s.args.s _ (c.collapse_pairs-pairs.ensures.refuses c.if-code-ne0.true)
+    ∙ collapse_refused (held s) s.requires.whole s.args.s _ (tried.collapse_pairs-pairs.ensures.refuses c.if-code-ne0.true)
 
 collapse_entered_requires : tie.Need-collapse_entered-steps-requires
 collapse_entered_requires c κs = let else = else_of c in ((start_of else.before).requires.lengths, folds else)
@@ -50,7 +51,7 @@ sub_call_left c = omega (arith, number (else_of c.before.before))
 
 returns_2 : tie.Need-returns
 returns_2 c =
-    let else = else_of c.before in
+    let else = else_of c.before.before.before in
     let s = start_of else.before in
     let done = c.collapse_entered-steps.ensures in
     answered_parts s.args.head c.call_left-2.ensures done.network_is done.journal_is

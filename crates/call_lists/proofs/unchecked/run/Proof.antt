@@ -34,14 +34,12 @@ decreases-loop numbers board inputs outputs
 -- the start, from where the network is copied
 abbrev start_of : tie.After-drivers-1 invariant-loop decreases-loop → tie.Start invariant-loop decreases-loop
 start_of c =
-    let at_board = c.before.before.before.before.before in
-    at_board.before.before
+    c.before.before.before.before.before.before.before
 
 -- the turn, from where the arrays are lent
 abbrev turn_of : tie.After-step_weights-1 invariant-loop decreases-loop → tie.In-loop-i invariant-loop decreases-loop
 turn_of c =
-    let at_drivers = c.before.before.before.before.before.before in
-    at_drivers.before.before.before.before.before
+    c.before.before.before.before.before.before.before.before.before.before.before
 
 -- the list's length is a machine number
 few : (c : tie.Start invariant-loop decreases-loop) → length c.args.numbers.now < 18446744073709551616
@@ -71,7 +69,7 @@ loop_again c =
 returns : tie.Need-returns invariant-loop decreases-loop
 unfolding just_read empty_journal
 returns c =
-    let s = start_of c.before in
+    let s = start_of c.before.before in
     let ns = s.args.numbers.now in
     reached_end _ ns c.loop-i.i c.loop-i.invariant.1 s.requires.1 c.loop-i-test.false
     ∙ ap (λ (q : State). layout (calls q (calls_in ns)).net) (began_state s.args.network s.requires.0 refl)

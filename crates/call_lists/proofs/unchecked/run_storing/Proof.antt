@@ -39,14 +39,12 @@ decreases-loop numbers answers₀ board inputs outputs
 -- the start, from where the network is copied
 abbrev start_of : tie.After-drivers-1 invariant-loop decreases-loop → tie.Start invariant-loop decreases-loop
 start_of c =
-    let at_board = c.before.before.before.before.before in
-    at_board.before.before.before
+    c.before.before.before.before.before.before.before.before
 
 -- the turn, from where the arrays are lent
 abbrev turn_of : tie.After-step_weights-1 invariant-loop decreases-loop → tie.In-loop-i invariant-loop decreases-loop
 turn_of c =
-    let at_drivers = c.before.before.before.before.before.before in
-    at_drivers.before.before.before.before.before
+    c.before.before.before.before.before.before.before.before.before.before.before
 
 -- call i and its four places are there
 bounds : (c : tie.In-loop-i invariant-loop decreases-loop) → let a = (start_of c.before.before).args in
@@ -99,7 +97,7 @@ same_length c = c.loop-i.invariant.2.long
 returns : tie.Need-returns invariant-loop decreases-loop
 unfolding just_read empty_journal
 returns c =
-    let s = start_of c.before in
+    let s = start_of c.before.before in
     let ns = s.args.numbers.now in
     let lent = s.args.answers.now in
     let l = c.loop-i in

@@ -17,8 +17,7 @@ held c = let a = c.args in record_parts a.head a.fanins.now a.thresholds.now a.s
 -- where the call is known, from where the arrays are lent
 abbrev at_call : tie.After-apply_in-arg-11-1 → tie.After-call_at-call
 at_call c =
-    let at_drivers = c.before.before.before.before.before.before in
-    at_drivers.before.before.before.before.before
+    c.before.before.before.before.before.before.before.before.before.before.before
 
 apply_in_requires : tie.Need-apply_in-requires
 apply_in_requires c κs =

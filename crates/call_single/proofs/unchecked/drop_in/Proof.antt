@@ -35,7 +35,7 @@ few_inputs c = (sized_of (held c).network (network_sound c)).few_inputs
 
 -- the start, and the test before the step is entered
 abbrev start_of : tie.After-drop_code-code → tie.Start
-start_of c = c.before.before.before.before.before.before
+start_of c = c.before
 
 abbrev else_of : tie.After-enter-gate-arg10 → tie.Else-code-ne0
 else_of c =
@@ -55,9 +55,10 @@ drop_code_requires c κs = network_sound c
 
 returns : tie.Need-returns-then-code-ne0
 returns c =
-    let s = start_of c in
+    let tried = c.before.before in
+    let s = start_of tried in
     refused_parts s.args.head c.call_left.ensures
-    ∙ drop_refused (held s) s.requires.whole s.args.s _ (c.drop_code-code.ensures.refuses c.if-code-ne0.true)
+    ∙ drop_refused (held s) s.requires.whole s.args.s _ (tried.drop_code-code.ensures.refuses c.if-code-ne0.true)
 
 sub_g : tie.Need-overflow_sub-g
 sub_g c = omega (arith, number c.before)

@@ -35,7 +35,7 @@ few_inputs c = (sized_of (held c).network (network_sound c)).few_inputs
 
 -- the start, and the test before the step is entered
 abbrev start_of : tie.Else-code-ne0 → tie.Start
-start_of c = c.before.before.before.before.before.before
+start_of c = c.before.before
 
 abbrev else_of : tie.After-enter-gate-arg10 → tie.Else-code-ne0
 else_of c =
@@ -55,9 +55,10 @@ merged_at_requires c κs = network_sound c
 
 returns : tie.Need-returns-then-code-ne0
 returns c =
-    let a = c.args in
+    let s = c.before.before.before in
+    let a = s.args in
     refused_parts a.head c.call_left.ensures
-    ∙ merge_refused (held c) c.requires.whole a.u a.v a.k a.l _ (c.merged_at-merged.ensures.refuses c.if-code-ne0.true)
+    ∙ merge_refused (held s) s.requires.whole a.u a.v a.k a.l _ (c.merged_at-merged.ensures.refuses c.if-code-ne0.true)
 
 sub_g : tie.Need-overflow_sub-g
 sub_g c = omega (arith, number c.before)

@@ -48,8 +48,9 @@ enter_gate_requires c κs = omega (arith, number (start_of c.before))
 
 returns : tie.Need-returns
 returns c =
-    let s = start_of c in
-    let merges = (at_readers c).enter_readers-merges in
+    let lent = c.before.before.before in
+    let s = start_of lent in
+    let merges = (at_readers lent).enter_readers-merges in
     let a = s.args in
     let n = record_at s in
     let has = has_of (net_of n) a.u (T_is (is_gate (net_of n) a.u) s.requires.gate) in

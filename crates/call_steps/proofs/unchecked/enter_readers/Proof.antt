@@ -55,10 +55,11 @@ loop_less c = omega (arith, c.loop-g-test.true)
 
 loop_again : tie.Need-loop-g-preserved-then-not-reads_gate invariant-loop decreases-loop
 loop_again c =
-    let a = c.args in
+    let s = c.before.before.before.before in
+    let a = s.args in
     let silent = sym (c.reads_gate.ensures a.thresholds.now a.weights.now) ∙ not-true _ c.if-not-reads_gate.true-raw in (
       omega (arith, c.loop-g-test.true),
-      left_silent (record_at c) a.u c.loop-g.g c.loop-g.invariant.1 c.loop-g-test.true silent,
+      left_silent (record_at s) a.u c.loop-g.g c.loop-g.invariant.1 c.loop-g-test.true silent,
     )
 
 add_signal : tie.Need-overflow_add-signal invariant-loop decreases-loop
@@ -66,7 +67,7 @@ add_signal c = let z = sizes c.before.before.before.before in omega (arith, z.fe
 
 -- the turn in which a gate is entered, and its test
 abbrev else_of : tie.After-enter_gate-arg-in-loop-g-5-1 invariant-loop decreases-loop → tie.Else-not-reads_gate invariant-loop decreases-loop
-else_of c = let known = c.before.before.before.before.before.before in known.before
+else_of c = c.before.before.before.before.before.before.before
 
 abbrev turn_of : tie.After-enter_gate-arg-in-loop-g-5-1 invariant-loop decreases-loop → tie.In-loop-g invariant-loop decreases-loop
 turn_of c = (else_of c).before.before
@@ -100,7 +101,8 @@ loop_again_2 c =
 
 returns : tie.Need-returns invariant-loop decreases-loop
 returns c =
-    left_end (record_at c) c.args.u c.loop-g.g c.loop-g.invariant.1 (omega (arith, c.loop-g-test.false))
+    let s = c.before.before in
+    left_end (record_at s) s.args.u c.loop-g.g c.loop-g.invariant.1 (omega (arith, c.loop-g-test.false))
 
 pub enter_readers_spec : {M : Type 1} → statement M
 enter_readers_spec =

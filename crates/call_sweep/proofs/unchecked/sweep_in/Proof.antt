@@ -42,14 +42,14 @@ held c = let a = c.args in record_parts a.head a.fanins.now a.thresholds.now a.s
 
 -- the record that is reached, and with any head
 abbrev reached_with : tie.At-loop-collapses invariant-loop decreases-loop → Head → Network
-reached_with c head = from_parts head c.loop.fanins c.loop.thresholds c.loop.signals c.loop.weights c.loop.drivers
+reached_with c head = from_parts head c.loop-collapses.fanins c.loop-collapses.thresholds c.loop-collapses.signals c.loop-collapses.weights c.loop-collapses.drivers
 
 abbrev reached : tie.At-loop-collapses invariant-loop decreases-loop → Network
-reached c = reached_with c (counting c.before.before.args.head c.loop.gates)
+reached c = reached_with c (counting c.args.head c.loop-collapses.gates)
 
 -- the record with its count of gates made, the loop, and the test before a collapse
 abbrev made_of : tie.After-lowest_collapsible-choice invariant-loop decreases-loop → tie.After-with_gates-here invariant-loop decreases-loop
-made_of c = let network_lent = c.before.before.before in network_lent.before.before.before.before.before
+made_of c = c.before.before.before
 
 abbrev turn_of : tie.After-lowest_collapsible-choice invariant-loop decreases-loop → tie.In-loop-collapses invariant-loop decreases-loop
 turn_of c = (made_of c).before
@@ -59,9 +59,7 @@ loop_of c = (turn_of c).before.before
 
 abbrev else_of : tie.After-collapse_entered-arg-in-loop-collapses-10-1 invariant-loop decreases-loop → tie.Else-not-found invariant-loop decreases-loop
 else_of c =
-    let network_lent = c.before.before.before.before.before.before in
-    let pairs = network_lent.before.before.before.before.before in
-    pairs.before
+    c.before.before.before.before.before.before.before.before.before.before.before.before
 
 -- what was found is the next gate, or there is none
 chosen : (c : tie.After-lowest_collapsible-choice invariant-loop decreases-loop) → let at = loop_of c in
@@ -74,11 +72,13 @@ next c = (chosen c.before).next (not-false _ c.if-not-found.false-raw)
 
 returns : tie.Need-returns-then-b-gt128 invariant-loop decreases-loop
 returns c =
-    refused_parts c.args.head c.call_left.ensures ∙ sweep_off (held c) c.requires.whole c.args.b c.if-b-gt128.true
+    let s = c.before.before in
+    refused_parts s.args.head c.call_left.ensures ∙ sweep_off (held s) s.requires.whole s.args.b c.if-b-gt128.true
 
 loop_holds : tie.Need-loop-collapses-init invariant-loop decreases-loop
 loop_holds c =
-    reached_none (held c) c.args.b _ (whole_network (held c) c.requires.whole) (shaped_parts c.args.head c.requires.lengths)
+    let s = c.before in
+    reached_none (held s) s.args.b _ (whole_network (held s) s.requires.whole) (shaped_parts s.args.head s.requires.lengths)
 
 lowest_collapsible_requires : tie.Need-lowest_collapsible-choice-requires invariant-loop decreases-loop
 lowest_collapsible_requires c κs =
@@ -127,9 +127,10 @@ loop_again c =
 
 returns_3 : tie.Need-returns invariant-loop decreases-loop
 returns_3 c =
-    answered_parts c.args.head c.call_left-2.ensures refl refl
+    let s = c.before.before.before.before.before in
+    answered_parts s.args.head c.call_left-2.ensures refl refl
     ∙ reached_last c.loop-collapses.invariant c.loop-collapses-test.false
-    ∙ sweep_done (held c) c.requires.whole c.args.b c.if-b-gt128.false
+    ∙ sweep_done (held s) s.requires.whole s.args.b c.if-b-gt128.false
 
 pub sweep_in_spec : {M : Type 1} → statement M
 sweep_in_spec =

@@ -24,13 +24,13 @@ held c = let a = c.args in record_parts a.head a.fanins.now a.thresholds.now a.s
 returns : tie.Need-returns-then-count-eq0
 unfolding no_figures
 returns c =
-    refused_parts c.args.head c.call_left.ensures ∙ sym (undone_empty (held c) c.requires.whole c.if-count-eq0.true)
+    let s = c.before.before in
+    refused_parts s.args.head c.call_left.ensures ∙ sym (undone_empty (held s) s.requires.whole c.if-count-eq0.true)
 
 -- past the first test, from where the arrays are copied
 abbrev at_else : tie.After-journal-6-1 → tie.Else-count-eq0
 at_else c =
-    let at_network = c.before.before.before.before.before.before in
-    at_network.before.before.before.before.before.before
+    c.before.before.before.before.before.before.before.before.before.before.before.before
 
 restored_requires : tie.Need-restored-back-requires
 restored_requires c κs = let s = (at_else c).before in whole_network (held s) s.requires.whole
@@ -38,7 +38,7 @@ restored_requires c κs = let s = (at_else c).before in whole_network (held s) s
 returns_2 : tie.Need-returns-then-not-ok
 unfolding no_figures
 returns_2 c =
-    let else = at_else c.before in
+    let else = at_else c.before.before.before in
     let s = else.before in
     let stuck = sym (back_ok (held s).network _) ∙ sym (ap (λ (b : Back). b.ok) c.restored-back.ensures) ∙ not-true _ c.if-not-ok.true-raw in
     refused_parts s.args.head c.call_left-then-not-ok.ensures ∙ sym (undone_stuck (held s) s.requires.whole (omega (arith, else.if1.left)) stuck)
@@ -46,7 +46,7 @@ returns_2 c =
 returns_3 : tie.Need-returns
 unfolding no_figures
 returns_3 c =
-    let else = at_else c.before in
+    let else = at_else c.before.before.before.before.before.before.before.before.before.before.before.before.before.before.before.before in
     let s = else.before in
     let a = s.args in
     let back = c.restored-back.ensures in

@@ -26,8 +26,9 @@ gate_row_requires c κs =
 
 loop_again : tie.Need-loop-g-preserved invariant-loop decreases-loop
 loop_again c =
-    let put = lanes_put (c.args.inputs + c.loop-g.g) c.loop-g.invariant.1.masked (omega arith) c.gate_row-row.ensures in
-    (omega arith, left_next (J c) c.loop-g.invariant.1 (omega arith) put)
+    let s = c.before.before.before in
+    let put = lanes_put (s.args.inputs + c.loop-g.g) c.loop-g.invariant.1.masked (omega arith) c.gate_row-row.ensures in
+    (omega arith, left_next (J s) c.loop-g.invariant.1 (omega arith) put)
 
 returns : tie.Need-returns invariant-loop decreases-loop
 returns c = left_all (J c.before.before) c.loop-g.invariant.1 (omega arith)

@@ -39,13 +39,13 @@ add_gates c = record { fits = omega (arith, (first_sized c).few_gates, (second_s
 
 -- ---- the joint
 abbrev at_weights : tie.After-weights-1 → tie.Else-not-same_counts
-at_weights c = c.before.before.before.before.before.before.before
+at_weights c = c.before.before.before.before.before.before
 
 abbrev at_lay : tie.After-lay → tie.Else-not-same_counts
 at_lay c = at_weights c.before
 
 abbrev first_laid : tie.After-weights-2-1 → tie.After-lay
-first_laid c = c.before.before.before.before.before.before.before
+first_laid c = c.before.before.before.before.before.before
 
 abbrev at_lay2 : tie.After-lay-2 → tie.Else-not-same_counts
 at_lay2 c = at_lay (first_laid c.before)
@@ -57,11 +57,11 @@ lay_requires_2 : tie.Need-lay-requires-2
 lay_requires_2 c κs = let e = at_lay (first_laid c) in ((first_sized e).few_gates, (second_sized e).few_gates)
 
 joint_outputs_requires : tie.Need-joint_outputs-outs-requires
-joint_outputs_requires c κs = let e = at_lay2 c.before.before in ((second_sized e).few_outputs, (first_sized e).few_gates)
+joint_outputs_requires c κs = let e = at_lay2 c.before in ((second_sized e).few_outputs, (first_sized e).few_gates)
 
 settle_requires : tie.Need-settle-found-requires
 settle_requires c κs =
-    let first = first_laid c.before in
+    let first = first_laid c.before.before.before.before.before.before.before in
     let e = at_lay first in
     let a = e.before.before.args in
     let s = joint_stands a.t1 a.t2 (pair e) _ _ _ _ _ _ refl refl first.lay.ensures c.lay-2.ensures _
@@ -70,7 +70,7 @@ settle_requires c κs =
 
 returns_2 : tie.Need-returns
 returns_2 c =
-    let first = first_laid c.before in
+    let first = first_laid c.before.before.before.before.before.before.before.before.before.before in
     let e = at_lay first in
     let a = e.before.before.args in
     let s = joint_stands a.t1 a.t2 (pair e) _ _ _ _ _ _ refl refl first.lay.ensures c.lay-2.ensures _

@@ -89,10 +89,10 @@ module _ (c : tie.After-reason-down invariant-loop decreases-loop) where
   highest_free = let r = c.most_share-high_free in read_back w32 r.type_inv (r.ensures ∙ ap (most 2) w_is)
 
   lowest_next : Added lowest (fanin s.args.wires.now) (at.loop-i.i + 1) (to_z w32 at.loop-i.lowest-bits +ℤ lowest place)
-  lowest_next = added_next at.loop-i.inv.0 (in_row turn) (least_small _ _ 1000000 (s.requires.small place))
+  lowest_next = added_next at.loop-i.invariant.0 (in_row turn) (least_small _ _ 1000000 (s.requires.small place))
 
   highest_next : Added highest (fanin s.args.wires.now) (at.loop-i.i + 1) (to_z w32 at.loop-i.highest-bits +ℤ highest place)
-  highest_next = added_next at.loop-i.inv.1 (in_row turn) (most_small _ _ 1000000 (s.requires.small place))
+  highest_next = added_next at.loop-i.invariant.1 (in_row turn) (most_small _ _ 1000000 (s.requires.small place))
 
   rest_is : get_or s.args.rests.now c.signal_index-signal.result 0
       ≡ get_or s.args.rests.now (get_or s.args.wires.now place 0) 0

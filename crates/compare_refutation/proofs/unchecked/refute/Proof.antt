@@ -26,7 +26,7 @@ module _ (c : tie.After-propagate-step invariant-loop decreases-loop) where
   at = c.before.before.before.before
 
   within : at.loop-left.left - 1 ≤ at.args.budget
-  within = omega (arith, at.loop-left.inv.0)
+  within = omega (arith, at.loop-left.invariant.0)
 
   gave_up : {code left : ℕ} {X : Type 0} → (code ≡ 2) × (left ≡ at.loop-left.left - 1) → (left ≤ at.args.budget) × (code ≡ 0 → X)
   gave_up h = (omega (arith, within), λ e. absurd (omega arith))

@@ -66,7 +66,7 @@ gate_at_requires c κs = under c.before.before.before.before.before.before
 
 -- the test before the row was made, and its turn
 abbrev kept_gate : tie.After-renamed_row-renamed invariant-loop decreases-loop → tie.Else-not-is_marked invariant-loop decreases-loop
-kept_gate c = let made = c.before.before.before in made.before.before.before.before.before.before
+kept_gate c = c.before.before.before.before.before.before.before.before
 
 abbrev turn : tie.After-renamed_row-renamed invariant-loop decreases-loop → tie.In-loop-g invariant-loop decreases-loop
 turn c = (kept_gate c).before.before
@@ -85,8 +85,9 @@ loop_less_2 c = omega (arith, (turn c.before.before.before.before.before).loop-g
 
 loop_again_2 : tie.Need-loop-g-preserved invariant-loop decreases-loop
 loop_again_2 c =
-    let made = c.gate_at-gate in
-    let t = turn c in
+    let row_made = c.before.before.before.before.before in
+    let made = row_made.gate_at-gate in
+    let t = turn row_made in
     let s = start t in
     let r = s.args.network in
     let g = t.before.loop.g in
@@ -94,9 +95,9 @@ loop_again_2 c =
     let numbers = t.before.before.before.new-signals in
     let row = row_at r.fanins r.thresholds r.signals r.weights g in
     let gate_is : made.result ≡ gate_record (gate_of r g) = ◌∙◌ {b = row} made.ensures (row_gate r g (T_is _ s.requires.sound) within) in
-    let row_is = c.renamed_row-renamed.ensures ∙ ap (λ (z : GateRecord). map (λ k. get_or numbers.result k 0) z.signals) gate_is
+    let row_is = row_made.renamed_row-renamed.ensures ∙ ap (λ (z : GateRecord). map (λ k. get_or numbers.result k 0) z.signals) gate_is
     ∙ copied_row r s.requires.sound (marks_of s.args.marks) numbers.result g numbers.ensures within in
-    let test = kept_gate c in
+    let test = kept_gate row_made in
     copied_more t.before.loop.inv (here t) (under t)
     (get_or-take _ _ _ _ within ∙ sym test.before.is-marked.ensures ∙ not-false _ test.if1.left)
     (gate_within r g within) (renamed_record _ (gate_of r g) gate_is row_is) c.store_gate.ensures

@@ -29,7 +29,7 @@ abbrev record_at : tie.Start invariant-loop decreases-loop → Network
 record_at c = let a = c.args in from_parts a.head a.fanins.now a.thresholds.now a.signals.now a.weights.now a.drivers.now
 
 abbrev so_far : tie.At-loop-g invariant-loop decreases-loop → Network
-so_far c = let a = c.before.args in from_parts a.head c.loop.fanins c.loop.thresholds c.loop.signals c.loop.weights a.drivers.now
+so_far c = let a = c.args in from_parts a.head c.loop-g.fanins c.loop-g.thresholds c.loop-g.signals c.loop-g.weights a.drivers.now
 
 shaped : (c : tie.Start invariant-loop decreases-loop) → ArrayLengths (record_at c)
 shaped c = shaped_parts c.args.head c.requires.0
@@ -68,10 +68,10 @@ loop_less c = omega (arith, c.loop-g-test.true)
 loop_again : tie.Need-loop-g-preserved-then-k-eq0 invariant-loop decreases-loop
 loop_again c =
     let loop = c.loop-g in
-    (
+    let s = c.before.before.before.before.before in (
       omega (arith, c.loop-g-test.true),
       loop.invariant.1
-          ∙ ap layout (sym (part_same (record_at c) c.args.u c.args.pairs c.requires.1.own c.requires.1.pairs loop.g c.loop-g-test.true
+          ∙ ap layout (sym (part_same (record_at s) s.args.u s.args.pairs s.requires.1.own s.requires.1.pairs loop.g c.loop-g-test.true
           c.if-k-eq0.true)),
     )
 
@@ -83,17 +83,18 @@ cast_merge_reader_2 c = omega (arith, small (turn_of c.before.before.before.befo
 
 merge_reader_requires : tie.Need-merge_reader-requires invariant-loop decreases-loop
 merge_reader_requires c κs =
-    let turn = turn_of c in
+    let else = c.before.before.before.before in
+    let turn = turn_of else in
     let loop = turn.before.loop in
     let s = turn.before.before in
     let r = record_at s in
     record {
       lent = part_lent r s.args.u s.args.pairs s.requires.1.own s.requires.1.pairs (so_far turn.before) loop.g loop.inv.1;
       joined = part_joined r s.args.u s.args.pairs s.requires.1.own s.requires.1.pairs (so_far turn.before) loop.g loop.inv.1
-          turn.loop-test.taken c.if-k-eq0.false;
+          turn.loop-test.taken else.if-k-eq0.false;
       board_ok_lem = sound_board r s.requires.1.own.sound;
       mergeable = part_mergeable r s.args.u s.args.pairs s.requires.1.own s.requires.1.pairs (so_far turn.before) loop.g loop.inv.1
-          turn.loop-test.taken c.if-k-eq0.false;
+          turn.loop-test.taken else.if-k-eq0.false;
       place = under turn;
     }
 
@@ -105,15 +106,16 @@ loop_less_2 c = omega (arith, (turn_of c.before.before.before.before.before).loo
 
 loop_again_2 : tie.Need-loop-g-preserved invariant-loop decreases-loop
 loop_again_2 c =
-    let turn = turn_of c in
+    let else = c.before.before.before.before.before in
+    let turn = turn_of else in
     let loop = turn.before.loop in
     let s = turn.before.before in
     let r = record_at s in (
       omega (arith, turn.loop-test.taken),
       part_next r s.args.u s.args.pairs s.requires.1.own s.requires.1.pairs (so_far turn.before) loop.g loop.inv.1 turn.loop-test.taken
-          c.if-k-eq0.false _
+          else.if-k-eq0.false _
           (part_made r s.args.u s.args.pairs s.requires.1.own s.requires.1.pairs (so_far turn.before) loop.g loop.inv.1 turn.loop-test.taken
-          c.if-k-eq0.false)
+          else.if-k-eq0.false)
           c.merge_reader.ensures,
     )
 
@@ -122,20 +124,23 @@ sub_remove_places c = omega (arith, number c.before.before.before.before.before.
 
 remove_places_requires : tie.Need-remove_places-requires invariant-loop decreases-loop
 remove_places_requires c κs =
+    let at = c.before.before.before.before.before.before.before in
     let s = c.before.before.before.before.before.before.before.before in (
       omega (arith, number s),
-      lengths (so_far c) (part_shape (record_at s) s.args.u s.args.pairs s.requires.1.own s.requires.1.pairs (so_far c) c.loop-g.g c.loop-g.invariant.1),
+      lengths (so_far at) (part_shape (record_at s) s.args.u s.args.pairs s.requires.1.own s.requires.1.pairs (so_far at) at.loop-g.g at.loop-g.invariant.1),
     )
 
 returns : tie.Need-returns invariant-loop decreases-loop
 returns c =
-    let loop = c.loop-g in
-    let r = record_at c in
-    let now_record = so_far c in
-    let own = part_own r c.args.u c.args.pairs c.requires.1.own c.requires.1.pairs now_record loop.g loop.invariant.1 in
-    let shape = part_shape r c.args.u c.args.pairs c.requires.1.own c.requires.1.pairs now_record loop.g loop.invariant.1 in
-    removed_parts c.args.head shape own c.remove_places.ensures
-    ∙ part_left r c.args.u c.args.pairs c.requires.1.own c.requires.1.pairs now_record loop.g loop.invariant.1
+    let at = c.before.before.before.before.before.before.before.before in
+    let s = c.before.before.before.before.before.before.before.before.before in
+    let loop = at.loop-g in
+    let r = record_at s in
+    let now_record = so_far at in
+    let own = part_own r s.args.u s.args.pairs s.requires.1.own s.requires.1.pairs now_record loop.g loop.invariant.1 in
+    let shape = part_shape r s.args.u s.args.pairs s.requires.1.own s.requires.1.pairs now_record loop.g loop.invariant.1 in
+    removed_parts s.args.head shape own c.remove_places.ensures
+    ∙ part_left r s.args.u s.args.pairs s.requires.1.own s.requires.1.pairs now_record loop.g loop.invariant.1
     (omega (arith, c.loop-g-test.false))
 
 pub collapse_by_pairs_spec : {M : Type 1} → statement M

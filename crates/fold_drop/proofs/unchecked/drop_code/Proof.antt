@@ -27,14 +27,17 @@ gate c = sym c.is_gate.ensures ∙ not-false _ c.if-not-is_gate.false-raw
 
 -- the second test, of the network
 test : (c : tie.After-is_output) → let past = c.before.before in
-    not (eqb c.count_readers-readers.result 0) || c.is_output.result ≡ is_read (record_at c) c.args.s c.requires (gate past)
+    let s = c.before.before.before.before in
+    not (eqb c.count_readers-readers.result 0) || c.is_output.result ≡ is_read (record_at s) s.args.s s.requires (gate past)
 unfolding readers net_of
 test c =
-    rw (c.count_readers-readers.ensures c.args.thresholds.now c.args.weights.now, c.is_output.ensures)
+    let s = c.before.before.before.before in
+    rw (c.count_readers-readers.ensures s.args.thresholds.now s.args.weights.now, c.is_output.ensures)
 
 returns : tie.Need-returns-then-not-is_gate
 returns c =
-    tried_stranger (record_at c) c.args.s c.requires (sym c.is_gate.ensures ∙ not-true _ c.if-not-is_gate.true-raw)
+    let s = c.before.before in
+    tried_stranger (record_at s) s.args.s s.requires (sym c.is_gate.ensures ∙ not-true _ c.if-not-is_gate.true-raw)
 
 count_readers_requires : tie.Need-count_readers-readers-requires
 count_readers_requires c κs = let z = sizes c.before.before in record { few_gates = z.few_gates; few_feeds = z.few_feeds }
@@ -45,12 +48,14 @@ is_output_requires c κs = (sizes c.before.before.before).few_outputs
 returns_2 : tie.Need-returns-then-readers-is_output
 returns_2 c =
     let past = c.before.before.before in
-    tried_read (record_at c) c.args.s c.requires (gate past) (sym (test c.before) ∙ c.if-readers-is_output.true)
+    let s = c.before.before.before.before.before in
+    tried_read (record_at s) s.args.s s.requires (gate past) (sym (test c.before) ∙ c.if-readers-is_output.true)
 
 returns_3 : tie.Need-returns
 returns_3 c =
     let past = c.before.before.before in
-    tried_unread (record_at c) c.args.s c.requires (gate past) (sym (test c.before) ∙ c.if-readers-is_output.false)
+    let s = c.before.before.before.before.before in
+    tried_unread (record_at s) s.args.s s.requires (gate past) (sym (test c.before) ∙ c.if-readers-is_output.false)
 
 pub drop_code_spec : {M : Type 1} → statement M
 drop_code_spec =

@@ -32,7 +32,7 @@ returns c =
 
 -- past the test u feeds v
 abbrev start : tie.Else-code-ne0 → tie.Start
-start c = let at_code = c.before in at_code.before.before.before.before.before.before
+start c = c.before.before.before.before.before.before
 
 abbrev here : tie.Else-code-ne0 → Edge
 here c = let a = (start c).args in

@@ -19,25 +19,27 @@ abbrev record_at : tie.Start → Network
 record_at c = let a = c.args in from_parts a.head a.fanins.now a.thresholds.now a.signals.now a.weights.now a.drivers.now
 
 -- past the test the collapse is accepted
-left : (c : tie.Else-code-ne0) → 
-    collapse (net_of (record_at c)) c.args.s ≡ accepted (collapsed_by (record_at c) c.args.s c.collapse_pairs-pairs.result)
+left : (c : tie.Else-code-ne0) → let start = c.before.before in
+    collapse (net_of (record_at start)) start.args.s ≡ accepted (collapsed_by (record_at start) start.args.s c.collapse_pairs-pairs.result)
 left c = c.collapse_pairs-pairs.ensures.accepts c.if-code-ne0.false
 
 number : (c : tie.Else-code-ne0) → let a = c.args in
     (a.head.inputs ≤ a.s) × (a.s - a.head.inputs < a.head.gates) × (a.head.gates ≤ 128)
 number c =
-    gate_number (record_at c) c.args.s (c.collapse_pairs-pairs.ensures.folds c.if-code-ne0.false).own
+    let start = c.before.before in
+    gate_number (record_at start) start.args.s (c.collapse_pairs-pairs.ensures.folds c.if-code-ne0.false).own
 
 collapse_pairs_requires : tie.Need-collapse_pairs-pairs-requires
 collapse_pairs_requires c κs = c.requires.1
 
 returns : tie.Need-returns-then-code-ne0
 returns c =
-    sym (preview_refused (record_at c) c.args.s c.requires.1 _ (c.collapse_pairs-pairs.ensures.refuses c.if-code-ne0.true))
+    let start = c.before.before in
+    sym (preview_refused (record_at start) start.args.s start.requires.1 _ (c.collapse_pairs-pairs.ensures.refuses c.if-code-ne0.true))
 
 -- the test's other side, from the collapse of the copied arrays
 abbrev at_else : tie.After-collapse_by_pairs → tie.Else-code-ne0
-at_else c = let lent = c.before.before.before.before.before in lent.before.before.before.before.before.before
+at_else c = c.before.before.before.before.before.before.before.before.before.before.before
 
 collapse_by_pairs_requires : tie.Need-collapse_by_pairs-requires
 collapse_by_pairs_requires c κs =
@@ -54,9 +56,10 @@ size_of_requires c κs =
 
 returns_2 : tie.Need-returns
 returns_2 c =
-    let else = at_else c in
+    let at_left = c.before.before.before in
+    let else = at_else at_left in
     let start = else.before.before in
-    c.type_size.ensures ∙ ap reported c.collapse_by_pairs.ensures
+    c.size_of.ensures ∙ ap reported at_left.collapse_by_pairs.ensures
     ∙ sym (preview_shown (record_at start) start.args.s start.requires.1 _ (left else))
 
 pub preview_at_spec : {M : Type 1} → statement M

@@ -28,26 +28,30 @@ gate c = sym c.is_gate.ensures ∙ not-false _ c.if-not-is_gate.false-raw
 
 returns : tie.Need-returns-then-not-is_gate
 returns c =
-    tried_stranger (record_at c) c.args.s c.requires _ (ap (λ (p : Pairs). p.code) c.no_pairs.ensures)
+    let start = c.before.before.before in
+    tried_stranger (record_at start) start.args.s start.requires _ (ap (λ (p : Pairs). p.code) c.no_pairs.ensures)
     (sym c.is_gate.ensures ∙ not-true _ c.if-not-is_gate.true-raw)
 
 is_output_requires : tie.Need-is_output-requires
-is_output_requires c κs = (sized_of (record_at c) c.requires).few_outputs
+is_output_requires c κs = let start = c.before.before in (sized_of (record_at start) start.requires).few_outputs
 
 returns_2 : tie.Need-returns-then-is_output
 returns_2 c =
-    tried_output (record_at c) c.args.s c.requires (gate c.before.before.before) _ (ap (λ (p : Pairs). p.code) c.no_pairs-then-is_output.ensures)
+    let start = c.before.before.before.before.before in
+    tried_output (record_at start) start.args.s start.requires (gate c.before.before.before) _ (ap (λ (p : Pairs). p.code) c.no_pairs-then-is_output.ensures)
     (sym c.is_output.ensures ∙ c.if-is_output.true)
 
 reader_pairs_requires : tie.Need-reader_pairs-requires
 reader_pairs_requires c κs =
-    let r = record_at c in
-    let at = gate_number r c.args.s (sound_gate r c.args.s c.requires (gate c.before.before.before)) in
-    (lent_of r (T_is (sound_record r) c.requires), (at.0, omega (arith, at)), sound_board r c.requires)
+    let start = c.before.before.before.before.before in
+    let r = record_at start in
+    let at = gate_number r start.args.s (sound_gate r start.args.s start.requires (gate c.before.before.before)) in
+    (lent_of r (T_is (sound_record r) start.requires), (at.0, omega (arith, at)), sound_board r start.requires)
 
 returns_3 : tie.Need-returns
 returns_3 c =
-    tried_pairs (record_at c) c.args.s c.requires (gate c.before.before.before.before) (sym c.is_output.ensures ∙ c.if-is_output.false) _
+    let start = c.before.before.before.before.before.before in
+    tried_pairs (record_at start) start.args.s start.requires (gate c.before.before.before.before) (sym c.is_output.ensures ∙ c.if-is_output.false) _
     c.reader_pairs.ensures
 
 pub collapse_pairs_spec : {M : Type 1} → statement M

@@ -27,10 +27,10 @@ reader_pair_requires c κs = let pre = c.requires in (pre.0, pre.1, c.loop-g-tes
 
 -- the lent gates, and gates u and g as they are tried
 abbrev gate : tie.In-loop-g invariant-loop decreases-loop → ℕ → Gate
-gate c = let a = c.before.before.args in gate_from a.fanins.now a.thresholds.now a.signals.now a.weights.now
+gate c = let a = c.args in gate_from a.fanins.now a.thresholds.now a.signals.now a.weights.now
 
 abbrev tried : tie.In-loop-g invariant-loop decreases-loop → Edge
-tried c = let a = c.before.before.args in edge_to a.board (gate c) a.inputs a.u c.before.loop.g
+tried c = let a = c.args in edge_to a.board (gate c) a.inputs a.u c.loop-g.g
 
 returns : tie.Need-returns-then-code-ne0 invariant-loop decreases-loop
 returns c =

@@ -42,13 +42,13 @@ under c = omega (arith, c.loop-g-test.true, (sizes c.before).few_gates)
 
 -- the turn of a gate without a known refuser, of one that is tested, and of one that is tried
 abbrev turn_of : tie.Else-wide-lt128 invariant-loop decreases-loop → tie.In-loop-g invariant-loop decreases-loop
-turn_of c = c.before.before.before
+turn_of c = c.before.before.before.before
 
 abbrev tested : tie.After-is_output invariant-loop decreases-loop → tie.In-loop-g invariant-loop decreases-loop
 tested c = turn_of c.before.before.before
 
 abbrev tried : tie.After-hinted_pairs-pairs invariant-loop decreases-loop → tie.Else-b-readers invariant-loop decreases-loop
-tried c = c.before.before.before
+tried c = c.before.before.before.before
 
 abbrev turn : tie.Else-code-eq0 invariant-loop decreases-loop → tie.In-loop-g invariant-loop decreases-loop
 turn c = tested (tried c.before).before
@@ -80,8 +80,9 @@ loop_less c = omega (arith, c.loop-g-test.true)
 
 loop_again : tie.Need-loop-g-preserved-then-wide-lt128 invariant-loop decreases-loop
 loop_again c =
+    let start = c.before.before.before.before.before.before.before in
     let loop = c.loop-g in
-    let known = remembered_at (record_at c) loop.invariant.2 loop.g c.loop-g-test.true (omega (arith, c.if-wide-lt128.true, c.wide.ensures.0)) in (
+    let known = remembered_at (record_at start) loop.invariant.2 loop.g c.loop-g-test.true (omega (arith, c.if-wide-lt128.true, c.wide.ensures.0)) in (
       omega (arith, c.loop-g-test.true),
       lower_more _ _ _ loop.g loop.invariant.1 (reader_refused _ _ _ _ known),
       loop.invariant.2,
@@ -95,7 +96,7 @@ count_readers_requires : tie.Need-count_readers-readers-requires invariant-loop 
 count_readers_requires c κs = lent_counted (lent_of _ (T_is (sound_record _) (turn_of c.before).requires.0))
 
 is_output_requires : tie.Need-is_output-requires invariant-loop decreases-loop
-is_output_requires c κs = (sizes (turn_of c.before.before).before.before).few_outputs
+is_output_requires c κs = (sizes (turn_of c.before.before).before).few_outputs
 
 add_g_2 : tie.Need-overflow_step-g-then-b-readers invariant-loop decreases-loop
 add_g_2 c = omega (arith, under (tested c.before))
@@ -116,21 +117,21 @@ loop_again_2 c =
 
 -- ---- a gate that is tried
 element_copy_out_wide_2 : tie.Need-bounds-hints-g invariant-loop decreases-loop
-element_copy_out_wide_2 c = under (tested c.before)
+element_copy_out_wide_2 c = under (tested c.before.before)
 
 hinted_pairs_requires : tie.Need-hinted_pairs-pairs-requires invariant-loop decreases-loop
 hinted_pairs_requires c κs =
-    let at = tested c.before.before.before in
+    let at = tested c.before.before.before.before in
     let start = at.before.before.before in
     let lent = lent_of _ (T_is (sound_record _) start.requires.0) in
     (lent, (omega arith, omega (arith, at.loop-test.taken)), sound_board (record_at start) start.requires.0)
 
 kept_refusers_requires : tie.Need-kept_refusers-requires invariant-loop decreases-loop
-kept_refusers_requires c κs = (tested (tried c.before).before).before.loop.inv.2.long
+kept_refusers_requires c κs = (tested (tried c.before.before.before.before.before).before).before.loop.inv.2.long
 
 returns : tie.Need-returns-then-code-eq0 invariant-loop decreases-loop
 returns c =
-    let else = tried c.before in
+    let else = tried c.before.before.before.before.before.before in
     let at = tested else.before in
     let start = at.before.before.before in
     let loop = at.before.loop in
@@ -152,7 +153,7 @@ refuser c =
     (c.hinted_pairs-pairs.ensures.refuses c.if-code-eq0.false)
 
 cast_last : tie.Need-overflow_cast-last invariant-loop decreases-loop
-cast_last c = omega (arith, (c.hinted_pairs-pairs.ensures.refuses c.if-code-eq0.false).within, (sizes (turn c).before.before).few_gates)
+cast_last c = omega (arith, (c.hinted_pairs-pairs.ensures.refuses c.if-code-eq0.false).within, (sizes (turn c).before).few_gates)
 
 element_write_hints : tie.Need-bounds-hints-g-in-loop-g invariant-loop decreases-loop
 element_write_hints c = under (turn c)
@@ -179,10 +180,11 @@ loop_again_3 c =
 -- ---- no gate is left
 returns_2 : tie.Need-returns invariant-loop decreases-loop
 returns_2 c =
+    let start = c.before.before.before.before in
     let loop = c.loop-g in (
       record {
         next = λ t. absurd (false≢true t);
-        none = λ t. sweep_none (record_at c) c.args.b loop.g loop.invariant.0 c.loop-g-test.false loop.invariant.1;
+        none = λ t. sweep_none (record_at start) start.args.b loop.g loop.invariant.0 c.loop-g-test.false loop.invariant.1;
       },
       record { next = λ t. absurd (false≢true t) },
     )

@@ -7,7 +7,7 @@ use Rattle.frame_pass.proofs.unchecked.frame_words.Tie as tie
 
 -- the inputs in the lanes, from where the gates are run
 abbrev inputs_put : tie.After-masks-2-1 → tie.After-put_inputs
-inputs_put c = c.before.before.before.before.before.before
+inputs_put c = c.before.before.before.before.before
 
 put_inputs_requires : tie.Need-put_inputs-requires
 put_inputs_requires c κs =
@@ -22,13 +22,13 @@ run_gates_requires c κs =
 
 lane_words_requires : tie.Need-lane_words-requires
 lane_words_requires c κs =
-    let put = inputs_put c.before.before.before.before in
+    let put = inputs_put c.before.before.before in
     let pre = put.before.before.before.requires in
     ((sized_of _ pre.sound).few_outputs, pre.few)
 
 returns : tie.Need-returns
 returns c =
-    let put = inputs_put c.before in
+    let put = inputs_put c.before.before.before.before in
     let s = put.before.before.before in
     first_words s.args.network s.requires put.put-inputs.ensures c.run_gates.ensures c.lane_words.ensures
 

@@ -17,22 +17,25 @@ gate s = gate_from s.args.fanins.now s.args.thresholds.now s.args.signals.now s.
 
 put_block_requires_2 : tie.Need-put_block-requires-then-lanes-gt32
 put_block_requires_2 c κs =
+    let s = c.before.before.before.before in
     let put = c.put_block.ensures in
     record {
-      masked = masks_put (λ f. bit (bits_in (lane c.args.masks.now (0 + f))) (gate c)) c.requires.0.masked put (omega arith);
-      gate = c.requires.0.gate;
-      signal = c.requires.0.signal;
+      masked = masks_put (λ f. bit (bits_in (lane s.args.masks.now (0 + f))) (gate s)) s.requires.0.masked put (omega arith);
+      gate = s.requires.0.gate;
+      signal = s.requires.0.signal;
       lanes = omega arith;
     }
 
 returns : tie.Need-returns-then-lanes-gt32
 returns c =
+    let s = c.before.before.before.before.before in
     let put = c.put_block.ensures in
-    gate_wide c.args.own (gate c) c.requires.0.masked c.requires.0.signal put c.requires.1 c.put_block-then-lanes-gt32.ensures
+    gate_wide s.args.own (gate s) s.requires.0.masked s.requires.0.signal put s.requires.1 c.put_block-then-lanes-gt32.ensures
 
 returns_2 : tie.Need-returns-else-lanes-gt32
 returns_2 c =
-    gate_narrow c.args.own (gate c) c.requires.0.masked c.requires.0.signal c.put_block.ensures c.if-lanes-gt32.false
+    let s = c.before.before.before in
+    gate_narrow s.args.own (gate s) s.requires.0.masked s.requires.0.signal c.put_block.ensures c.if-lanes-gt32.false
 
 pub put_gate_spec : {M : Type 1} → statement M
 put_gate_spec = tie.close (tie.spec (λ c κs. search rules) put_block_requires_2 returns returns_2)

@@ -62,7 +62,7 @@ module _ (c : tie.After-total-1 invariant-loop decreases-loop) where
 
   added : Added 2147483648 (bits_in bits) start.args.signals.now start.args.weights.now start.args.base start.args.count
       (at.loop-i.i + 1) (to_z w64 at.loop-i.total-bits +ℤ x)
-  added = added_next at.loop-i.inv (omega arith) (fits_size w_fits)
+  added = added_next at.loop-i.invariant (omega arith) (fits_size w_fits)
 
   sum_fits : SFits w64 (to_z w64 at.loop-i.total-bits +ℤ x)
   sum_fits = added_fits added start.requires.1

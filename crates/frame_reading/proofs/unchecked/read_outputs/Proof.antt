@@ -34,9 +34,9 @@ returns : tie.Need-returns
 unfolding as_reading output_bits values net_of
 returns c =
     let a = c.args in
-    as_reading_lem (output_bits (net_of a.t1) (frame a.x)) _
+    as_reading_lem (output_bits (net_of a.network) (frame a.x)) _
     (c.output_word-word.ensures
-    ∙ ap (λ (ρ : Assignment). word_of (map ρ (tab a.t1.outputs (λ j. get_or a.t1.drivers j 0)))) c.signal_values-values.ensures)
+    ∙ ap (λ (ρ : Assignment). word_of (map ρ (tab a.network.outputs (λ j. get_or a.network.drivers j 0)))) c.signal_values-values.ensures)
 
 pub read_outputs_spec : {M : Type 1} → statement M
 read_outputs_spec = tie.close (tie.spec signal_values_requires output_word_requires returns)

@@ -26,18 +26,17 @@ threshold_back c = read_back w32 {r = c.args.gate.threshold} (search rules) refl
 -- the start, from where the threshold is entered
 abbrev start_of : tie.After-enter_integers → tie.Start
 start_of c =
-    let fanins = c.before.before.before.before in
-    let signals = fanins.before.before.before in
-    let kinds = signals.before.before.before in
-    kinds.before.before.before
+    c.before.before.before.before.before.before.before.before.before.before.before.before.before
 
 enter_bytes_requires_4 : tie.Need-enter_bytes-requires-4
 enter_bytes_requires_4 c κs =
-    omega (arith, c.enter_bytes-arg-4-1.given.0.1, long_row_signals (start_of c))
+    let thresholds = c.before.before.before in
+    omega (arith, c.enter_bytes-arg-4-1.given.0.1, long_row_signals (start_of thresholds))
 
 enter_integers_requires_2 : tie.Need-enter_integers-requires-2
 enter_integers_requires_2 c κs =
-    omega (arith, c.enter_integers-arg-2-1.given.0.1, long_row_weights (start_of c))
+    let thresholds = c.before.before.before.before.before.before.before in
+    omega (arith, c.enter_integers-arg-2-1.given.0.1, long_row_weights (start_of thresholds))
 
 returns : tie.Need-returns
 returns c =

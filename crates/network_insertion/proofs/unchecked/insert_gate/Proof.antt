@@ -54,10 +54,11 @@ raised_drivers_requires c κs =
 
 returns : tie.Need-returns
 returns c =
-    let start = start_of c in
+    let gaps = c.before.before.before in
+    let start = start_of gaps in
     inserted_record start.args.network start.args.u start.args.gate (shaped start) start.requires.0 start.requires.1
-    (fanins_done c).fanins_with_gap-fanins.ensures (thresholds_done c).thresholds_with_gap-thresholds.ensures
-    (signals_done c).signals_with_gap-signals.ensures (weights_done c).weights_with_gap-weights.ensures
+    (fanins_done gaps).fanins_with_gap-fanins.ensures (thresholds_done gaps).thresholds_with_gap-thresholds.ensures
+    (signals_done gaps).signals_with_gap-signals.ensures (weights_done gaps).weights_with_gap-weights.ensures
     c.store_gate.ensures c.raised_drivers-drivers.ensures
 
 pub insert_gate_spec : {M : Type 1} → statement M

@@ -168,7 +168,7 @@ settings_requires_3 c κs = few (halves c.before.before)
 
 returns_2 : tie.Need-returns invariant-loop decreases-loop
 returns_2 c =
-    let h = halves c.before in
+    let h = halves c.before.before.before in
     let m : c.loop-high.high ≡ highs h = omega (arith, c.loop-high.invariant.0, c.loop-high-test.false) in
     let all : c.loop-high.high * lows h ≡ 2 ^ count h = ap (λ (n : ℕ). n * lows h) m ∙ halves_all (count h) (highs h) (lows h) (highs_is h) (lows_is h) in
     rw c.settings.ensures (record {

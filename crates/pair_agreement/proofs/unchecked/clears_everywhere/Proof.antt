@@ -10,8 +10,7 @@ use Rattle.pair_agreement.proofs.unchecked.clears_everywhere.Tie as tie
 -- where the tables begin, from where both are lent
 abbrev start_of : tie.After-sums_v-1 → tie.Start
 start_of c =
-    let at_second = c.before.before.before.before in
-    at_second.before.before.before.before
+    c.before.before.before.before.before.before
 
 returns : tie.Need-returns
 returns c =

@@ -33,7 +33,7 @@ returns c =
 
 complemented_requires : tie.Need-complemented-requires
 complemented_requires c κs =
-    subst AlignmentOnScale (sym c.align_with_u-a.ensures) (with_u_fair (edge c.before) c.requires.ok)
+    subst AlignmentOnScale (sym c.align_with_u-a.ensures) (with_u_fair (edge c.before.before.before.before.before) c.requires.ok)
 
 returns_2 : tie.Need-returns
 returns_2 c =

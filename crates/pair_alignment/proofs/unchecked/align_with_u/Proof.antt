@@ -51,29 +51,32 @@ count_low : (c : tie.At-loop-s invariant-loop decreases-loop) → c.loop-s.count
 count_low c = listed_few (edge (start c)) c.loop-s.s c.loop-s.count c.loop-s.invariant.1
 
 -- the two weights at s, and whether s is a distinct feed
-x_is : (c : tie.After-x-1 invariant-loop decreases-loop) → 
-    to_z w32 (of_z w32 (get_or (table_u c).spread-in_u.result c.loop-s.s (pos 0))) ≡ in_u (edge (start c)) c.loop-s.s
+x_is : (c : tie.After-x-1 invariant-loop decreases-loop) → let at = c.before.before in
+    to_z w32 (of_z w32 (get_or (table_u at).spread-in_u.result at.loop-s.s (pos 0))) ≡ in_u (edge (start at)) at.loop-s.s
 x_is c =
-    let t = (table_u c).spread-in_u in
-    let s = c.loop-s.s in
+    let at = c.before.before in
+    let t = (table_u at).spread-in_u in
+    let s = at.loop-s.s in
     read_back w32 {r = get_or t.result s (pos 0)} c.x-1.given
-    (ap (λ l. get_or l s (pos 0)) t.ensures ∙ table_at (edge (start c)).gate_u.feeds s (s_low c.before))
+    (ap (λ l. get_or l s (pos 0)) t.ensures ∙ table_at (edge (start at)).gate_u.feeds s (s_low c.before))
 
-y_is : (c : tie.After-y-1 invariant-loop decreases-loop) → 
-    to_z w32 (of_z w32 (get_or (set (table_v c).spread-in_v.result (start c).args.u (pos 0)) c.loop-s.s (pos 0)))
-    ≡ in_other (edge (start c)) c.loop-s.s
+y_is : (c : tie.After-y-1 invariant-loop decreases-loop) → let at = c.before.before.before in
+    to_z w32 (of_z w32 (get_or (set (table_v at).spread-in_v.result (start at).args.u (pos 0)) at.loop-s.s (pos 0)))
+    ≡ in_other (edge (start at)) at.loop-s.s
 y_is c =
-    let t = (table_v c).spread-in_v in
-    let a = start c in
-    let s = c.loop-s.s in
+    let at = c.before.before.before in
+    let t = (table_v at).spread-in_v in
+    let a = start at in
+    let s = at.loop-s.s in
     read_back w32 {r = get_or (set t.result a.args.u (pos 0)) s (pos 0)} c.y-1.given
     (ap (λ l. get_or (set l a.args.u (pos 0)) s (pos 0)) t.ensures ∙ other_at (edge a) s (s_low c.before.before))
 
-test_is : (c : tie.After-either invariant-loop decreases-loop) → 
-    c.either.result ≡ among (edge (start c)) c.loop-s.s
+test_is : (c : tie.After-either invariant-loop decreases-loop) → let at = c.before.before.before.before in
+    c.either.result ≡ among (edge (start at)) at.loop-s.s
 test_is c =
-    let a = start c in
-    rw (x_is c.before.before, y_is c.before) c c.either.ensures ∙ sym (among_is (edge a) a.requires.ok c.loop-s.s)
+    let at_loop = c.before.before.before.before in
+    let a = start at_loop in
+    rw (x_is c.before.before, y_is c.before) at c.either.ensures ∙ sym (among_is (edge a) a.requires.ok at_loop.loop-s.s)
 
 spread_requires : tie.Need-spread-in_u-requires invariant-loop decreases-loop
 spread_requires c κs = omega (arith, c.requires.ok.ok_u.few, length_gate_in c.args.gate-u)
@@ -119,8 +122,9 @@ add_count c = record { fits = omega (arith, count_low c.before.before.before.bef
 
 loop_again : tie.Need-loop-s-preserved invariant-loop decreases-loop
 loop_again c =
-    let a = start c in
-    let l = c.loop-s in
+    let at_loop = c.before.before.before.before.before in
+    let a = start at_loop in
+    let l = at_loop.loop-s in
     let same = sym (test_is c.before) in
     let step = listed_store (edge a) l.s l.count l.signals l.us l.vs l.invariant.1 in (
       omega arith,
@@ -134,7 +138,7 @@ loop_again c =
           (λ t. rw (t.1, t.2, t.3) (listed_full (edge a) l.s l.count l.signals l.us l.vs l.invariant.1 yes t.0.left))
           w.1.came))
           (λ w. rw (w.1, w.2, w.3, w.4) (listed_skip (edge a) l.s l.count l.signals l.us l.vs l.invariant.1 (same ∙ w.0.left)))
-          c.if-either.branch,
+          c.if-either.branch-raw,
     )
 
 -- the numbers of which the thresholds are made, as the machine reads them back

@@ -44,18 +44,19 @@ near c =
     (reduced_near s.args.thresholds _ _ s.requires.1.0 (s.requires.0.u_small at) (s.requires.0.v_small at))
 
 threshold_by_requires : tie.Need-threshold_by-least-requires invariant-loop decreases-loop
-threshold_by_requires c κs = (near c.before, (start (measured c.before.before)).requires.1.1.0.least_on)
+threshold_by_requires c κs = (near c.before, (start (measured c.before.before.before)).requires.1.1.0.least_on)
 
 threshold_by_requires_2 : tie.Need-threshold_by-most-requires invariant-loop decreases-loop
 threshold_by_requires_2 c κs = let d = c.before.before.before in (near d, (start (measured d.before.before)).requires.1.1.0.most_on)
 
 add_step : tie.Need-overflow_step-step invariant-loop decreases-loop
 add_step c =
-    record { fits = omega (arith, c.loop-step-test.true, (start (measured c)).requires.1.1.1.0) }
+    let d = c.before.before.before.before.before.before.before.before in
+    record { fits = omega (arith, d.loop-step-test.true, (start (measured d)).requires.1.1.1.0) }
 
 -- the turn of a block that is tried
 abbrev tried : tie.After-mixes_most-in-loop-step-1 invariant-loop decreases-loop → tie.In-loop-step invariant-loop decreases-loop
-tried c = let asked = c.before.before.before in asked.before.before.before.before.before
+tried c = c.before.before.before.before.before.before.before.before.before.before
 
 differs_at_ends_requires : tie.Need-differs_at_ends-requires invariant-loop decreases-loop
 differs_at_ends_requires c κs = (start (measured (tried c))).requires.1.1.1.1.1

@@ -86,8 +86,9 @@ near c =
 
 bounded_by_block_requires : tie.Need-bounded_by_block-bounds-requires invariant-loop decreases-loop
 bounded_by_block_requires c κs =
-    let p = (start (halves c)).requires in
-    (p.0, (near c, (c.loop-step.invariant.1, (low_high c.before, lows_few (halves c)))))
+    let turn = c.before.before in
+    let p = (start (halves turn)).requires in
+    (p.0, (near c, (turn.loop-step.invariant.1, (low_high c.before, lows_few (halves turn)))))
 
 -- each setting of a block
 inside : (d : tie.After-high_at-high invariant-loop decreases-loop) → let h = halves d.before in (j : ℕ) → j < lows h → 256 * d.high_at-high.result + j < 2 ^ count h
@@ -107,11 +108,12 @@ returns c = c.settings_of.ensures _ (within c.before.before.before)
 
 add_next_step : tie.Need-overflow_add-step invariant-loop decreases-loop
 add_next_step c =
-    record { fits = omega (arith, c.loop-step-test.true, highs_few (halves c)) }
+    let turn = c.before.before.before.before.before in
+    record { fits = omega (arith, turn.loop-step-test.true, highs_few (halves turn)) }
 
 next_step_requires : tie.Need-next_step-step-requires invariant-loop decreases-loop
 next_step_requires c κs =
-    let h = halves c.before.before.before in
+    let h = halves c.before.before.before.before.before in
     let p = (start h).requires in
     (p.0, (p.1.0, (c.bounded_by_block-bounds.ensures.0, (highs_few h, (lows_some h, lows_few h)))))
 

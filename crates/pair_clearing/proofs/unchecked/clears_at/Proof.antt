@@ -14,8 +14,8 @@ sum_at_requires_2 c κs = (c.requires.0.v_small, c.requires.1.1.1)
 clears_requires : tie.Need-clears-requires
 clears_requires c κs =
     let a = c.args in
-    let u = from_small a.sums-u.now a.setting c.requires.0.u_small in
-    let v = from_small a.sums-v.now a.setting c.requires.0.v_small in
+    let u = from_small a.sums_u.now a.setting c.requires.0.u_small in
+    let v = from_small a.sums_v.now a.setting c.requires.0.v_small in
     rw (read_back w32 c.sum_at-su.type_inv c.sum_at-su.ensures, read_back w32 c.sum_at-sv.type_inv c.sum_at-sv.ensures)
     (c.requires.1.0, record { dial = c.requires.1.1.0; x_small = u; y_small = v })
 

@@ -15,10 +15,10 @@ module _ (c : tie.Start) where
   abbrev at : ℕ
   at = 256 + c.args.high
 
-  u_is : to_z w32 (of_z w32 (get_or c.args.sums-u.now at (pos 0))) ≡ get_or c.args.sums-u.now at (pos 0)
+  u_is : to_z w32 (of_z w32 (get_or c.args.sums_u.now at (pos 0))) ≡ get_or c.args.sums_u.now at (pos 0)
   u_is = place_held c.args.sums-u.now c.requires.0.u_small at
 
-  v_is : to_z w32 (of_z w32 (get_or c.args.sums-v.now at (pos 0))) ≡ get_or c.args.sums-v.now at (pos 0)
+  v_is : to_z w32 (of_z w32 (get_or c.args.sums_v.now at (pos 0))) ≡ get_or c.args.sums_v.now at (pos 0)
   v_is = place_held c.args.sums-v.now c.requires.0.v_small at
 
 less_high_half_requires : tie.Need-less_high_half-requires

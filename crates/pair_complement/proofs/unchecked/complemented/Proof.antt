@@ -36,18 +36,18 @@ abbrev at_negated : tie.After-struct_told-1 → tie.After-negated-us
 at_negated c = c.before.before.before.before
 
 sub_own : tie.Need-overflow_sub-own
-sub_own c = let s = (at_negated c).before.before.before.before in rw (own_is s) (other_fits s)
+sub_own c = let s = (at_negated c).before.before.before in rw (own_is s) (other_fits s)
 
 returns : tie.Need-returns
 unfolding complement_in
 returns c =
     let n = at_negated c.before.before.before in
-    let s = n.before.before.before.before in
+    let s = n.before.before.before in
     let own = ap (λ (z : ℤ). to_z w32 (of_z w32 (pos 1 -ℤ z))) (own_is s) ∙ to_z-of_z (other_fits s) in
     λ j. record {
       count = s.args.a.count;
       signals = s.args.a.signals;
-      us = n.negated.ensures j;
+      us = n.negated-us.ensures j;
       vs = s.args.a.vs;
       thresholds = record { own = own j; on = off_is s j; off = on_is s j; board = s.args.a.thresholds.board };
     }

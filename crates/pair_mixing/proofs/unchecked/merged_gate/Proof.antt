@@ -67,7 +67,7 @@ w_is c =
     let d = c.before.before.before in
     let a = (start d).args in
     let mix = rw (x_is d, y_is d) at c.mixed-w.ensures in
-    read_back w32 c.mixed-w.type_inv (mix ∙ sym (mix_at a.t1 a.k a.l (i d) d.loop-i-test.true))
+    read_back w32 c.mixed-w.type_inv (mix ∙ sym (mix_at a.a a.k a.l (i d) d.loop-i-test.true))
 
 -- the thresholds, as the machine reads them back
 own_is : (c : tie.Start invariant-loop decreases-loop) → to_z w32 (of_z w32 c.args.a.thresholds.own) ≡ c.args.a.thresholds.own
@@ -114,14 +114,14 @@ loop_again c =
       omega arith,
       ⊎_elim
           (λ w.
-          rw (w.2, w.3, w.4)
-          (combined_store a.t1 a.k a.l l.i l.fanin l.signals l.weights l.invariant.1 z (w_is m)
-          (ne_eqb (nat_abs z) 0 (λ q. w.0.taken (size ∙ q)))))
+          rw (w.fanin-is, w.signals-is, w.weights-is)
+          (combined_store a.a a.k a.l l.i l.fanin l.signals l.weights l.invariant.1 z (w_is m)
+          (ne_eqb (nat_abs z) 0 (λ q. w.if-magnitude-ne0.true (size ∙ q)))))
           (λ w.
-          rw (w.1, w.2, w.3)
-          (combined_drop a.t1 a.k a.l l.i l.fanin l.signals l.weights l.invariant.1 z (w_is m)
-          (eq-eqb (nat_abs z) 0 (sym size ∙ w.0.left))))
-          c.if-magnitude-ne0.branch,
+          rw (w.fanin-is, w.signals-is, w.weights-is)
+          (combined_drop a.a a.k a.l l.i l.fanin l.signals l.weights l.invariant.1 z (w_is m)
+          (eq-eqb (nat_abs z) 0 (sym size ∙ w.if-magnitude-ne0.false))))
+          c.if-magnitude-ne0.branch-raw,
     )
 
 mixed_requires_2 : tie.Need-mixed-threshold-requires invariant-loop decreases-loop
@@ -144,7 +144,7 @@ returns c =
     let end : l.i ≡ a.a.count = omega (arith, l.invariant.0, c.loop-i-test.false) in
     let t = read_back w32 c.mixed-threshold.type_inv (rw (own_is s, on_is s) at c.mixed-threshold.ensures) in
     (λ j. record { fanin = l.fanin; threshold = t j; signals = l.signals; weights = l.weights })
-    ∙ combined_all a.t1 a.k a.l l.fanin l.signals l.weights (rw end at l.invariant.1)
+    ∙ combined_all a.a a.k a.l l.fanin l.signals l.weights (rw end at l.invariant.1)
 
 pub merged_gate_spec : {M : Type 1} → statement M
 merged_gate_spec =

@@ -27,16 +27,17 @@ loop_less c = omega arith
 
 -- the sum of a turn
 abbrev sum : tie.In-loop-low invariant-loop decreases-loop → ℤ
-sum d = get_or d.before.before.before.before.args.sums.now d.before.loop.low (pos 0)
+sum d = get_or d.args.sums.now d.loop-low.low (pos 0)
 
 loop_again : tie.Need-loop-low-preserved invariant-loop decreases-loop
 loop_again c =
-    let sum_is : to_z w32 (of_z w32 (sum c)) ≡ sum c = read_back w32 c.lesser-arg-1.given refl in
+    let d = c.before.before.before.before in
+    let sum_is : to_z w32 (of_z w32 (sum d)) ≡ sum d = read_back w32 c.lesser-arg-1.given refl in
     let least_is = read_back w32 {r = c.lesser-least.result} c.lesser-least.type_inv refl in
     let most_is = read_back w32 {r = c.greater-most.result} c.greater-most.type_inv refl in
     let down = simp sum_is at c.lesser-least.ensures in
     let up = simp sum_is at c.greater-most.ensures in
-    (omega arith, rw (least_is, most_is) (span_more c.loop-low.invariant.1 _ down.0 up.0 down.1 up.1))
+    (omega arith, rw (least_is, most_is) (span_more d.loop-low.invariant.1 _ down.0 up.0 down.1 up.1))
 
 returns : tie.Need-returns invariant-loop decreases-loop
 returns c = let e : c.loop-low.low ≡ c.args.lows = omega arith in rw e at c.loop-low.invariant.1

@@ -34,7 +34,7 @@ loop_again c =
     let l = c.loop-i in
     let a = c.args in
     let f = subst (FeedAnswered a.own l.low l.at a.file.now) c.in-Got.is c.read_feed-f.ensures in
-    let weight_is = to_z-of_z {w = w32} {z = c.in-Got.weight} c.in-Got.ranges.weight in
+    let weight_is = to_z-of_z {w = w32} {z = c.in-Got.weight} (record { sfits = c.in-Got.known_told-in-Got-1-own.given.1.0.1 }) in
     feeds_got l.invariant (omega arith) (omega arith) f weight_is (omega arith)
 
 returns_2 : tie.Need-returns invariant-loop decreases-loop

@@ -31,16 +31,16 @@ length_is c = c.file_length-length.ensures ∙ sym (file_length c.args.network)
 
 -- where the header is put, the record, and the header's length
 abbrev start_of : tie.After-put_header-start → tie.Start
-start_of c = let at_length = c.before.before.before in at_length.before.before.before.before.before
+start_of c = c.before.before.before.before.before.before.before
 
 abbrev headed : tie.After-put_gates-gates → tie.After-put_header-start
-headed c = let lent = c.before.before.before in lent.before.before.before.before.before.before
+headed c = c.before.before.before.before.before.before.before.before
 
 -- the lent bytes after the gates: the header, the gates, and what stood after them
 abbrev body : tie.After-put_gates-gates → List ℕ
 body c =
     let put = (headed c).put_header-start in
-    put_mid put.result (length put.last.0 - put.result) put.last.0 c.put-gates.new.0
+    put_mid put.result (length put.last.0 - put.result) put.last.0 c.put_gates-gates.new.0
 
 body_is : (c : tie.After-put_gates-gates) → let start = start_of (headed c) in
     let r = start.args.network in

@@ -20,7 +20,7 @@ small c =
 
 -- the start before the gate is taken
 abbrev start_of : tie.After-gate_at-gate → tie.Start
-start_of c = c.before.before.before.before.before.before
+start_of c = c.before.before.before.before.before
 
 -- the gate's numbers are within the limits
 scaled : (c : tie.After-gate_at-gate) → InLimits c.gate_at-gate.result
@@ -42,7 +42,7 @@ upper_line_requires c κs = (scaled c.before, (start_of c.before).requires.1)
 
 returns : tie.Need-returns-then-i-eq0
 returns c =
-    let start = start_of c in
+    let start = start_of c.before.before in
     let a = start.args in
     stands_is (even_line a.t1 a.shift a.i start.requires.0 start.requires.2 c.gate_at-gate.result c.gate_at-gate.ensures c.if-i-eq0.true)
     c.upper_line.ensures
@@ -53,7 +53,7 @@ lower_line_requires c κs = (scaled c.before, (start_of c.before).requires.1)
 returns_2 : tie.Need-returns
 returns_2 c =
     let a = c.args in
-    stands_is (odd_line a.t1 a.shift a.i c.requires.0 c.requires.2 c.gate_at-gate.result c.gate_at-gate.ensures c.if-i-eq0.false)
+    stands_is (odd_line a.network a.shift a.i c.requires.0 c.requires.2 c.gate_at-gate.result c.gate_at-gate.ensures c.if-i-eq0.false)
     c.lower_line.ensures
 
 pub gate_line_spec : {M : Type 1} → statement M

@@ -38,7 +38,7 @@ returns c =
     let a = c.args in
     stands_is
     (even_output c.requires.0 a.i c.requires.1 c.wide-p.ensures.0
-    (c.variable_of-q.ensures ∙ ap (second_variable a.t1.inputs a.t1.gates) c.wide.ensures.0) refl c.if-i-eq0.true)
+    (c.variable_of-q.ensures ∙ ap (second_variable a.first.inputs a.first.gates) c.wide.ensures.0) refl c.if-i-eq0.true)
     c.three_terms.ensures
 
 returns_2 : tie.Need-returns
@@ -46,7 +46,7 @@ returns_2 c =
     let a = c.args in
     stands_is
     (odd_output c.requires.0 a.i c.requires.1 c.wide-p.ensures.0
-    (c.variable_of-q.ensures ∙ ap (second_variable a.t1.inputs a.t1.gates) c.wide.ensures.0) refl c.if-i-eq0.false)
+    (c.variable_of-q.ensures ∙ ap (second_variable a.first.inputs a.first.gates) c.wide.ensures.0) refl c.if-i-eq0.false)
     c.three_terms-2.ensures
 
 pub output_line_spec : {M : Type 1} → statement M

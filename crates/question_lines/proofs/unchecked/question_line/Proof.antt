@@ -64,7 +64,7 @@ last_line_requires c κs = let s = small_counts (start_of c.before.before).requi
 
 returns_4 : tie.Need-returns
 returns_4 c =
-    let start = start_of c in
+    let start = start_of c.before.before.before in
     stands_is (at_last start.requires.0 start.args.i c.if-i-outputs_end.false start.requires.1) c.last_line.ensures
 
 pub question_line_spec : {M : Type 1} → statement M

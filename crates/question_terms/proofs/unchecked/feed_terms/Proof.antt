@@ -38,7 +38,7 @@ loop_holds : tie.Need-loop-i-init invariant-loop decreases-loop
 loop_holds c =
     let a = c.args in (
       omega arith,
-      stands_is (first_none a.negative (second_variable a.inputs a.shift) a.t1 (to_z w32 (of_z w32 a.right)))
+      stands_is (first_none a.negative (second_variable a.inputs a.shift) a.gate (to_z w32 (of_z w32 a.right)))
           c.no_terms-line.ensures,
     )
 
@@ -61,7 +61,7 @@ with_term_requires c κs =
     let a = in_loop.args in
     let h = below in_loop in
     stands_extendable l.invariant.1
-    (omega (arith, first_count a.negative (second_variable a.inputs a.shift) a.t1 (to_z w32 (of_z w32 a.right)) l.i))
+    (omega (arith, first_count a.negative (second_variable a.inputs a.shift) a.gate (to_z w32 (of_z w32 a.right)) l.i))
 
 add_i : tie.Need-overflow_step-i invariant-loop decreases-loop
 add_i c = let h = below c.before.before.before.before.before.before in record { fits = omega arith }
@@ -75,10 +75,10 @@ loop_again c =
     let l = in_loop.loop-i in
     let a = in_loop.args in
     let φ = second_variable a.inputs a.shift in
-    let w = get_or a.t1.weights l.i (pos 0) in
+    let w = get_or a.gate.weights l.i (pos 0) in
     let h = in_loop.loop-i-test.true in (
       omega arith,
-      stands_is (first_step a.negative φ a.t1 (to_z w32 (of_z w32 a.right)) l.i (stands_line l.invariant.1)
+      stands_is (first_step a.negative φ a.gate (to_z w32 (of_z w32 a.right)) l.i (stands_line l.invariant.1)
           (c.variable_of-variable.ensures ∙ ap φ c.wide.ensures.0)
           (read_back w32 c.signed-coefficient.type_inv (c.signed-coefficient.ensures ∙ ap (λ (z : ℤ). cond a.negative (neg_ℤ z) z) (small_back w (small in_loop)))))
           c.with_term-line.ensures,
@@ -89,11 +89,11 @@ returns c =
     let l = c.loop-i in
     let a = c.args in
     let φ = second_variable a.inputs a.shift in
-    let e : l.i ≡ a.t1.fanin = omega (arith, c.wide-i-end.ensures) in
+    let e : l.i ≡ a.gate.fanin = omega (arith, c.wide-i-end.ensures) in
     stands_is
-    (ap (λ (z : ℤ). first_terms a.negative φ a.t1 z l.i) (to_z-of_z c.ranges.right)
-    ∙ ap (first_terms a.negative φ a.t1 a.right) e
-    ∙ first_all a.negative φ a.t1 a.right)
+    (ap (λ (z : ℤ). first_terms a.negative φ a.gate z l.i) (to_z-of_z c.ranges.right)
+    ∙ ap (first_terms a.negative φ a.gate a.right) e
+    ∙ first_all a.negative φ a.gate a.right)
     l.invariant.1
 
 pub feed_terms_spec : {M : Type 1} → statement M

@@ -21,10 +21,10 @@ long c = omega (arith, header_text_length c.args.variables c.args.lines, c.requi
 
 -- where the first word is put, and the start before it
 abbrev at_start : tie.After-put_number-at → tie.Start
-at_start c = c.before.before.before.before
+at_start c = c.before.before.before.before.before
 
 abbrev at_first : tie.After-put_number → tie.After-put_number-at
-at_first c = c.before.before.before.before.before
+at_first c = c.before.before.before.before.before.before
 
 -- the first word with its number
 first : (c : tie.After-put_number-at) → TextPut (variable_word ++ decimal c.args.variables) c.put_number-at.result

@@ -33,7 +33,7 @@ right_is c = ap relation_text (to_z-of_z (size_fits w32 c.args.line.right (omega
 -- the terms leave room for the relation
 -- where the terms are put, and the start before it
 abbrev at_start : tie.After-put_terms-at → tie.Start
-at_start c = c.before.before.before.before.before.before
+at_start c = c.before.before.before.before.before
 
 abbrev at_terms : tie.After-put_relation → tie.After-put_terms-at
 at_terms c = c.before.before.before.before.before

@@ -35,7 +35,7 @@ first_room c =
 -- the right side after it
 -- where `>= ` is put, and the start before it
 abbrev at_start : tie.After-put_bytes-at → tie.Start
-at_start c = c.before.before.before.before
+at_start c = c.before.before.before.before.before
 
 abbrev at_sign : tie.After-put_right → tie.After-put_bytes-at
 at_sign c = c.before.before.before.before

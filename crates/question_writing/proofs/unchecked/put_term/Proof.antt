@@ -38,7 +38,7 @@ abbrev at_start : tie.After-put_coefficient-at → tie.Start
 at_start c = c.before.before.before
 
 abbrev at_coefficient : tie.After-put_number → tie.After-put_coefficient-at
-at_coefficient c = c.before.before.before.before.before
+at_coefficient c = c.before.before.before.before.before.before
 
 room : (c : tie.After-put_number)
     → c.put_coefficient-at.result + c.put_number.result < length (at_start (at_coefficient c)).args.out.now

@@ -32,7 +32,7 @@ decreases-loop out₀ variables coefficients count at₀ i₀ out at i = count -
 
 -- the loop's term
 abbrev here : tie.In-loop-i invariant-loop decreases-loop → Feed
-here c = let a = c.before.before.before.args in feed_at a.variables.now a.coefficients.now c.before.loop.i
+here c = let a = c.args in feed_at a.variables.now a.coefficients.now c.loop-i.i
 
 -- its numbers are small
 within : (c : tie.In-loop-i invariant-loop decreases-loop) → TermDigits 8 3 (here c)
@@ -87,7 +87,7 @@ put_term_requires c κs =
 -- the term that was written
 put : (c : tie.After-put_term-step invariant-loop decreases-loop) →
     let l = c.loop-i in
-    TextPut (term_text (here c.before.before.before.before)) c.put_term-step.result (take (length l.out - l.at) (drop l.at l.out))
+    TextPut (term_text (here c.before.before.before.before.before)) c.put_term-step.result (take (length l.out - l.at) (drop l.at l.out))
     c.put_term-step.new.0
 put c = put_text c.put_term-step.ensures (ap term_text (term_is c.before.before.before.before.before))
 
@@ -96,7 +96,7 @@ abbrev at_start : tie.In-loop-i invariant-loop decreases-loop → tie.Start inva
 at_start c = c.before.before.before
 
 abbrev in_loop : tie.After-put_term-step invariant-loop decreases-loop → tie.In-loop-i invariant-loop decreases-loop
-in_loop c = c.before.before.before.before
+in_loop c = c.before.before.before.before.before
 
 put_room : (c : tie.After-put_term-step invariant-loop decreases-loop)
     → c.loop-i.at + c.put_term-step.result ≤ length (at_start (in_loop c)).args.out.now

@@ -21,25 +21,26 @@ look_more_requires c κs =
 
 -- the first turn
 abbrev turned : tie.At-loop-turn invariant-loop decreases-loop → tie.After-merge_outputs-left invariant-loop decreases-loop
-turned c = c.before.before.before.before.before
+turned c = c.before.before.before
 
 abbrev start : tie.At-loop-turn invariant-loop decreases-loop → tie.Start invariant-loop decreases-loop
 start c = (turned c).before.before.before.before
 
 merge_outputs_requires_2 : tie.Need-merge_outputs-left-requires-in-loop-turn invariant-loop decreases-loop
 merge_outputs_requires_2 c κs =
-    c.loop-turn.invariant.2.ready ((turned c).merge_outputs-left.ensures.0.ready (start c).requires)
+    let at = c.before.before.before.before in
+    at.loop-turn.invariant.2.ready ((turned at).merge_outputs-left.ensures.0.ready (start at).requires)
 
 loop_again : tie.Need-loop-turn-preserved invariant-loop decreases-loop
 loop_again c =
-    (
+    let at = c.before.before.before.before.before in (
       omega (arith, c.loop-turn-test.true),
-      omega (arith, c.loop-turn.invariant.1, c.merge_outputs-left-in-loop-turn.ensures.1),
-      kept_then ((turned c).merge_outputs-left.ensures.0.ready (start c).requires) c.loop-turn.invariant.2 c.merge_outputs-left-in-loop-turn.ensures.0,
+      omega (arith, at.loop-turn.invariant.1, c.merge_outputs-left-in-loop-turn.ensures.1),
+      kept_then ((turned at).merge_outputs-left.ensures.0.ready (start at).requires) at.loop-turn.invariant.2 c.merge_outputs-left-in-loop-turn.ensures.0,
     )
 
 returns : tie.Need-returns invariant-loop decreases-loop
-returns c = (kept_then (start c).requires (turned c).merge_outputs-left.ensures.0 c.loop-turn.invariant.2, c.loop-turn.invariant.1)
+returns c = let at = c.before in (kept_then (start at).requires (turned at).merge_outputs-left.ensures.0 at.loop-turn.invariant.2, at.loop-turn.invariant.1)
 
 pub merge_rounds_spec : {M : Type 1} → statement M
 merge_rounds_spec =
