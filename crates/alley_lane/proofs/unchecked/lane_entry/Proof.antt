@@ -21,7 +21,7 @@ complete c = not-false _ c.if-not-found.false
 sub_file_entry : tie.Need-slice_bounds-file_entry-count
 sub_file_entry c = omega (arith, c.requires.long (complete c))
 
-part_file_entry_start : tie.Need-slice-bounds-file-entry-start
+part_file_entry_start : tie.Need-slice_bounds-file_entry-start
 part_file_entry_start c = omega (arith, c.before.before.before.requires.long (complete c))
 
 returns_2 : tie.Need-returns

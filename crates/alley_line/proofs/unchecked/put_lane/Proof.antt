@@ -55,7 +55,7 @@ put_decimal_requires c κs = short c.before.before
 sub_put_last : tie.Need-slice_bounds-put_last-count
 sub_put_last c = omega (arith, first_long c.before.before.before, refused_room c)
 
-part_put_last_start : tie.Need-slice-bounds-put-last-start
+part_put_last_start : tie.Need-slice_bounds-put_last-start
 part_put_last_start c = omega (arith, first_long c.before.before.before, refused_room c)
 
 put_last_requires : tie.Need-put_last-requires
@@ -101,7 +101,7 @@ size_room c =
 sub_put_size : tie.Need-slice_bounds-put_size-count
 sub_put_size c = omega (arith, first_long c.before.before.before, size_room c)
 
-part_put_size_start : tie.Need-slice-bounds-put-size-start
+part_put_size_start : tie.Need-slice_bounds-put_size-start
 part_put_size_start c = omega (arith, first_long c.before.before.before, size_room c)
 
 put_size_requires : tie.Need-put_size-requires
@@ -139,14 +139,12 @@ put_lane_spec =
     part_put_last_start
     (λ c. search rules)
     (λ c. search rules)
-    (λ c. search rules)
     put_last_requires
     add_result
     same_length
     returns
     sub_put_size
     part_put_size_start
-    (λ c. search rules)
     (λ c. search rules)
     put_size_requires
     add_result_2

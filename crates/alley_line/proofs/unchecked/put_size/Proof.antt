@@ -31,7 +31,7 @@ put_number_requires c κs = omega (arith, long c.before.before.before)
 sub_put_last : tie.Need-slice_bounds-put_last-count
 sub_put_last c = let done = c.before.before in omega (arith, first_long done, first_room done)
 
-part_put_last_start : tie.Need-slice-bounds-put-last-start
+part_put_last_start : tie.Need-slice_bounds-put_last-start
 part_put_last_start c = let done = c.before.before in omega (arith, first_long done, first_room done)
 
 put_last_requires : tie.Need-put_last-requires
@@ -67,7 +67,6 @@ put_size_spec =
     put_number_requires
     sub_put_last
     part_put_last_start
-    (λ c. search rules)
     (λ c. search rules)
     put_last_requires
     add_result

@@ -22,4 +22,4 @@ returns c =
     (c.put_size.ensures, omega (arith, c.put_size.ensures.long, short c.before.before.before.before.before.before.before))
 
 pub put_total_spec : {M : Type 1} → statement M
-put_total_spec = tie.close (tie.spec (λ c. search rules) put_size_requires (λ c. search rules) returns)
+put_total_spec = tie.close (tie.spec put_size_requires (λ c. search rules) returns)

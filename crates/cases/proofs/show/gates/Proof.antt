@@ -15,11 +15,9 @@ gates_spec =
     (tie.spec
     invariant-loop
     decreases-loop
-    (λ c. search rules)
     (λ c κs. search rules)
     (λ c. search rules)
     (λ c κs. search rules)
-    (λ c. search rules)
     (λ c. search rules)
     (λ c. search rules)
     (λ c. search rules)

@@ -46,7 +46,7 @@ module _ (c : tie.After-kept invariant-loop decreases-loop) where
   share = cond (is_on (get_or start.args.row.now at.loop-f.f (pos 0))) (to_z w32 (of_z w32 start.args.weight)) (pos 0)
 
   before_is : to_z w32 (of_z w32 (get_or at.loop-f.sums at.loop-f.f (pos 0))) ≡ before
-  before_is = to_z-of_z (record { sfits = c.sums-1.given }) ∙ at.loop-f.inv.1.after at.loop-f.f (omega arith)
+  before_is = to_z-of_z {w = w32} (record { sfits = c.sums-1.given }) ∙ at.loop-f.invariant.1.after at.loop-f.f (omega arith)
 
   share_is : to_z w32 (of_z w32 c.kept.result) ≡ share
   share_is =

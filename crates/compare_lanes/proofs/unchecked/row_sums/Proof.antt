@@ -50,11 +50,11 @@ unfolding lane_bits
 add_feed_requires c κs =
     let s = start c.before in
     let loop = (at c.before).loop-i in
-    let fits : SFits w32 (get_or s.args.weights.now (1 + loop.i) (pos 0)) = record { sfits = c.add-feed-arg2.given } in
+    let fits : SFits w32 (get_or s.args.weights.now (1 + loop.i) (pos 0)) = record { sfits = c.add_feed-arg-1.given } in
     record {
       masked = (s.requires.1.row (signal c.before) (low c.before)).mask;
       light = rw (to_z-of_z fits) (s.requires.0.small (1 + loop.i));
-      small = lanes_small loop.inv (omega arith) (omega (arith, s.requires.0.few, (at c.before).signal_index-count.ensures));
+      small = lanes_small loop.invariant (omega arith) (omega (arith, s.requires.0.few, (at c.before).signal_index-count.ensures));
     }
 
 loop_again : tie.Need-loop-i-preserved invariant-loop decreases-loop
@@ -62,8 +62,8 @@ loop_again c =
     let turn = c.before.before in
     let s = start turn in
     let loop = (at turn).loop-i in
-    let fits : SFits w32 (get_or s.args.weights.now (1 + loop.i) (pos 0)) = record { sfits = c.add-feed-arg2.given } in
-    lanes_next loop.inv s.requires.0.small (omega arith) (signal turn) _ turn.signal_index-signal.ensures (to_z-of_z fits) c.add_feed.ensures
+    let fits : SFits w32 (get_or s.args.weights.now (1 + loop.i) (pos 0)) = record { sfits = c.add_feed-arg-1.given } in
+    lanes_next loop.invariant s.requires.0.small (omega arith) (signal turn) _ turn.signal_index-signal.ensures (to_z-of_z fits) c.add_feed.ensures
 
 returns : tie.Need-returns invariant-loop decreases-loop
 returns c = lanes_all c.loop-i.invariant (omega arith) c.signal_index-count.ensures

@@ -54,14 +54,14 @@ heaviest_spec =
     (λ c. search rules)
     (λ c. let h = in_table c in search rules)
     (λ c. let h = in_table c in search rules)
-    in_table
+    (λ c. in_table c.before)
     (λ c κs. search rules)
-    (λ c. let h = in_table c.before.before in search rules)
-    (λ c. in_table c.before.before)
+    (λ c. let h = in_table c.before.before.before in search rules)
+    (λ c. in_table c.before.before.before)
     (λ c κs. search rules)
     (λ c κs. search rules)
     add_size
-    (λ c. signal_there c.before.before.before)
+    (λ c. signal_there c.before.before.before.before)
     (λ c. search rules)
     (λ c. search rules)
     (λ c. search rules)

@@ -144,13 +144,13 @@ ends_of_spec =
     loop_holds
     (λ c. let h = in_table c in search rules)
     (λ c. let h = in_table c in search rules)
-    in_table
+    (λ c. in_table c.before)
     (λ c κs. search rules)
-    signal_there
-    (λ c. let h = signal_there c.before in record { fits = omega arith })
     (λ c. signal_there c.before)
-    (λ c. let h = in_table c.before.before.before.before in search rules)
-    (λ c. in_table c.before.before.before.before)
+    (λ c. let h = signal_there c.before.before in record { fits = omega arith })
+    (λ c. signal_there c.before.before.before)
+    (λ c. let h = in_table c.before.before.before.before.before.before.before in search rules)
+    (λ c. in_table c.before.before.before.before.before.before.before)
     (λ c κs. search rules)
     (λ c κs. search rules)
     (λ c κs. search rules)

@@ -43,7 +43,7 @@ scaled : (c : tie.After-signal_index-signal invariant-loop decreases-loop) → F
 scaled c = let h = signal_there c in record { fits = omega arith }
 
 settled_bit_requires : tie.Need-settled_bit-bit-requires invariant-loop decreases-loop
-settled_bit_requires c κs = let s = start c.before.before.before.before.before.before.before.before in rw (to_z-of_z s.fits.room) s.requires.1
+settled_bit_requires c κs = let s = start c.before.before.before.before.before.before.before.before in rw (to_z-of_z s.ranges.room) s.requires.1
 
 loop_again : tie.Need-loop-i-preserved invariant-loop decreases-loop
 loop_again c =
@@ -73,18 +73,18 @@ settle_feeds_spec =
     (λ c. settling_none)
     (λ c. let h = in_table c in search rules)
     (λ c. let h = in_table c in search rules)
-    in_table
+    (λ c. in_table c.before)
     (λ c κs. search rules)
-    (λ c. let h = in_table c.before.before in search rules)
-    (λ c. in_table c.before.before)
-    (λ c. signal_there c.before)
-    (λ c. scaled c.before.before)
+    (λ c. let h = in_table c.before.before.before in search rules)
+    (λ c. in_table c.before.before.before)
     (λ c. signal_there c.before.before)
+    (λ c. scaled c.before.before.before)
+    (λ c. signal_there c.before.before.before.before)
     settled_bit_requires
     (λ c κs. search rules)
-    (λ c. signal_there c.before.before.before.before.before)
-    (λ c. scaled c.before.before.before.before.before)
-    (λ c. signal_there c.before.before.before.before.before)
+    (λ c. signal_there c.before.before.before.before.before.before.before)
+    (λ c. scaled c.before.before.before.before.before.before.before)
+    (λ c. signal_there c.before.before.before.before.before.before.before)
     (λ c. search rules)
     (λ c. search rules)
     loop_again

@@ -15,7 +15,7 @@ align_with_u_requires : tie.Need-align_with_u-a-requires
 align_with_u_requires c κs = c.requires
 
 abbrev edge : tie.Start → Edge
-edge c = edge_between c.args.board c.args.gate-u c.args.gate-v c.args.u c.args.v
+edge c = edge_between c.args.board c.args.gate_u c.args.gate_v c.args.u c.args.v
 
 -- the sign of b, as it is tested
 tested : (c : tie.After-align_with_u-a) → let t = c.align_with_u-a.result.thresholds in

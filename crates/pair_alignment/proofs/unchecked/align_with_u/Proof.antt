@@ -29,7 +29,7 @@ decreases-loop board gate-u gate-v u v in_u_lem in_v_lem b signals₀ us₀ vs�
 
 -- the edge, and the bounds of its signals
 abbrev edge : tie.Start invariant-loop decreases-loop → Edge
-edge c = edge_between c.args.board c.args.gate-u c.args.gate-v c.args.u c.args.v
+edge c = edge_between c.args.board c.args.gate_u c.args.gate_v c.args.u c.args.v
 
 -- the start, and the two tables, from where the loop stands
 abbrev start : tie.At-loop-s invariant-loop decreases-loop → tie.Start invariant-loop decreases-loop
@@ -79,10 +79,10 @@ test_is c =
     rw (x_is c.before.before, y_is c.before) at c.either.ensures ∙ sym (among_is (edge a) a.requires.ok at_loop.loop-s.s)
 
 spread_requires : tie.Need-spread-in_u-requires invariant-loop decreases-loop
-spread_requires c κs = omega (arith, c.requires.ok.ok_u.few, length_gate_in c.args.gate-u)
+spread_requires c κs = omega (arith, c.requires.ok.ok_u.few, length_gate_in c.args.gate_u)
 
 spread_requires_2 : tie.Need-spread-in_v-requires invariant-loop decreases-loop
-spread_requires_2 c κs = omega (arith, c.requires.ok.ok_v.few, length_gate_in c.args.gate-v)
+spread_requires_2 c κs = omega (arith, c.requires.ok.ok_v.few, length_gate_in c.args.gate_v)
 
 mul_b : tie.Need-offset_bounds-in_v-u invariant-loop decreases-loop
 mul_b c = record { fits = omega (arith, u_low c.before.before) }
@@ -130,14 +130,14 @@ loop_again c =
       omega arith,
       ⊎_elim
           (λ w.
-          let yes = same ∙ w.0.taken in
+          let yes = same ∙ w.if-either.true in
           let y = y_is c.before.before ∙ other_is (edge a) a.requires.ok l.s yes in
-          rw (w.2, w.3, w.4, w.5)
+          rw (w.signals-is, w.us-is, w.vs-is, w.count-is)
           (⊎_elim
-          (λ t. rw (t.1, t.2, t.3) (step _ _ yes (x_is c.before.before.before) y))
-          (λ t. rw (t.1, t.2, t.3) (listed_full (edge a) l.s l.count l.signals l.us l.vs l.invariant.1 yes t.0.left))
-          w.1.came))
-          (λ w. rw (w.1, w.2, w.3, w.4) (listed_skip (edge a) l.s l.count l.signals l.us l.vs l.invariant.1 (same ∙ w.0.left)))
+          (λ t. rw (t.signals-is, t.us-is, t.vs-is) (step _ _ yes (x_is c.before.before.before) y))
+          (λ t. rw (t.signals-is, t.us-is, t.vs-is) (listed_full (edge a) l.s l.count l.signals l.us l.vs l.invariant.1 yes t.if-count-lt16.false))
+          w.if-count-lt16.branch-raw))
+          (λ w. rw (w.signals-is, w.us-is, w.vs-is, w.count-is) (listed_skip (edge a) l.s l.count l.signals l.us l.vs l.invariant.1 (same ∙ w.if-either.false)))
           c.if-either.branch-raw,
     )
 
@@ -149,13 +149,13 @@ b_is c =
     read_back w32 {r = get_or c.spread-in_v.result a.args.u (pos 0)} c.b-1.given
     (ap (λ t. get_or t a.args.u (pos 0)) c.spread-in_v.ensures ∙ table_at (edge a).gate_v.feeds a.args.u (u_low a))
 
-own_is : (c : tie.Start invariant-loop decreases-loop) → to_z w32 (of_z w32 c.args.gate-u.threshold) ≡ (edge c).gate_u.threshold
+own_is : (c : tie.Start invariant-loop decreases-loop) → to_z w32 (of_z w32 c.args.gate_u.threshold) ≡ (edge c).gate_u.threshold
 unfolding gate_in
-own_is c = read_back w32 {r = c.args.gate-u.threshold} (search rules) refl
+own_is c = read_back w32 {r = c.args.gate_u.threshold} (search rules) refl
 
-off_is : (c : tie.Start invariant-loop decreases-loop) → to_z w32 (of_z w32 c.args.gate-v.threshold) ≡ (edge c).gate_v.threshold
+off_is : (c : tie.Start invariant-loop decreases-loop) → to_z w32 (of_z w32 c.args.gate_v.threshold) ≡ (edge c).gate_v.threshold
 unfolding gate_in
-off_is c = read_back w32 {r = c.args.gate-v.threshold} (search rules) refl
+off_is c = read_back w32 {r = c.args.gate_v.threshold} (search rules) refl
 
 on_fits : (c : tie.Start invariant-loop decreases-loop) → SFits w32 ((edge c).gate_v.threshold -ℤ feed_weight (edge c))
 on_fits c = size_fits w32 _ (omega (arith, (fed_small (edge c) c.requires.ok).on))

@@ -32,7 +32,7 @@ module _ (c : tie.After-clears_between) where
   sum_is : to_z w32 (of_z w32 c.mixed-sum.result) ≡ mix start.args.k start.args.l start.args.su start.args.sv
   sum_is =
       let m = c.mixed-sum in
-      read_back w32 m.type_inv (simp (to_z-of_z start.fits.su, to_z-of_z start.fits.sv) at m.ensures)
+      read_back w32 m.type_inv (simp (to_z-of_z start.ranges.su, to_z-of_z start.ranges.sv) at m.ensures)
 
   upper_is : to_z w32 (of_z w32 c.upper_threshold-upper.result) ≡ mixed_threshold t start.args.k start.args.l +ℤ pos t.board.on
   upper_is = read_back w32 c.upper_threshold-upper.type_inv c.upper_threshold-upper.ensures
@@ -44,7 +44,7 @@ returns : tie.Need-returns
 unfolding clears clears_between
 returns c =
     let s = start c in
-    simp (sum_is c, upper_is c, lower_is c, to_z-of_z s.fits.su, to_z-of_z s.fits.sv) at c.clears_between.ensures
+    simp (sum_is c, upper_is c, lower_is c, to_z-of_z s.ranges.su, to_z-of_z s.ranges.sv) at c.clears_between.ensures
 
 pub clears_spec : {M : Type 1} → statement M
 clears_spec = tie.close (tie.spec mixed_requires upper_threshold_requires lower_threshold_requires (λ c κs. search rules) returns)

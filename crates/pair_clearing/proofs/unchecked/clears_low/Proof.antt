@@ -17,10 +17,10 @@ module _ (c : tie.Start) where
   at = c.args.low
 
   u_is : to_z w32 (of_z w32 (get_or c.args.sums_u.now at (pos 0))) ≡ get_or c.args.sums_u.now at (pos 0)
-  u_is = place_held c.args.sums-u.now c.requires.0.u_small at
+  u_is = place_held c.args.sums_u.now c.requires.0.u_small at
 
   v_is : to_z w32 (of_z w32 (get_or c.args.sums_v.now at (pos 0))) ≡ get_or c.args.sums_v.now at (pos 0)
-  v_is = place_held c.args.sums-v.now c.requires.0.v_small at
+  v_is = place_held c.args.sums_v.now c.requires.0.v_small at
 
 clears_requires : tie.Need-clears-requires
 clears_requires c κs =

@@ -16,10 +16,10 @@ module _ (c : tie.Start) where
   at = 256 + c.args.high
 
   u_is : to_z w32 (of_z w32 (get_or c.args.sums_u.now at (pos 0))) ≡ get_or c.args.sums_u.now at (pos 0)
-  u_is = place_held c.args.sums-u.now c.requires.0.u_small at
+  u_is = place_held c.args.sums_u.now c.requires.0.u_small at
 
   v_is : to_z w32 (of_z w32 (get_or c.args.sums_v.now at (pos 0))) ≡ get_or c.args.sums_v.now at (pos 0)
-  v_is = place_held c.args.sums-v.now c.requires.0.v_small at
+  v_is = place_held c.args.sums_v.now c.requires.0.v_small at
 
 less_high_half_requires : tie.Need-less_high_half-requires
 less_high_half_requires c κs = let s = c.before.before in rw (u_is s, v_is s) (s.requires.1.0, (s.requires.0.u_small (at s), s.requires.0.v_small (at s)))

@@ -31,11 +31,11 @@ module _ (c : tie.In-loop-low invariant-loop decreases-loop) where
   abbrev at : ℕ
   at = c.loop-low.low
 
-  u_is : to_z w32 (of_z w32 (get_or start.args.sums-u.now at (pos 0))) ≡ get_or start.args.sums-u.now at (pos 0)
-  u_is = place_held start.args.sums-u.now start.requires.0.u_small at
+  u_is : to_z w32 (of_z w32 (get_or start.args.sums_u.now at (pos 0))) ≡ get_or start.args.sums_u.now at (pos 0)
+  u_is = place_held start.args.sums_u.now start.requires.0.u_small at
 
-  v_is : to_z w32 (of_z w32 (get_or start.args.sums-v.now at (pos 0))) ≡ get_or start.args.sums-v.now at (pos 0)
-  v_is = place_held start.args.sums-v.now start.requires.0.v_small at
+  v_is : to_z w32 (of_z w32 (get_or start.args.sums_v.now at (pos 0))) ≡ get_or start.args.sums_v.now at (pos 0)
+  v_is = place_held start.args.sums_v.now start.requires.0.v_small at
 
 mixed_requires : tie.Need-mixed-requires invariant-loop decreases-loop
 mixed_requires c κs =

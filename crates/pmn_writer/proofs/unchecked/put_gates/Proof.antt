@@ -58,7 +58,7 @@ gate_at_requires c κs = let h = c.requires.0.few_gates in omega arith
 sub_put_gate : tie.Need-slice_bounds-put_gate-count invariant-loop decreases-loop
 sub_put_gate c = omega (arith, room c.before)
 
-part_put_gate_start : tie.Need-slice-bounds-put-gate-start invariant-loop decreases-loop
+part_put_gate_start : tie.Need-slice_bounds-put_gate-start invariant-loop decreases-loop
 part_put_gate_start c = omega (arith, room c.before)
 
 put_gate_requires : tie.Need-put_gate-step-requires invariant-loop decreases-loop

@@ -96,7 +96,7 @@ room c =
 sub_put_gates : tie.Need-slice_bounds-put_gates-count
 sub_put_gates c = omega (arith, room c.before.before)
 
-part_put_gates_start : tie.Need-slice-bounds-put-gates-start
+part_put_gates_start : tie.Need-slice_bounds-put_gates-start
 part_put_gates_start c = omega (arith, room c.before.before)
 
 put_gates_requires : tie.Need-put_gates-gates-requires

@@ -21,7 +21,7 @@ room c = omega (arith, c.put_board-at.ensures.0, c.put_board-at.auto.0, mark_byt
 sub_put_counts : tie.Need-slice_bounds-put_counts-count
 sub_put_counts c = omega (arith, room c.before.before)
 
-part_put_counts_start : tie.Need-slice-bounds-put-counts-start
+part_put_counts_start : tie.Need-slice_bounds-put_counts-start
 part_put_counts_start c = omega (arith, room c.before.before)
 
 put_counts_requires : tie.Need-put_counts-requires

@@ -15,7 +15,7 @@ use Rattle.pmn_writing.proofs.unchecked.put_pair.Tie as tie
 sub_put_int : tie.Need-slice_bounds-put_int-count
 sub_put_int c = simp length-set (omega arith)
 
-part_put_int_start : tie.Need-slice-bounds-put-int-start
+part_put_int_start : tie.Need-slice_bounds-put_int-start
 part_put_int_start c = simp length-set (omega arith)
 
 put_int_requires : tie.Need-put_int-requires

@@ -44,7 +44,7 @@ returns : tie.Need-returns-then-i-eq0
 returns c =
     let start = start_of c.before.before in
     let a = start.args in
-    stands_is (even_line a.t1 a.shift a.i start.requires.0 start.requires.2 c.gate_at-gate.result c.gate_at-gate.ensures c.if-i-eq0.true)
+    stands_is (even_line a.network a.shift a.i start.requires.0 start.requires.2 c.gate_at-gate.result c.gate_at-gate.ensures c.if-i-eq0.true)
     c.upper_line.ensures
 
 lower_line_requires : tie.Need-lower_line-requires

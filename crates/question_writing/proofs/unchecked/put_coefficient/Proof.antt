@@ -48,11 +48,9 @@ put_coefficient_spec =
     (tie.spec
     (λ c κs. search rules)
     (λ c. search rules)
-    (λ c. search rules)
     put_number_requires
     (λ c. search rules)
     returns
-    (λ c. search rules)
     put_number_requires_2
     (λ c. search rules)
     returns_2)

@@ -59,7 +59,7 @@ put_number_requires c κs = omega (arith, long c.before.before.before.before)
 sub_put_number : tie.Need-slice_bounds-put_number-count
 sub_put_number c = omega (arith, first_long c.before.before, first_room c.before.before)
 
-part_put_number_start : tie.Need-slice-bounds-put-number-start
+part_put_number_start : tie.Need-slice_bounds-put_number-start
 part_put_number_start c = omega (arith, first_long c.before.before, first_room c.before.before)
 
 put_number_requires_2 : tie.Need-put_number-requires
@@ -93,11 +93,9 @@ pub put_header_spec : {M : Type 1} → statement M
 put_header_spec =
     tie.close
     (tie.spec
-    (λ c. search rules)
     put_number_requires
     sub_put_number
     part_put_number_start
-    (λ c. search rules)
     (λ c. search rules)
     put_number_requires_2
     add_end

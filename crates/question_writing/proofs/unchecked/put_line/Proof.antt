@@ -61,7 +61,7 @@ put_terms_requires c κs =
 sub_put_relation : tie.Need-slice_bounds-put_relation-count
 sub_put_relation c = omega (arith, terms_long c.before.before, room c.before.before)
 
-part_put_relation_start : tie.Need-slice-bounds-put-relation-start
+part_put_relation_start : tie.Need-slice_bounds-put_relation-start
 part_put_relation_start c = omega (arith, terms_long c.before.before, room c.before.before)
 
 put_relation_requires : tie.Need-put_relation-requires

@@ -71,7 +71,7 @@ put_bytes_requires c κs = omega (arith, long c.before.before.before.before)
 sub_put_right : tie.Need-slice_bounds-put_right-count
 sub_put_right c = omega (arith, first_room c.before.before, long c.before.before.before.before.before.before.before)
 
-part_put_right_start : tie.Need-slice-bounds-put-right-start
+part_put_right_start : tie.Need-slice_bounds-put_right-start
 part_put_right_start c = omega (arith, first_room c.before.before, long c.before.before.before.before.before.before)
 
 put_right_requires : tie.Need-put_right-requires
@@ -89,7 +89,7 @@ add_end c = record {
 sub_put_bytes : tie.Need-slice_bounds-put_bytes-count
 sub_put_bytes c = omega (arith, second_long c.before.before, room c.before.before)
 
-part_put_bytes_start : tie.Need-slice-bounds-put-bytes-start
+part_put_bytes_start : tie.Need-slice_bounds-put_bytes-start
 part_put_bytes_start c = omega (arith, second_long c.before.before, room c.before.before)
 
 put_bytes_requires_2 : tie.Need-put_bytes-requires
@@ -128,7 +128,6 @@ pub put_relation_spec : {M : Type 1} → statement M
 put_relation_spec =
     tie.close
     (tie.spec
-    (λ c. search rules)
     put_bytes_requires
     sub_put_right
     part_put_right_start
@@ -137,7 +136,6 @@ put_relation_spec =
     add_end
     sub_put_bytes
     part_put_bytes_start
-    (λ c. search rules)
     (λ c. search rules)
     put_bytes_requires_2
     add_result

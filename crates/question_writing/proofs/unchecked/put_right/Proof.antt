@@ -47,7 +47,6 @@ put_right_spec =
     (tie.spec
     (λ c κs. search rules)
     (λ c. search rules)
-    (λ c. search rules)
     put_number_requires
     (λ c. search rules)
     returns

@@ -59,11 +59,8 @@ put_coefficient_requires c κs = let start = c.before.before in
 sub_put_number : tie.Need-slice_bounds-put_number-count
 sub_put_number c = omega (arith, first_long c.before.before, first_room c.before.before)
 
-part_put_number_start : tie.Need-slice-bounds-put-number-start
+part_put_number_start : tie.Need-slice_bounds-put_number-start
 part_put_number_start c = omega (arith, first_long c.before.before, first_room c.before.before)
-
-add_put_number : tie.Need-overflow_add-variable
-add_put_number c = record { fits = omega (arith, c.requires.0) }
 
 put_number_requires : tie.Need-put_number-requires
 put_number_requires c κs =
@@ -101,7 +98,6 @@ put_term_spec =
     part_put_number_start
     (λ c. search rules)
     (λ c. search rules)
-    add_put_number
     put_number_requires
     add_end
     slice_write_out

@@ -74,7 +74,7 @@ loop_holds c =
 sub_put_term : tie.Need-slice_bounds-put_term-count invariant-loop decreases-loop
 sub_put_term c = omega (arith, room c, long c)
 
-part_put_term_start : tie.Need-slice-bounds-put-term-start invariant-loop decreases-loop
+part_put_term_start : tie.Need-slice_bounds-put_term-start invariant-loop decreases-loop
 part_put_term_start c = omega (arith, room c, long c)
 
 put_term_requires : tie.Need-put_term-step-requires invariant-loop decreases-loop

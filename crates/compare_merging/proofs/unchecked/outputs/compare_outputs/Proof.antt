@@ -53,10 +53,10 @@ compare_outputs_spec =
     invariant-loop
     decreases-loop
     (λ c. (omega arith, omega arith, λ j h. absurd (omega arith)))
-    below
+    (λ c. below c.before)
     (λ c κs. search rules)
-    (λ c. let h = below c.before.before in search rules)
-    (λ c. below c.before.before)
+    (λ c. let h = below c.before.before.before in search rules)
+    (λ c. below c.before.before.before.before)
     (λ c. (c.before.before.before.before.before.loop.invariant.1, λ e. absurd (false≢true e)))
     (λ c κs. search rules)
     decide_twice_requires

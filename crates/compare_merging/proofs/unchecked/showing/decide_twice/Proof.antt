@@ -15,7 +15,7 @@ pub decide_twice_spec : {M : Type 1} → statement M
 decide_twice_spec =
     tie.close
     (tie.spec
-    (λ c. (omega arith, λ e. one_alike _ _ _ c.if1.true))
+    (λ c. (omega arith, λ e. one_alike _ _ _ c.if-p-q.true))
     (λ c κs. search rules)
     (λ c. search rules)
     (λ c. search rules)

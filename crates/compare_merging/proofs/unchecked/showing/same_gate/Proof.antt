@@ -48,16 +48,16 @@ same_gate_spec =
     (λ c κs. search rules)
     loop_holds
     (λ c. let h = in_rows c in search rules)
-    in_rows
-    (λ c. let h = in_rows c.before in search rules)
     (λ c. in_rows c.before)
-    (λ c e. absurd (false≢true e))
-    (λ c. let h = in_rows c.before.before.before in search rules)
+    (λ c. let h = in_rows c.before.before in search rules)
     (λ c. in_rows c.before.before.before)
-    (λ c. let h = in_rows c.before.before.before.before in search rules)
-    (λ c. in_rows c.before.before.before.before)
     (λ c e. absurd (false≢true e))
+    (λ c. let h = in_rows c.before.before.before.before.before in search rules)
+    (λ c. in_rows c.before.before.before.before.before)
     (λ c. let h = in_rows c.before.before.before.before.before.before in search rules)
+    (λ c. in_rows c.before.before.before.before.before.before)
+    (λ c e. absurd (false≢true e))
+    (λ c. let h = in_rows c.before.before.before.before.before.before.before.before in search rules)
     (λ c. search rules)
     loop_again
     returns_3)
