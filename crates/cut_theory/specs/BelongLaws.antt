@@ -71,7 +71,8 @@ unfolding belongs added
 named_belongs d n [] i h e = absurd (omega arith)
 named_belongs d n (g ∷ gs) zero h e =
     let same : d ≡ n = omega arith in
-    rw same (T_or (eqb n n) (not (all (silent n) (picked (belongs n (suc n) gs) gs))) (eqb_refl n))
+    subst (λ (x : ℕ). T (get_or (belongs x n (g ∷ gs)) 0 false)) (sym same)
+    (T_or (eqb n n) (not (all (silent n) (picked (belongs n (suc n) gs) gs))) (eqb_refl n))
 named_belongs d n (g ∷ gs) (suc i) h e = named_belongs d (suc n) gs i (omega arith) (omega arith)
 
 -- a gate that a marked gate after it reads is marked

@@ -101,7 +101,7 @@ changed_insert gs g x l = record {
 feed_raised : (u : ℕ) (fs : List Feed) (i : ℕ) → 0 < u → get_or (map (raised_feed u) fs) i no_feed ≡ raised_feed u (get_or fs i no_feed)
 unfolding raised_feed
 feed_raised u fs i h = subst (λ (f : Feed). get_or (map (raised_feed u) fs) i f ≡ raised_feed u (get_or fs i no_feed))
-    (λ x. record { signal = raised_low u 0 h x; weight = pos 0 }) (ListN.get_d_map (raised_feed u) fs i no_feed)
+    (λ x. record { signal = raised_low u 0 h x; weight = pos 0 }) (ListN.get_or-map (raised_feed u) fs i no_feed)
 
 -- the raised gates with an empty one put in
 abbrev raised_with_gap : ℕ → ℕ → List Gate → List Gate
@@ -113,7 +113,7 @@ module _ (u g : ℕ) (gs : List Gate) (up : 0 < u) (l : g ≤ length gs) (few : 
   gate_opened h =
       let long = length-map gs (raised_gate u) in
       insert_at_lem no_gate 128 g h (map (raised_gate u) gs) (omega (arith, long)) (omega (arith, long))
-      ∙ ListN.get_d_map (raised_gate u) gs (source 128 g 1 h) no_gate
+      ∙ ListN.get_or-map (raised_gate u) gs (source 128 g 1 h) no_gate
 
   -- the feed of the place that moves to place p
   place_moved : (p : ℕ) → get_or (nth_gate gs (source 128 g 1 (p / 16))).feeds (p % 16) no_feed ≡ place_of gs (source 2048 (16 * g) 16 p)

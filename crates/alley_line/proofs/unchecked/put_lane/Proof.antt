@@ -24,7 +24,7 @@ long c = omega (arith, lane_short c.args.position c.requires.0 (entry_in c.args.
 short : (c : tie.Start) → length (decimal c.args.position) ≤ length c.args.out.now
 short c = omega (arith, decimal_short c.args.position 4 (omega (arith, c.requires.0)), c.requires.1.1)
 
-first_long : (c : tie.After-put_decimal-at) → length c.put_decimal-at.new.0 ≡ length c.args.out.now
+first_long : (c : tie.After-put_decimal-at) → length c.put_decimal-at.new.out ≡ length c.args.out.now
 first_long c = put_length c.put_decimal-at.ensures (omega (arith, c.put_decimal-at.ensures.long, short c.before.before.before))
 
 -- a refusal's line
@@ -62,7 +62,7 @@ put_last_requires : tie.Need-put_last-requires
 put_last_requires c κs =
     let at_then = c.before.before.before in
     let done = c.before.before.before.before.before.before in
-    omega (arith, first_long done, refused_room at_then, tail_length done.put_decimal-at.result done.put_decimal-at.new.0)
+    omega (arith, first_long done, refused_room at_then, tail_length done.put_decimal-at.result done.put_decimal-at.new.out)
 
 refused_end : (c : tie.After-put_last) → 
     c.put_decimal-at.result + c.put_last.result ≤ length c.args.out.now
@@ -108,7 +108,7 @@ put_size_requires : tie.Need-put_size-requires
 put_size_requires c κs =
     let at_else = c.before.before.before in
     let done = c.before.before.before.before.before.before in
-    omega (arith, first_long done, size_room at_else, tail_length done.put_decimal-at.result done.put_decimal-at.new.0)
+    omega (arith, first_long done, size_room at_else, tail_length done.put_decimal-at.result done.put_decimal-at.new.out)
 
 size_end : (c : tie.After-put_size) → 
     c.put_decimal-at.result + c.put_size.result ≤ length c.args.out.now

@@ -22,7 +22,7 @@ first_room c =
     let start = c.before.before.before.before in
     omega (arith, c.put_number-at.ensures.long, length-append start.args.word.now (decimal start.args.gates), long start)
 
-first_long : (c : tie.After-put_number-at) → length c.put_number-at.new.0 ≡ length c.args.out.now
+first_long : (c : tie.After-put_number-at) → length c.put_number-at.new.out ≡ length c.args.out.now
 first_long c = put_length c.put_number-at.ensures (omega (arith, first_room c))
 
 put_number_requires : tie.Need-put_number-at-requires
@@ -37,7 +37,7 @@ part_put_last_start c = let done = c.before.before in omega (arith, first_long d
 put_last_requires : tie.Need-put_last-requires
 put_last_requires c κs =
     let done = c.before.before.before.before.before in
-    omega (arith, first_long done, first_room done, tail_length done.put_number-at.result done.put_number-at.new.0)
+    omega (arith, first_long done, first_room done, tail_length done.put_number-at.result done.put_number-at.new.out)
 
 -- the cost has room
 end : (c : tie.After-put_last) → let done = c.before.before.before.before.before.before in

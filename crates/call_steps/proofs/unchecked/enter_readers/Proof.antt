@@ -76,16 +76,16 @@ cast_enter_gate : tie.Need-overflow_cast-signal invariant-loop decreases-loop
 cast_enter_gate c =
     let turn = turn_of c in
     let z = sizes turn.before in
-    omega (arith, z.few_inputs, z.few_gates, turn.loop-test.taken)
+    omega (arith, z.few_inputs, z.few_gates, turn.loop-g-test.true)
 
 enter_gate_requires : tie.Need-enter_gate-requires invariant-loop decreases-loop
-enter_gate_requires c κs = let turn = turn_of c in omega (arith, (sizes turn.before).few_gates, turn.loop-test.taken)
+enter_gate_requires c κs = let turn = turn_of c in omega (arith, (sizes turn.before).few_gates, turn.loop-g-test.true)
 
 add_g_2 : tie.Need-overflow_step-g-in-loop-g invariant-loop decreases-loop
-add_g_2 c = let turn = turn_of c.before.before in omega (arith, (sizes turn.before).few_gates, turn.loop-test.taken)
+add_g_2 c = let turn = turn_of c.before.before in omega (arith, (sizes turn.before).few_gates, turn.loop-g-test.true)
 
 loop_less_2 : tie.Need-loop-g-smaller invariant-loop decreases-loop
-loop_less_2 c = omega (arith, (turn_of c.before.before).loop-g-test.taken)
+loop_less_2 c = omega (arith, (turn_of c.before.before).loop-g-test.true)
 
 loop_again_2 : tie.Need-loop-g-preserved invariant-loop decreases-loop
 loop_again_2 c =
@@ -93,7 +93,7 @@ loop_again_2 c =
     let turn = else.before.before in
     let s = turn.before.before in
     let a = s.args in
-    let reads = sym (else.before.reads-gate.ensures a.thresholds.now a.weights.now) ∙ not-false _ else.if1.left in (
+    let reads = sym (else.before.reads_gate.ensures a.thresholds.now a.weights.now) ∙ not-false _ else.if1.left in (
       omega (arith, turn.loop-test.taken),
       left_reader (record_at s) a.u turn.before.loop.g turn.before.loop.inv.1 s.requires turn.loop-test.taken reads refl
           (entered_parts _ c.one_more-steps.ensures c.enter_gate.ensures),

@@ -54,7 +54,7 @@ module _ (c : tie.After-kept invariant-loop decreases-loop) where
       read_back w32 c.kept.type_inv (c.kept.ensures ∙ ap (λ (z : ℤ). cond (is_on z) (to_z w32 (of_z w32 start.args.weight)) (pos 0)) (to_z-of_z fits))
 
   total_fits : SFits w32 (before +ℤ share)
-  total_fits = rw (to_z-of_z start.fits.weight)
+  total_fits = rw (to_z-of_z start.ranges.weight)
       (under_fits before start.args.weight (is_on (get_or start.args.row.now at.loop-f.f (pos 0)))
       (start.requires.small at.loop-f.f (omega arith)) start.requires.light)
 

@@ -42,14 +42,14 @@ module _ (c : tie.After-signal_index-out invariant-loop decreases-loop) where
 mul_rows_apart : tie.Need-offset_bounds-lanes-driver invariant-loop decreases-loop
 mul_rows_apart c = let h = driver_low c in search rules
 
-index_1_rows_apart : tie.Need-bounds-1-rows-apart invariant-loop decreases-loop
+index_1_rows_apart : tie.Need-bounds-lanes-driver invariant-loop decreases-loop
 index_1_rows_apart c = let h = driver_low c in search rules
 
 mul_rows_apart_2 : tie.Need-offset_bounds-lanes-out invariant-loop decreases-loop
 mul_rows_apart_2 c = let h = out_low c in search rules
 
-index_1_rows_apart_2 : tie.Need-bounds-1-rows-apart-2 invariant-loop decreases-loop
-index_1_rows_apart_2 c = let h = out_low c.before in search rules
+index_1_rows_apart_2 : tie.Need-bounds-lanes-out invariant-loop decreases-loop
+index_1_rows_apart_2 c = let h = out_low c in search rules
 
 returns : tie.Need-returns-then-lane-lt32 invariant-loop decreases-loop
 returns c =

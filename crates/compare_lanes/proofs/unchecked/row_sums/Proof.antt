@@ -42,7 +42,7 @@ module _ (c : tie.After-sums-1 invariant-loop decreases-loop) where
 mul_add_feed : tie.Need-offset_bounds-lanes-signal invariant-loop decreases-loop
 mul_add_feed c = let h = low c in search rules
 
-index_1_add_feed : tie.Need-bounds-1-add-feed invariant-loop decreases-loop
+index_1_add_feed : tie.Need-bounds-lanes-signal invariant-loop decreases-loop
 index_1_add_feed c = let h = low c in search rules
 
 add_feed_requires : tie.Need-add_feed-requires invariant-loop decreases-loop

@@ -106,7 +106,7 @@ settle_feeds_requires c κs =
 settled_feeds : (c : tie.After-settle_feeds) (code : ℕ) → code ≢ 2
     → let h = f c.before.before.before.before in
     let last = c.settle_feeds.new in
-    Propagated (FitsRows (wires h) (weights h) (s h).args.signal) (bits h) (rests h) last.rests.1.0 last.1.1.1.0 code 0
+    Propagated (FitsRows (wires h) (weights h) (s h).args.signal) (bits h) (rests h) last.bits last.rests code 0
 settled_feeds c code d =
     let r = c.before.before.before.before in
     let h = f r in

@@ -129,8 +129,8 @@ returns c =
       most_is = added_all c.loop-i.invariant.1 all;
       least_small = added_small c.loop-i.invariant.0 few;
       most_small = added_small c.loop-i.invariant.1 few;
-      holds_up = rw done c c.loop-i.invariant.2;
-      holds_down = rw done c c.loop-i.invariant.3;
+      holds_up = rw done at c.loop-i.invariant.2;
+      holds_down = rw done at c.loop-i.invariant.3;
     }
 
 pub ends_of_spec : {M : Type 1} → statement M

@@ -36,4 +36,4 @@ propagate_spec =
     (λ c. search rules)
     (λ c. search rules)
     loop_again
-    (λ c. c.before.loop.invariant))
+    (λ c. c.before.loop-round.invariant))

@@ -20,7 +20,7 @@ differ_spec =
     (tie.spec
     (λ c κs. search rules)
     (λ c κs. search rules)
-    (λ c. (c.before.before.refute.ensures.0, λ e. absurd (c.if-half-ne0.true e)))
+    (λ c. (c.before.before.refute-half.ensures.0, λ e. absurd (c.if-half-ne0.true e)))
     (λ c κs. search rules)
     (λ c κs. search rules)
     returns_2)

@@ -75,11 +75,11 @@ refute_spec =
     (λ c κs. search rules)
     (λ c. (within c.before.before.before.before.before.before.before, λ e. absurd (omega arith)))
     (λ c κs. search rules)
-    (λ c. gave_up c.before.before.before.before.before.before.before c.spent2.ensures)
+    (λ c. gave_up c.before.before.before.before.before.before.before c.spent-then-depth-ge64.ensures)
     (λ c κs. search rules)
     decide_requires
     (λ c. search rules)
     (λ c. search rules)
     loop_again_2
     (λ c κs. search rules)
-    (λ c. (omega (arith, c.spent3.ensures), λ e. absurd (omega (arith, c.spent3.ensures)))))
+    (λ c. (omega (arith, c.spent-2.ensures), λ e. absurd (omega (arith, c.spent-2.ensures)))))

@@ -34,10 +34,10 @@ returns : tie.Need-returns invariant-loop decreases-loop
 returns c =
     let a = c.args in
     let full : c.loop-i.i ≡ 16 = omega arith in
-    let long : length a.t2 ≡ 16 = search rules in
+    let long : length a.row ≡ 16 = search rules in
     pasted_tab (rw full at c.loop-i.invariant.1) refl
-    ∙ sym (map_tab (λ s. get_or a.numbers.now s 0) 16 (λ i. get_or a.t2 i 0))
-    ∙ ap (map (λ s. get_or a.numbers.now s 0)) (tab_of 0 16 (λ i. get_or a.t2 i 0) a.t2 (sym long) (λ i h. refl))
+    ∙ sym (map_tab (λ s. get_or a.numbers.now s 0) 16 (λ i. get_or a.row i 0))
+    ∙ ap (map (λ s. get_or a.numbers.now s 0)) (tab_of 0 16 (λ i. get_or a.row i 0) a.row (sym long) (λ i h. refl))
 
 pub renamed_row_spec : {M : Type 1} → statement M
 renamed_row_spec =

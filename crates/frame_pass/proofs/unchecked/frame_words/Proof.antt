@@ -18,7 +18,7 @@ run_gates_requires : tie.Need-run_gates-requires
 run_gates_requires c κs =
     let put = inputs_put c in
     let pre = put.before.before.before.requires in
-    can_run _ pre.sound put.put-inputs.ensures.masked pre.few
+    can_run _ pre.sound put.put_inputs.ensures.masked pre.few
 
 lane_words_requires : tie.Need-lane_words-requires
 lane_words_requires c κs =
@@ -30,7 +30,7 @@ returns : tie.Need-returns
 returns c =
     let put = inputs_put c.before.before.before.before in
     let s = put.before.before.before in
-    first_words s.args.network s.requires put.put-inputs.ensures c.run_gates.ensures c.lane_words.ensures
+    first_words s.args.network s.requires put.put_inputs.ensures c.run_gates.ensures c.lane_words.ensures
 
 pub frame_words_spec : {M : Type 1} → statement M
 frame_words_spec =

@@ -9,12 +9,12 @@ unfolding without_newest
 returns c =
     λ x. record {
       count = c.one_less-count.ensures x;
-      c = c.later_bytes-kinds.ensures x;
-      c = c.later_bytes-signals.ensures x;
-      c = c.later_bytes-fanins.ensures x;
-      c = c.integers_after.ensures x;
-      c = c.bytes_after.ensures x;
-      c = c.integers_after-2.ensures x;
+      kinds = c.later_bytes-kinds.ensures x;
+      signals = c.later_bytes-signals.ensures x;
+      fanins = c.later_bytes-fanins.ensures x;
+      thresholds = c.integers_after.ensures x;
+      feeds = c.bytes_after.ensures x;
+      weights = c.integers_after-2.ensures x;
     }
 
 pub without_newest_spec : {M : Type 1} → statement M

@@ -15,16 +15,16 @@ abbrev weights_done : tie.After-weights-1 → tie.After-weights_with_gap-weights
 weights_done c = c.before.before.before.before
 
 abbrev signals_done : tie.After-weights-1 → tie.After-signals_with_gap-signals
-signals_done c = (weights_done c).before.before.before
+signals_done c = (weights_done c).before.before
 
 abbrev thresholds_done : tie.After-weights-1 → tie.After-thresholds_with_gap-thresholds
-thresholds_done c = (signals_done c).before.before.before
+thresholds_done c = (signals_done c).before.before
 
 abbrev fanins_done : tie.After-weights-1 → tie.After-fanins_with_gap-fanins
-fanins_done c = (thresholds_done c).before.before.before
+fanins_done c = (thresholds_done c).before.before
 
 abbrev start_of : tie.After-weights-1 → tie.Start
-start_of c = (fanins_done c).before.before.before
+start_of c = (fanins_done c).before.before
 
 fanins_with_gap_requires : tie.Need-fanins_with_gap-fanins-requires
 fanins_with_gap_requires c κs = let start = c.before in (omega (arith, start.requires.0), (shaped start).fanins)

@@ -62,7 +62,7 @@ module _ (c : tie.After-settings-lows invariant-loop decreases-loop) where
   lows_some : 0 < lows
   lows_some = omega (arith, lows_is, pow_pos (count - (count - 8)))
 
-  tables : SumTables start.args.sums-u.now start.args.sums-v.now
+  tables : SumTables start.args.sums_u.now start.args.sums_v.now
   tables = let p = start.requires in tables_small p.0 p.1.1.0 p.1.1.1
 
 mixed_sums_requires : tie.Need-mixed_sums-mixes-requires invariant-loop decreases-loop
@@ -94,11 +94,11 @@ module _ (d : tie.In-loop-high invariant-loop decreases-loop) where
   high = d.loop-high.high
 
   low_high : high < 256
-  low_high = omega (arith, d.loop-high-test.taken, high_few (count both) (highs both) (few both) (highs_is both))
+  low_high = omega (arith, d.loop-high-test.true, high_few (count both) (highs both) (few both) (highs_is both))
 
   -- with each of the low half
   setting : (j : ℕ) → j < lows both → SettingHalves (count both) (lows both) high j
-  setting j h = halved (count both) (highs both) (lows both) high j (few both) (highs_is both) (lows_is both) d.loop-high-test.taken h
+  setting j h = halved (count both) (highs both) (lows both) high j (few both) (highs_is both) (lows_is both) d.loop-high-test.true h
 
 low_thresholds_requires : tie.Need-low_thresholds-reach-requires invariant-loop decreases-loop
 low_thresholds_requires c κs = (tables (both c.before), ((start (both c.before)).requires.0.fair.near, low_high c.before))
@@ -140,7 +140,7 @@ returns c =
     let unclear = sym c.block_clears.ensures ∙ not-true c.block_clears.result c.if-not-block_clears.true-raw in
     record {
       within = omega (arith, block_inside c);
-      clear = d.before.loop.inv.1;
+      clear = d.before.loop-high.invariant.1;
       short = λ _. block_short p.0 p.1.1.0 p.1.1.1 s.args.k s.args.l (lows (both d)) (high d) (setting d)
           c.low_thresholds-reach.ensures unclear;
     }

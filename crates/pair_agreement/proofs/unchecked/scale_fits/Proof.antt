@@ -52,13 +52,13 @@ module _ (c : tie.After-in_scale invariant-loop decreases-loop) where
   tested =
       let a = start.args in
       c.in_scale.ensures
-      ∙ ap in_scale (read_back w32 c.merged_weight.type_inv (c.merged_weight.ensures ∙ sym (mix_is a.t1 a.k a.l feed (omega arith))))
+      ∙ ap in_scale (read_back w32 c.merged_weight.type_inv (c.merged_weight.ensures ∙ sym (mix_is a.a a.k a.l feed (omega arith))))
 
 returns : tie.Need-returns-then-not-in_scale invariant-loop decreases-loop
 returns c =
     let d = c.before in
     let a = (start d).args in
-    sym (weight_off a.t1 (start d).requires.0 a.k a.l (feed d) (omega arith) (sym (tested d) ∙ not-true d.in_scale.result c.if-not-in_scale.true-raw))
+    sym (weight_off a.a (start d).requires.0 a.k a.l (feed d) (omega arith) (sym (tested d) ∙ not-true d.in_scale.result c.if-not-in_scale.true-raw))
 
 add_feed : tie.Need-overflow_step-feed invariant-loop decreases-loop
 add_feed c = omega arith
@@ -81,10 +81,10 @@ returns_2 : tie.Need-returns invariant-loop decreases-loop
 returns_2 c =
     let a = c.args in
     let loop = c.loop-feed in
-    let e : loop.feed ≡ a.t1.count = omega (arith, loop.invariant.0, c.loop-feed-test.false) in
+    let e : loop.feed ≡ a.a.count = omega (arith, loop.invariant.0, c.loop-feed-test.false) in
     c.in_scale-2.ensures
-    ∙ ap in_scale (read_back w32 c.merged_threshold.type_inv (c.merged_threshold.ensures ∙ sym (threshold_is a.t1 a.k a.l)))
-    ∙ sym (weights_on a.t1 c.requires.0 a.k a.l (rw e at loop.invariant.1))
+    ∙ ap in_scale (read_back w32 c.merged_threshold.type_inv (c.merged_threshold.ensures ∙ sym (threshold_is a.a a.k a.l)))
+    ∙ sym (weights_on a.a c.requires.0 a.k a.l (rw e at loop.invariant.1))
 
 pub scale_fits_spec : {M : Type 1} → statement M
 scale_fits_spec =

@@ -34,31 +34,31 @@ module _ (c : tie.After-lower_threshold-lower) where
   lower_is = read_back w32 c.lower_threshold-lower.type_inv c.lower_threshold-lower.ensures
 
   -- what is asked of the sums
-  mixed : MixedSums start.args.k start.args.l start.args.lows start.args.sums-u.now start.args.sums-v.now start.args.mixes.now
+  mixed : MixedSums start.args.k start.args.l start.args.lows start.args.sums_u.now start.args.sums_v.now start.args.mixes.now
   mixed = start.requires.1.1.1.0
 
-  v_between : Spanned start.args.lows start.args.sums-v.now start.args.span-v
+  v_between : Spanned start.args.lows start.args.sums_v.now start.args.span_v
   v_between = start.requires.1.1.1.1.0
 
   between : Spanned start.args.lows start.args.mixes.now start.args.span
   between = start.requires.1.1.1.1.1
 
   -- the test with the bounds is the test of the block
-  tried : block_between t upper lower start.args.lows start.args.sums-u.now start.args.sums-v.now start.args.mixes.now
-      ≡ block_clear t start.args.k start.args.l start.args.lows start.args.sums-u.now start.args.sums-v.now
+  tried : block_between t upper lower start.args.lows start.args.sums_u.now start.args.sums_v.now start.args.mixes.now
+      ≡ block_clear t start.args.k start.args.l start.args.lows start.args.sums_u.now start.args.sums_v.now
   tried = block_is t start.args.k start.args.l mixed upper_is lower_is
 
 returns : tie.Need-returns-then-settled_off
 returns c =
     let d = c.before.before in
     let settled = sym c.settled_off.ensures ∙ c.if-settled_off.true in
-    sym (clear_off (t d) (upper d) (lower d) (start d).args.sums-u.now (v_between d) (between d) settled) ∙ tried d
+    sym (clear_off (t d) (upper d) (lower d) (start d).args.sums_u.now (v_between d) (between d) settled) ∙ tried d
 
 returns_2 : tie.Need-returns-then-settled_on
 returns_2 c =
     let d = c.before.before.before.before in
     let settled = sym c.settled_on.ensures ∙ c.if-settled_on.true in
-    sym (clear_on (t d) (upper d) (lower d) (start d).args.sums-u.now (v_between d) (between d) settled) ∙ tried d
+    sym (clear_on (t d) (upper d) (lower d) (start d).args.sums_u.now (v_between d) (between d) settled) ∙ tried d
 
 returns_3 : tie.Need-returns
 returns_3 c = c.clears_at_once.ensures ∙ tried c.before.before.before.before.before

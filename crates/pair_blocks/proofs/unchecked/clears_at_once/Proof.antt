@@ -47,10 +47,10 @@ module _ (c : tie.After-clears_between-here invariant-loop decreases-loop) where
   abbrev at : List ℤ → ℤ
   at sums = get_or sums turn.loop-setting.setting (pos 0)
 
-  u_is : to_z w32 (of_z w32 (at turn.args.sums-u.now)) ≡ at turn.args.sums-u.now
+  u_is : to_z w32 (of_z w32 (at turn.args.sums_u.now)) ≡ at turn.args.sums_u.now
   u_is = read_back w32 at_v.clears_between-arg-1.given refl
 
-  v_is : to_z w32 (of_z w32 (at turn.args.sums-v.now)) ≡ at turn.args.sums-v.now
+  v_is : to_z w32 (of_z w32 (at turn.args.sums_v.now)) ≡ at turn.args.sums_v.now
   v_is = read_back w32 at_v.clears_between-arg-in-loop-setting-1.given refl
 
   sum_is : to_z w32 (of_z w32 (at turn.args.mixes.now)) ≡ at turn.args.mixes.now
@@ -59,7 +59,7 @@ module _ (c : tie.After-clears_between-here invariant-loop decreases-loop) where
 loop_again : tie.Need-loop-setting-preserved invariant-loop decreases-loop
 loop_again c =
     let l = (turn c).loop-setting in
-    (omega arith, ap₂ ◌&&◌ l.inv.1 (simp (u_is c, v_is c, sum_is c) at c.clears_between-here.ensures) ∙ sym (below_more _ l.setting))
+    (omega arith, ap₂ ◌&&◌ l.invariant.1 (simp (u_is c, v_is c, sum_is c) at c.clears_between-here.ensures) ∙ sym (below_more _ l.setting))
 
 returns : tie.Need-returns invariant-loop decreases-loop
 unfolding block_between

@@ -57,7 +57,7 @@ at_least_requires : tie.Need-at_least-requires
 at_least_requires c κs = let s = c.before.before.before.before.before.before.before in (s.requires.0, both_small s)
 
 returns : tie.Need-returns-then-a-sv
-returns c = c.at_least_lem.ensures
+returns c = c.at_least.ensures
 
 at_most_requires : tie.Need-at_most-requires
 at_most_requires c κs = let s = c.before.before.before.before.before.before.before in (s.requires.0, both_small s)

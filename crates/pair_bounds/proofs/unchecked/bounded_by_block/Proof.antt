@@ -20,8 +20,8 @@ loop_holds c = (omega arith, (c.requires.1.1.0, λ n b j. b))
 
 bounded_requires : tie.Need-bounded-bounds-requires invariant-loop decreases-loop
 bounded_requires c κs =
-    let u = place_held c.args.sums-u.now c.requires.0.u_small c.loop-low.low in
-    let v = place_held c.args.sums-v.now c.requires.0.v_small c.loop-low.low in
+    let u = place_held c.args.sums_u.now c.requires.0.u_small c.loop-low.low in
+    let v = place_held c.args.sums_v.now c.requires.0.v_small c.loop-low.low in
     (c.loop-low.invariant.1.0, (c.requires.1.0, (rw u (c.requires.0.u_small c.loop-low.low), rw v (c.requires.0.v_small c.loop-low.low))))
 
 loop_less : tie.Need-loop-low-smaller invariant-loop decreases-loop

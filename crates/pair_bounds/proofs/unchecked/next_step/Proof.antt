@@ -19,7 +19,7 @@ abbrev Measured : Type 0
 Measured = tie.After-span-span_v invariant-loop decreases-loop
 
 abbrev start : Measured → tie.Start invariant-loop decreases-loop
-start d = let mixed = d.before.before.before.before in mixed.before.before.before
+start d = let mixed = d.before.before.before.before in mixed.before.before.before.before.before
 
 abbrev measured : tie.In-loop-step invariant-loop decreases-loop → Measured
 measured d = d.before.before.before.before.before.before
@@ -64,7 +64,7 @@ differs_at_ends_requires c κs = (start (measured (tried c))).requires.1.1.1.1.1
 add_step_2 : tie.Need-overflow_step-step-in-loop-step invariant-loop decreases-loop
 add_step_2 c =
     let d = tried c.before.before in
-    record { fits = omega (arith, d.loop-test.taken, (start (measured d)).requires.1.1.1.0) }
+    record { fits = omega (arith, d.loop-step-test.true, (start (measured d)).requires.1.1.1.0) }
 
 pub next_step_spec : {M : Type 1} → statement M
 next_step_spec =

@@ -49,7 +49,7 @@ module _ (c : tie.After-settings-all invariant-loop decreases-loop invariant-can
   few : count ≤ 16
   few = start.requires.0.few
 
-  tables : SumTables start.args.sums-u.now start.args.sums-v.now
+  tables : SumTables start.args.sums_u.now start.args.sums_v.now
   tables = let p = start.requires in tables_small p.0 p.1.0 p.1.1
 
   near : ThresholdsWithin 10000000 start.args.a.thresholds
@@ -75,13 +75,13 @@ Sum = tie.In-sum invariant-loop decreases-loop invariant-candidate decreases-can
 abbrev sound : Sum → tie.After-settings-all invariant-loop decreases-loop invariant-candidate decreases-candidate invariant-sum decreases-sum
 sound d = whole d.before.before
 
-known_low : (d : Sum) → RememberedWithin 65536 d.before.sum.known
+known_low : (d : Sum) → RememberedWithin 65536 d.sum.known
 known_low d =
-    let w = d.before.sum.inv.within in
+    let w = d.sum.invariant.within in
     let h = sound d in
     record {
-      last_in = setting_low (count h) d.before.sum.known.last (few h) w.last_in;
-      earlier_in = setting_low (count h) d.before.sum.known.earlier (few h) w.earlier_in;
+      last_in = setting_low (count h) d.sum.known.last (few h) w.last_in;
+      earlier_in = setting_low (count h) d.sum.known.earlier (few h) w.earlier_in;
     }
 
 least_k_requires : tie.Need-least_k-least-requires invariant-loop decreases-loop invariant-candidate decreases-candidate invariant-sum decreases-sum
@@ -89,12 +89,13 @@ least_k_requires c κs = (tables (sound c), (near (sound c), (known_low c, c.sum
 
 candidate_holds : tie.Need-candidate-init invariant-loop decreases-loop invariant-candidate decreases-candidate invariant-sum decreases-sum
 candidate_holds c =
-    let p = (start (sound c)).requires in
-    let a = c.sum.invariant in
+    let d = c.before in
+    let p = (start (sound d)).requires in
+    let a = d.sum.invariant in
     let r = c.least_k-least.ensures in
     let passed =
     raised p.0 a.passed r.0.0 r.0.1 (λ k l b i h m. ruled_out p.0 p.1.0 p.1.1 k l a.within (r.1 k l b i h m)) in
-    (refl, turn p.0 a c.sum-test.true passed)
+    (refl, turn p.0 a d.sum-test.true passed)
 
 -- a candidate
 abbrev Here : Type 0
@@ -104,23 +105,23 @@ abbrev halves : Here → tie.After-settings-all invariant-loop decreases-loop in
 halves d = let sum = d.before.before.before in sound sum
 
 abbrev sum : Here → ℕ
-sum d = d.before.candidate.sum
+sum d = d.candidate.sum
 
 abbrev k : Here → ℕ
-k d = d.before.candidate.k
+k d = d.candidate.k
 
 abbrev l : Here → ℕ
 l d = sum d - k d
 
 abbrev known : Here → Remembered
-known d = d.before.candidate.known
+known d = d.candidate.known
 
 -- what is known at it
-at : (d : Here) → let g = (start (halves d)).args.a in AtCandidate (qualifies_on (aligned_in g)) (2 ^ g.count) (known d) d.before.before.least-k.result (sum d) (k d)
-at d = d.before.candidate.inv.1
+at : (d : Here) → let g = (start (halves d)).args.a in AtCandidate (qualifies_on (aligned_in g)) (2 ^ g.count) (known d) d.least_k-least.result (sum d) (k d)
+at d = d.candidate.invariant.1
 
-kept : (d : Here) → sum d ≡ d.before.before.before.before.sum.sum
-kept d = d.before.candidate.inv.0
+kept : (d : Here) → sum d ≡ d.sum.sum
+kept d = d.candidate.invariant.0
 
 add_sum : tie.Need-overflow_step-sum invariant-loop decreases-loop invariant-candidate decreases-candidate invariant-sum decreases-sum
 add_sum c = omega (arith, (at c.before).sum_high)
@@ -130,8 +131,9 @@ sum_less c = omega (arith, (at c.before).sum_high, kept c.before)
 
 sum_again : tie.Need-sum-preserved-then-sum-k invariant-loop decreases-loop invariant-candidate decreases-candidate invariant-sum decreases-sum
 sum_again c =
-    let p = (start (halves c)).requires in
-    past_sum p.0 (at c) c.if-sum-k.true
+    let d = c.before in
+    let p = (start (halves d)).requires in
+    past_sum p.0 (at d) c.if-sum-k.true
 
 sub_l : tie.Need-overflow_sub-l invariant-loop decreases-loop invariant-candidate decreases-candidate invariant-sum decreases-sum
 sub_l c = omega arith
@@ -144,8 +146,9 @@ candidate_less c = omega arith
 
 candidate_again : tie.Need-candidate-preserved-then-l-gt32 invariant-loop decreases-loop invariant-candidate decreases-candidate invariant-sum decreases-sum
 candidate_again c =
-    let p = (start (halves c)).requires in
-    (kept c, off p.0 (at c) c.candidate-test.true c.if-sum-k.false c.if-l-gt32.true)
+    let d = c.before.before in
+    let p = (start (halves d)).requires in
+    (kept d, off p.0 (at d) d.candidate-test.true c.if-sum-k.false c.if-l-gt32.true)
 
 -- a candidate on the dial
 abbrev Tried : Type 0
@@ -155,7 +158,7 @@ abbrev here : Tried → Here
 here e = e.before.before
 
 dial : (e : Tried) → DialLimits (k (here e)) (l (here e))
-dial e = record { k_high = (here e).candidate-test.taken; l_high = e.if2.left }
+dial e = record { k_high = (here e).candidate-test.true; l_high = e.if-l-gt32.false }
 
 low : (e : Tried) (s : ℕ) → s < 2 ^ count (halves (here e)) → s < 65536
 low e s h = setting_low (count (halves (here e))) s (few (halves (here e))) h
@@ -170,21 +173,23 @@ clears_at_requires c κs =
 
 bounds_above_at_requires : tie.Need-bounds_above_at-requires invariant-loop decreases-loop invariant-candidate decreases-candidate invariant-sum decreases-sum
 bounds_above_at_requires c κs =
-    let h = halves (here c) in
-    (tables h, low c (known (here c)).last (within c).last_in)
+    let e = c.before.before in
+    let h = halves (here e) in
+    (tables h, low e (known (here e)).last (within e).last_in)
 
 add_sum_2 : tie.Need-overflow_step-sum-then-bounds_above_at invariant-loop decreases-loop invariant-candidate decreases-candidate invariant-sum decreases-sum
-add_sum_2 c = omega (arith, (at (here c)).sum_high)
+add_sum_2 c = let e = c.before.before.before.before in omega (arith, (at (here e)).sum_high)
 
 sum_less_2 : tie.Need-sum-smaller-then-bounds_above_at invariant-loop decreases-loop invariant-candidate decreases-candidate invariant-sum decreases-sum
-sum_less_2 c = omega (arith, (at (here c)).sum_high, kept (here c))
+sum_less_2 c = let e = c.before.before.before.before in omega (arith, (at (here e)).sum_high, kept (here e))
 
 sum_again_2 : tie.Need-sum-preserved-then-bounds_above_at invariant-loop decreases-loop invariant-candidate decreases-candidate invariant-sum decreases-sum
 sum_again_2 c =
-    let p = (start (halves (here c))).requires in
-    let s = (known (here c)).last in
-    past_bound p.0 s (at (here c)) (within c).last_in
-    (rest_differs p.0 p.1.0 p.1.1 (sum (here c)) (k (here c)) s (within c).last_in c.clears_at.ensures c.if-not-clears_at.true-raw
+    let e = c.before.before.before.before in
+    let p = (start (halves (here e))).requires in
+    let s = (known (here e)).last in
+    past_bound p.0 s (at (here e)) (within e).last_in
+    (rest_differs p.0 p.1.0 p.1.1 (sum (here e)) (k (here e)) s (within e).last_in c.clears_at.ensures c.if-not-clears_at.true-raw
     c.bounds_above_at.ensures c.if-bounds_above_at.true)
 
 add_k_2 : tie.Need-overflow_step-k-then-not-clears_at invariant-loop decreases-loop invariant-candidate decreases-candidate invariant-sum decreases-sum
@@ -195,35 +200,39 @@ candidate_less_2 c = omega arith
 
 candidate_again_2 : tie.Need-candidate-preserved-then-not-clears_at invariant-loop decreases-loop invariant-candidate decreases-candidate invariant-sum decreases-sum
 candidate_again_2 c =
-    let p = (start (halves (here c))).requires in
-    let s = (known (here c)).last in (
-      kept (here c),
-      differs p.0 s (at (here c)) (here c).candidate-test.true c.if-sum-k.false (within c).last_in (within c)
-          (tested p.0 p.1.0 p.1.1 (k (here c)) (l (here c)) s (within c).last_in c.clears_at.ensures) c.if-not-clears_at.true-raw,
+    let e = c.before.before.before.before in
+    let p = (start (halves (here e))).requires in
+    let s = (known (here e)).last in (
+      kept (here e),
+      differs p.0 s (at (here e)) (here e).candidate-test.true e.if-sum-k.false (within e).last_in (within e)
+          (tested p.0 p.1.0 p.1.1 (k (here e)) (l (here e)) s (within e).last_in c.clears_at.ensures) c.if-not-clears_at.true-raw,
     )
 
 clears_at_requires_2 : tie.Need-clears_at-requires-in-candidate invariant-loop decreases-loop invariant-candidate decreases-candidate invariant-sum decreases-sum
 clears_at_requires_2 c κs =
-    let h = halves (here c) in
-    (tables h, (near h, (dial c, low c (known (here c)).earlier (within c).earlier_in)))
+    let e = c.before.before in
+    let h = halves (here e) in
+    (tables h, (near h, (dial e, low e (known (here e)).earlier (within e).earlier_in)))
 
 bounds_above_at_requires_2 : tie.Need-bounds_above_at-requires-then-not-clears_at-2 invariant-loop decreases-loop invariant-candidate decreases-candidate invariant-sum decreases-sum
 bounds_above_at_requires_2 c κs =
-    let h = halves (here c) in
-    (tables h, low c (known (here c)).earlier (within c).earlier_in)
+    let e = c.before.before.before.before in
+    let h = halves (here e) in
+    (tables h, low e (known (here e)).earlier (within e).earlier_in)
 
 add_sum_3 : tie.Need-overflow_step-sum-then-bounds_above_at-2 invariant-loop decreases-loop invariant-candidate decreases-candidate invariant-sum decreases-sum
-add_sum_3 c = omega (arith, (at (here c)).sum_high)
+add_sum_3 c = let e = c.before.before.before.before.before.before in omega (arith, (at (here e)).sum_high)
 
 sum_less_3 : tie.Need-sum-smaller-then-bounds_above_at-2 invariant-loop decreases-loop invariant-candidate decreases-candidate invariant-sum decreases-sum
-sum_less_3 c = omega (arith, (at (here c)).sum_high, kept (here c))
+sum_less_3 c = let e = c.before.before.before.before.before.before in omega (arith, (at (here e)).sum_high, kept (here e))
 
 sum_again_3 : tie.Need-sum-preserved-then-bounds_above_at-2 invariant-loop decreases-loop invariant-candidate decreases-candidate invariant-sum decreases-sum
 sum_again_3 c =
-    let p = (start (halves (here c))).requires in
-    let s = (known (here c)).earlier in
-    past_bound p.0 s (at (here c)) (within c).earlier_in
-    (rest_differs p.0 p.1.0 p.1.1 (sum (here c)) (k (here c)) s (within c).earlier_in c.clears_at-in-candidate.ensures c.if-not-clears_at-2.true-raw
+    let e = c.before.before.before.before.before.before in
+    let p = (start (halves (here e))).requires in
+    let s = (known (here e)).earlier in
+    past_bound p.0 s (at (here e)) (within e).earlier_in
+    (rest_differs p.0 p.1.0 p.1.1 (sum (here e)) (k (here e)) s (within e).earlier_in c.clears_at-in-candidate.ensures c.if-not-clears_at-2.true-raw
     c.bounds_above_at-then-not-clears_at-2.ensures c.if-bounds_above_at-2.true)
 
 add_k_3 : tie.Need-overflow_step-k-then-not-clears_at-2 invariant-loop decreases-loop invariant-candidate decreases-candidate invariant-sum decreases-sum
@@ -234,16 +243,18 @@ candidate_less_3 c = omega arith
 
 candidate_again_3 : tie.Need-candidate-preserved-then-not-clears_at-2 invariant-loop decreases-loop invariant-candidate decreases-candidate invariant-sum decreases-sum
 candidate_again_3 c =
-    let p = (start (halves (here c))).requires in
-    let s = (known (here c)).earlier in (
-      kept (here c),
-      differs p.0 s (at (here c)) (here c).candidate-test.true c.if-sum-k.false (within c).earlier_in (within c)
-          (tested p.0 p.1.0 p.1.1 (k (here c)) (l (here c)) s (within c).earlier_in c.clears_at-in-candidate.ensures) c.if-not-clears_at-2.true-raw,
+    let e = c.before.before.before.before.before.before in
+    let p = (start (halves (here e))).requires in
+    let s = (known (here e)).earlier in (
+      kept (here e),
+      differs p.0 s (at (here e)) (here e).candidate-test.true e.if-sum-k.false (within e).earlier_in (within e)
+          (tested p.0 p.1.0 p.1.1 (k (here e)) (l (here e)) s (within e).earlier_in c.clears_at-in-candidate.ensures) c.if-not-clears_at-2.true-raw,
     )
 
 scale_fits_requires : tie.Need-scale_fits-requires invariant-loop decreases-loop invariant-candidate decreases-candidate invariant-sum decreases-sum
 scale_fits_requires c κs =
-    ((start (halves (here c))).requires.0, dial c)
+    let e = c.before.before.before.before in
+    ((start (halves (here e))).requires.0, dial e)
 
 -- a candidate whose scale is tested
 abbrev Scaled : Type 0
@@ -263,7 +274,7 @@ candidate_again_4 c =
     let e = tried c.before in
     let p = (start (halves (here e))).requires in (
       kept (here e),
-      unscaled p.0 (at (here e)) (here e).candidate-test.taken e.before.if1.left c.scale_fits.ensures c.if-not-scale_fits.true-raw,
+      unscaled p.0 (at (here e)) (here e).candidate-test.true e.before.if-sum-k.false c.scale_fits.ensures c.if-not-scale_fits.true-raw,
     )
 
 clear_settings_requires : tie.Need-clear_settings-clear-requires invariant-loop decreases-loop invariant-candidate decreases-candidate invariant-sum decreases-sum
@@ -292,10 +303,10 @@ abbrev by : Turn → Tried
 by d = of d.before.before
 
 abbrev setting : Turn → ℕ
-setting d = d.before.loop.setting
+setting d = d.loop-setting.setting
 
 inside : (d : Turn) → setting d < 2 ^ count (halves (here (by d)))
-inside d = omega (arith, d.loop-test.taken, (halves (here (by d))).settings.ensures)
+inside d = omega (arith, d.loop-setting-test.true, (halves (here (by d))).settings-all.ensures)
 
 clears_at_requires_3 : tie.Need-clears_at-requires-in-loop-setting invariant-loop decreases-loop invariant-candidate decreases-candidate invariant-sum decreases-sum
 clears_at_requires_3 c κs =
@@ -304,59 +315,67 @@ clears_at_requires_3 c κs =
     (tables h, (near h, (rw c.loop-setting.invariant.kept (dial e), low e (setting c) (inside c))))
 
 -- what the test of a setting says
-agreed : (c : tie.After-clears_at-in-loop-setting invariant-loop decreases-loop invariant-candidate decreases-candidate invariant-sum decreases-sum) → 
-    c.clears_at-in-loop-setting.result ≡ clears_on (aligned_in (start (halves (here (by c)))).args.a) c.loop-setting.k (l (here (by c))) (setting c)
+agreed : (c : tie.After-clears_at-in-loop-setting invariant-loop decreases-loop invariant-candidate decreases-candidate invariant-sum decreases-sum) → let d = c.before in
+    c.clears_at-in-loop-setting.result ≡ clears_on (aligned_in (start (halves (here (by d)))).args.a) d.loop-setting.k (l (here (by d))) (setting d)
 agreed c =
-    let p = (start (halves (here (by c)))).requires in
-    tested p.0 p.1.0 p.1.1 c.loop-setting.k (l (here (by c))) (setting c) (inside c) c.clears_at-in-loop-setting.ensures
+    let d = c.before in
+    let p = (start (halves (here (by d)))).requires in
+    tested p.0 p.1.0 p.1.1 d.loop-setting.k (l (here (by d))) (setting d) (inside d) c.clears_at-in-loop-setting.ensures
 
 remembered_requires : tie.Need-remembered-known-requires invariant-loop decreases-loop invariant-candidate decreases-candidate invariant-sum decreases-sum
 remembered_requires c κs =
-    let e = by c in
+    let d = c.before.before in
+    let e = by d in
     let known_low : RememberedWithin 65536 (known (here e)) = record {
       last_in = low e (known (here e)).last (within e).last_in;
       earlier_in = low e (known (here e)).earlier (within e).earlier_in;
     } in
-    (tables (halves (here e)), (rw c.loop-setting.invariant.kept_known known_low, low e (setting c) (inside c)))
+    (tables (halves (here e)), (rw d.loop-setting.invariant.kept_known known_low, low e (setting d) (inside d)))
 
 add_k_5 : tie.Need-overflow_step-k-then-not-clears_at-3 invariant-loop decreases-loop invariant-candidate decreases-candidate invariant-sum decreases-sum
 add_k_5 c =
-    omega (arith, c.loop-setting.invariant.kept, (here (by c)).candidate-test.taken)
+    let d = c.before.before.before in
+    omega (arith, d.loop-setting.invariant.kept, (here (by d)).candidate-test.true)
 
 candidate_less_5 : tie.Need-candidate-smaller invariant-loop decreases-loop invariant-candidate decreases-candidate invariant-sum decreases-sum
 candidate_less_5 c =
-    omega (arith, c.loop-setting.invariant.kept, (here (by c)).candidate-test.taken)
+    let d = c.before.before.before in
+    omega (arith, d.loop-setting.invariant.kept, (here (by d)).candidate-test.true)
 
 candidate_again_5 : tie.Need-candidate-preserved invariant-loop decreases-loop invariant-candidate decreases-candidate invariant-sum decreases-sum
 candidate_again_5 c =
-    let e = by c in
+    let d = c.before.before.before in
+    let e = by d in
     let p = (start (halves (here e))).requires in
-    let i = c.loop-setting.invariant in
+    let i = d.loop-setting.invariant in
     let n = 2 ^ count (halves (here e)) in
-    let remembered = c.remembered-known.ensures n (subst (RememberedWithin n) (sym i.kept_known) (within e)) (inside c) in (
+    let remembered = c.remembered-known.ensures n (subst (RememberedWithin n) (sym i.kept_known) (within e)) (inside d) in (
       kept (here e),
-      setting_differs p.0 (setting c) (at (here e)) (here e).candidate-test.taken e.before.if1.left (inside c)
+      setting_differs p.0 (setting d) (at (here e)) (here e).candidate-test.true e.before.if-sum-k.false (inside d)
           remembered i.kept (agreed c.before.before) c.if-not-clears_at-3.true-raw,
     )
 
 add_setting : tie.Need-overflow_step-setting invariant-loop decreases-loop invariant-candidate decreases-candidate invariant-sum decreases-sum
 add_setting c =
-    record { fits = omega (arith, low (by c) (setting c) (inside c)) }
+    let d = c.before.before in
+    record { fits = omega (arith, low (by d) (setting d) (inside d)) }
 
 loop_less : tie.Need-loop-setting-smaller invariant-loop decreases-loop invariant-candidate decreases-candidate invariant-sum decreases-sum
 loop_less c = omega arith
 
 loop_again : tie.Need-loop-setting-preserved invariant-loop decreases-loop invariant-candidate decreases-candidate invariant-sum decreases-sum
 loop_again c =
-    let p = (start (halves (here (by c)))).requires in
-    setting_more p.0 (l (here (by c))) c.loop-setting.invariant (inside c) (agreed c.before) c.if-not-clears_at-3.false-raw
+    let d = c.before.before in
+    let p = (start (halves (here (by d)))).requires in
+    setting_more p.0 (l (here (by d))) d.loop-setting.invariant (inside d) (agreed c.before) c.if-not-clears_at-3.false-raw
 
 returns : tie.Need-returns-in-candidate invariant-loop decreases-loop invariant-candidate decreases-candidate invariant-sum decreases-sum
 returns c =
-    let e = of c in
+    let scanned = c.before.before in
+    let e = of scanned in
     let h = halves (here e) in
-    found (start h).requires.0 (at (here e)) (here e).candidate-test.taken e.before.if1.left e.if2.left
-    c.scale_fits.ensures c.if-not-scale_fits.false-raw c.loop-setting.invariant (omega (arith, c.loop-setting-test.false, h.settings.ensures))
+    found (start h).requires.0 (at (here e)) (here e).candidate-test.true e.before.if-sum-k.false e.if-l-gt32.false
+    c.scale_fits.ensures c.if-not-scale_fits.false-raw c.loop-setting.invariant (omega (arith, c.loop-setting-test.false, h.settings-all.ensures))
 
 add_sum_4 : tie.Need-overflow_step-sum-in-sum invariant-loop decreases-loop invariant-candidate decreases-candidate invariant-sum decreases-sum
 add_sum_4 c = omega (arith, c.candidate.invariant.1.sum_high)
@@ -366,7 +385,8 @@ sum_less_4 c = omega (arith, c.candidate.invariant.1.sum_high, c.candidate.invar
 
 sum_again_4 : tie.Need-sum-preserved invariant-loop decreases-loop invariant-candidate decreases-candidate invariant-sum decreases-sum
 sum_again_4 c =
-    let p = (start (sound c)).requires in
+    let d = c.before.before.before in
+    let p = (start (sound d)).requires in
     past_dial p.0 c.candidate.invariant.1 c.candidate-test.false
 
 returns_2 : tie.Need-returns invariant-loop decreases-loop invariant-candidate decreases-candidate invariant-sum decreases-sum

@@ -56,16 +56,16 @@ module _ (c : Halves) where
   few = start.requires.0.searchable.few
 
   abbrev highs : ℕ
-  highs = c.before.settings.result
+  highs = c.settings-highs.result
 
   abbrev lows : ℕ
-  lows = c.settings2.result
+  lows = c.settings-lows.result
 
   highs_is : highs ≡ 2 ^ (count - 8)
-  highs_is = c.before.settings.ensures ∙ ap (λ (n : ℕ). 2 ^ n) c.before.before.high-feeds.ensures
+  highs_is = c.settings-highs.ensures ∙ ap (λ (n : ℕ). 2 ^ n) c.high_feeds-high_count.ensures
 
   lows_is : lows ≡ 2 ^ (count - (count - 8))
-  lows_is = c.settings2.ensures ∙ ap (λ (n : ℕ). 2 ^ (count - n)) c.before.before.high-feeds.ensures
+  lows_is = c.settings-lows.ensures ∙ ap (λ (n : ℕ). 2 ^ (count - n)) c.high_feeds-high_count.ensures
 
   lows_few : lows ≤ 256
   lows_few = half_few count lows lows_is
@@ -73,19 +73,20 @@ module _ (c : Halves) where
   lows_some : 0 < lows
   lows_some = omega (arith, lows_is, pow_pos (count - (count - 8)))
 
-  tables : SumTables start.args.sums-u.now start.args.sums-v.now
+  tables : SumTables start.args.sums_u.now start.args.sums_v.now
   tables = let p = start.requires in tables_small p.0.searchable p.1.0 p.1.1
 
 mixed_sums_requires : tie.Need-mixed_sums-mixes-requires invariant-loop2 decreases-loop2 invariant-loop decreases-loop
 mixed_sums_requires c κs = (tables c, ((start c).requires.0.dial, lows_few c))
 
 span_requires : tie.Need-span-span_v-requires invariant-loop2 decreases-loop2 invariant-loop decreases-loop
-span_requires c κs = let f = lows_few h in let s = lows_some c in search rules
+span_requires c κs = let h = c.before.before in let f = lows_few h in let s = lows_some h in search rules
 
 span_requires_2 : tie.Need-span-span-requires invariant-loop2 decreases-loop2 invariant-loop decreases-loop
 span_requires_2 c κs =
-    let f = lows_few c in
-    let s = lows_some c in
+    let h = c.before.before.before.before in
+    let f = lows_few h in
+    let s = lows_some h in
     search rules
 
 -- the sums on the low half, and their ends
@@ -106,10 +107,10 @@ abbrev halves : High → Halves
 halves d = both d.before.before
 
 abbrev high : High → ℕ
-high d = d.before.loop.high
+high d = d.loop-high.high
 
 high_low : (d : High) → high d < 256
-high_low d = let h = halves d in omega (arith, d.loop-test.taken, high_few (count h) (highs h) (few h) (highs_is h))
+high_low d = let h = halves d in omega (arith, d.loop-high-test.true, high_few (count h) (highs h) (few h) (highs_is h))
 
 add_high : tie.Need-overflow_step-high invariant-loop2 decreases-loop2 invariant-loop decreases-loop
 add_high c = record { fits = omega (arith, high_low c.before) }
@@ -119,40 +120,42 @@ loop_less c = omega arith
 
 loop_again : tie.Need-loop-high-preserved-then-least-lit invariant-loop2 decreases-loop2 invariant-loop decreases-loop
 loop_again c =
-    let h = halves c in
-    let least = c.loop-high.least in
-    let over = high_ones (count h) (highs h) (lows h) (high c) least (few h) (highs_is h) (lows_is h) c.loop-high-test.true c.if-least-lit.true in
-    (placed ((high c + 1) * lows h) (omega arith) (many_lit (lows h) c.loop-high.invariant.0 over), omega arith)
+    let d = c.before in
+    let h = halves d in
+    let least = d.loop-high.least in
+    let over = high_ones (count h) (highs h) (lows h) (high d) least (few h) (highs_is h) (lows_is h) d.loop-high-test.true c.if-least-lit.true in
+    (placed ((high d + 1) * lows h) (omega arith) (many_lit (lows h) d.loop-high.invariant.0 over), omega arith)
 
 low_thresholds_requires : tie.Need-low_thresholds-reach-requires invariant-loop2 decreases-loop2 invariant-loop decreases-loop
-low_thresholds_requires c κs = (tables (halves c), ((start (halves c)).requires.0.searchable.fair.near, high_low c))
+low_thresholds_requires c κs = let d = c.before.before in (tables (halves d), ((start (halves d)).requires.0.searchable.fair.near, high_low d))
 
 -- what is left for the low half
 abbrev Left : Type 0
 Left = tie.After-low_thresholds-reach invariant-loop2 decreases-loop2 invariant-loop decreases-loop
 
 abbrev by : Left → High
-by r = r.before.before
+by r = r.before.before.before
 
-reached : (r : Left) → ThresholdsWithin 10000000 r.low-thresholds.result
+reached : (r : Left) → ThresholdsWithin 10000000 r.low_thresholds-reach.result
 reached r =
     let h = halves (by r) in
     let s = start h in
     let x = high (by r) in
-    subst (ThresholdsWithin 10000000) (sym r.low-thresholds.ensures)
+    subst (ThresholdsWithin 10000000) (sym r.low_thresholds-reach.ensures)
     (reduced_near s.args.a.thresholds _ _ s.requires.0.searchable.fair.near ((tables h).u_small (256 + x)) ((tables h).v_small (256 + x)))
 
 block_clears_requires : tie.Need-block_clears-requires invariant-loop2 decreases-loop2 invariant-loop decreases-loop
 block_clears_requires c κs =
-    let m = (by c).before.before in
+    let r = c.before in
+    let m = (by r).before.before in
     let h = both m in
     let of_v = m.before.before in
-    let sums = of_v.before.before.mixed-sums.ensures in
-    (reached c, ((start h).requires.0.dial, (lows_few h, (sums, (of_v.span.ensures, m.span2.ensures)))))
+    let sums = of_v.before.before.mixed_sums-mixes.ensures in
+    (reached r, ((start h).requires.0.dial, (lows_few h, (sums, (of_v.span-span_v.ensures, m.span-span.ensures)))))
 
 -- a setting of the high half, and each of the low half
 halved_by : (d : High) (j : ℕ) → j < lows (halves d) → SettingHalves (count (halves d)) (lows (halves d)) (high d) j
-halved_by d j l = let h = halves d in halved (count h) (highs h) (lows h) (high d) j (few h) (highs_is h) (lows_is h) d.loop-test.taken l
+halved_by d j l = let h = halves d in halved (count h) (highs h) (lows h) (high d) j (few h) (highs_is h) (lows_is h) d.loop-high-test.true l
 
 add_high_2 : tie.Need-overflow_step-high-then-block_clears invariant-loop2 decreases-loop2 invariant-loop decreases-loop
 add_high_2 c = record { fits = omega (arith, high_low (by c.before.before.before)) }
@@ -162,13 +165,14 @@ loop_less_2 c = omega arith
 
 loop_again_2 : tie.Need-loop-high-preserved-then-block_clears invariant-loop2 decreases-loop2 invariant-loop decreases-loop
 loop_again_2 c =
-    let d = by c in
+    let r = c.before.before.before in
+    let d = by r in
     let h = halves d in
     let p = (start h).requires in
     let clear = sym c.block_clears.ensures ∙ c.if-block_clears.true in
     let all = block_on p.0.searchable p.1.0 p.1.1 (start h).args.k (start h).args.l (lows h) (high d) (halved_by d)
-    c.low_thresholds-reach.ensures clear in
-    (placed ((high d + 1) * lows h) (omega arith) (block_agreeing (lows h) d.before.loop.inv.0 all), omega arith)
+    r.low_thresholds-reach.ensures clear in
+    (placed ((high d + 1) * lows h) (omega arith) (block_agreeing (lows h) d.before.loop-high.invariant.0 all), omega arith)
 
 -- a block that is not clear
 abbrev left_for : tie.Else-block_clears invariant-loop2 decreases-loop2 invariant-loop decreases-loop → Left
@@ -177,7 +181,7 @@ left_for u = u.before.before.before
 loop2_holds : tie.Need-loop-low-init invariant-loop2 decreases-loop2 invariant-loop decreases-loop
 loop2_holds c =
     let d = by (left_for c) in
-    (placed (high d * lows (halves d) + 0) (omega arith) d.before.loop.inv.0, omega arith)
+    (placed (high d * lows (halves d) + 0) (omega arith) d.before.loop-high.invariant.0, omega arith)
 
 -- a setting of the low half
 abbrev Low : Type 0
@@ -193,17 +197,17 @@ abbrev whole : Low → Halves
 whole d = halves (of d)
 
 abbrev low : Low → ℕ
-low d = d.before.loop2.low
+low d = d.loop-low.low
 
 -- its number
 abbrev number : Low → ℕ
 number d = high (of d) * lows (whole d) + low d
 
 low_low : (d : Low) → low d < 256
-low_low d = omega (arith, d.loop2-test.taken, lows_few (whole d))
+low_low d = omega (arith, d.loop-low-test.true, lows_few (whole d))
 
 setting : (d : Low) → SettingHalves (count (whole d)) (lows (whole d)) (high (of d)) (low d)
-setting d = halved_by (of d) (low d) d.loop2-test.taken
+setting d = halved_by (of d) (low d) d.loop-low-test.true
 
 inside : (d : Low) → number d < 65536
 inside d = setting_low (count (whole d)) (number d) (few (whole d)) (setting d).inside
@@ -227,22 +231,25 @@ onward d = omega arith
 
 loop2_again : tie.Need-loop-low-preserved-then-least-ones invariant-loop2 decreases-loop2 invariant-loop decreases-loop
 loop2_again c =
-    let over : (j : ℕ) → j < 1 → c.loop-low.least ≤ ones (number c + j) =
-    λ j h. let e : number c + j ≡ number c = omega (arith, h) in rw e (omega (arith, lit c, c.if-least-ones.true)) in
-    (placed _ (onward c) (many_lit 1 c.loop-low.invariant.0 over), omega arith)
+    let d = c.before in
+    let over : (j : ℕ) → j < 1 → d.loop-low.least ≤ ones (number d + j) =
+    λ j h. let e : number d + j ≡ number d = omega (arith, h) in rw e (omega (arith, lit d, c.if-least-ones.true)) in
+    (placed _ (onward d) (many_lit 1 d.loop-low.invariant.0 over), omega arith)
 
 clears_low_requires : tie.Need-clears_low-requires invariant-loop2 decreases-loop2 invariant-loop decreases-loop
 clears_low_requires c κs =
-    (tables (whole c), (reached (left c), ((start (whole c)).requires.0.dial, low_low c)))
+    let d = c.before in
+    (tables (whole d), (reached (left d), ((start (whole d)).requires.0.dial, low_low d)))
 
 -- what its test says
-agreed : (c : tie.After-clears_low invariant-loop2 decreases-loop2 invariant-loop decreases-loop) → let s = (start (whole c)).args in
-    c.clears_low.result ≡ clears_on (aligned_in s.a) s.k s.l (number c)
+agreed : (c : tie.After-clears_low invariant-loop2 decreases-loop2 invariant-loop decreases-loop) → let d = c.before.before in let s = (start (whole d)).args in
+    c.clears_low.result ≡ clears_on (aligned_in s.a) s.k s.l (number d)
 agreed c =
-    let h = whole c in
+    let d = c.before.before in
+    let h = whole d in
     let p = (start h).requires in
-    tested_low p.0.searchable p.1.0 p.1.1 (start h).args.k (start h).args.l (lows h) (high (of c)) (low c) (setting c)
-    (rw (left c).low-thresholds.ensures at c.clears_low.ensures)
+    tested_low p.0.searchable p.1.0 p.1.1 (start h).args.k (start h).args.l (lows h) (high (of d)) (low d) (setting d)
+    (rw (left d).low_thresholds-reach.ensures at c.clears_low.ensures)
 
 add_low_2 : tie.Need-overflow_step-low-then-clears_low invariant-loop2 decreases-loop2 invariant-loop decreases-loop
 add_low_2 c = record { fits = omega (arith, low_low c.before.before.before) }
@@ -252,7 +259,8 @@ loop2_less_2 c = omega arith
 
 loop2_again_2 : tie.Need-loop-low-preserved-then-clears_low invariant-loop2 decreases-loop2 invariant-loop decreases-loop
 loop2_again_2 c =
-    (placed _ (onward c) (agreeing c.loop-low.invariant.0 (sym (agreed c.before) ∙ c.if-clears_low.true)), omega arith)
+    let d = c.before.before.before in
+    (placed _ (onward d) (agreeing d.loop-low.invariant.0 (sym (agreed c.before) ∙ c.if-clears_low.true)), omega arith)
 
 mul_shown : tie.Need-overflow_mul-shown invariant-loop2 decreases-loop2 invariant-loop decreases-loop
 mul_shown c = record { fits = omega (arith, inside c.before.before.before) }
@@ -268,8 +276,9 @@ loop2_less_3 c = omega arith
 
 loop2_again_3 : tie.Need-loop-low-preserved invariant-loop2 decreases-loop2 invariant-loop decreases-loop
 loop2_again_3 c =
-    let kept = better c.loop-low.invariant.0 (setting c).inside (omega (arith, lit c, c.if-least-ones.false)) (sym (agreed c.before) ∙ c.if-clears_low.false) in
-    (rw (lit c) at (placed _ (onward c) kept), omega arith)
+    let d = c.before.before.before in
+    let kept = better d.loop-low.invariant.0 (setting d).inside (omega (arith, lit d, c.if-least-ones.false)) (sym (agreed c.before) ∙ c.if-clears_low.false) in
+    (rw (lit d) at (placed _ (onward d) kept), omega arith)
 
 add_high_3 : tie.Need-overflow_step-high-in-loop-high invariant-loop2 decreases-loop2 invariant-loop decreases-loop
 add_high_3 c = record { fits = omega (arith, high_low (by (left_for c.before.before))) }

@@ -97,7 +97,7 @@ loop_again c =
     let b = gate_bytes (gate_in taken.gate_at-gate.result) in (
       omega arith,
       omega arith,
-      write_on x₀ l.out c.put_gate-step.new.0 (first_gates fs ts ss ws l.g) b l.at step l.invariant.2
+      write_on x₀ l.out c.put_gate-step.new.out (first_gates fs ts ss ws l.g) b l.at step l.invariant.2
           (first_gates_length fs ts ss ws l.g ∙ sym l.invariant.1) (ap (λ (x : Gate). length (gate_bytes x)) e ∙ gate_from_length fs ts ss ws l.g ∙ sym s)
           (omega arith) c.put_gate-step.ensures.1
           ∙ ap (λ (x : Gate). (first_gates fs ts ss ws l.g ++ gate_bytes x) ++ drop (l.at + step) x₀) e

@@ -62,13 +62,13 @@ body_is c =
 
 -- the outputs end where the length found says, and that is in the lent bytes
 ends : (c : tie.After-put_gates-gates) → let put = headed c in
-    let end = put.put-header.result + c.put_gates-gates.result + (start_of put).args.network.outputs in
-    (end ≡ put.before.before.before.file_length.result) × (end ≤ length (start_of put).args.out.now)
+    let end = put.put_header-start.result + c.put_gates-gates.result + (start_of put).args.network.outputs in
+    (end ≡ put.before.before.before.file_length-length.result) × (end ≤ length (start_of put).args.out.now)
 ends c =
     let put = headed c in
-    let e : put.put-header.result ≡ header_length (start_of put).args.network.board = put.put-header.ensures.0 in
+    let e : put.put_header-start.result ≡ header_length (start_of put).args.network.board = put.put_header-start.ensures.0 in
     let m = c.put_gates-gates.ensures.0 in
-    let n = put.before.before.before.file_length.ensures in
+    let n = put.before.before.before.file_length-length.ensures in
     let h = put.before.before.if1.left in
     (omega (arith, e, m, n), omega (arith, e, m, n, h))
 
@@ -88,10 +88,10 @@ put_header_requires c κs =
     ((omega arith, omega arith, omega arith), omega arith)
 
 -- the gates have room after the header
-room : (c : tie.After-put_header-start) → let r = (start_of c).args.network in c.put_header-start.result + gates_length r.fanins r.gates ≤ length c.put_header-start.new.0
+room : (c : tie.After-put_header-start) → let r = (start_of c).args.network in c.put_header-start.result + gates_length r.fanins r.gates ≤ length c.put_header-start.new.out
 room c =
     let e : c.put_header-start.result ≡ header_length (start_of c).args.network.board = c.put_header-start.ensures.0 in
-    omega (arith, e, c.put_header-start.auto.0, c.file_length-length.ensures, c.if-out-length.false)
+    omega (arith, e, c.put_header-start.auto.out, c.file_length-length.ensures, c.if-out-length.false)
 
 sub_put_gates : tie.Need-slice_bounds-put_gates-count
 sub_put_gates c = omega (arith, room c.before.before)
@@ -102,14 +102,14 @@ part_put_gates_start c = omega (arith, room c.before.before)
 put_gates_requires : tie.Need-put_gates-gates-requires
 put_gates_requires c κs =
     let put = c.before.before.before.before.before.before.before in
-    let t = tail_length put.put_header-start.result put.put_header-start.new.0 in
+    let t = tail_length put.put_header-start.result put.put_header-start.new.out in
     (counted_of (start_of put).args.network (start_of put).requires, omega (arith, t, room put))
 
 put_outputs_requires : tie.Need-put_outputs-requires
 put_outputs_requires c κs =
     let gates = c.before.before.before.before in
     let put = headed gates in
-    let t = tail_length (put.put-header.result + gates.put_gates-gates.result) (body gates) in
+    let t = tail_length (put.put_header-start.result + gates.put_gates-gates.result) (body gates) in
     let l = c.out-2-1.given.1 in
     let k = put.put-header.kept.0 in
     let e = (ends gates).1 in
@@ -126,15 +126,15 @@ returns_2 c =
     let H = counted_header r.board r.inputs r.gates r.outputs in
     let G = first_gates r.fanins r.thresholds r.signals r.weights r.gates in
     let O = first_outputs r.drivers r.outputs in
-    let a = put.put-header.result in
+    let a = put.put_header-start.result in
     let m = gates.put_gates-gates.result in
-    let ea : a ≡ header_length r.board = put.put-header.ensures.0 in
+    let ea : a ≡ header_length r.board = put.put_header-start.ensures.0 in
     let em : m ≡ gates_length r.fanins r.gates = gates.put_gates-gates.ensures.0 in
     let lH = counted_header_length r.board r.inputs r.gates r.outputs in
     let lG = first_gates_length r.fanins r.thresholds r.signals r.weights r.gates in
     let lO = first_outputs_length r.drivers r.outputs in
     let lp : length (H ++ G) ≡ a + m = length-append H G ∙ ap₂ ◌+◌ (lH ∙ sym ea) (lG ∙ sym em) in
-    let n = first.file_length.result in
+    let n = first.file_length-length.result in
     let e = ends gates in
     let el = length_is first in
     let w = written_whole r n x₀ (write_whole r (length x₀) start.requires (omega (arith, e.0, e.1, el))) el in (

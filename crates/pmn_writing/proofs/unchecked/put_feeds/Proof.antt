@@ -37,7 +37,7 @@ loop_again c =
     let f = feed_at ss ws l.i in
     let n : 5 * (l.i + 1) ≡ 5 * l.i + 5 = omega arith in (
       omega arith,
-      write_on x₀ l.out c.put_pair.new.0 (first_feeds ss ws l.i) (feed_bytes f) (5 * l.i) 5 l.invariant.1 (first_feeds_length ss ws l.i) refl
+      write_on x₀ l.out c.put_pair.new.out (first_feeds ss ws l.i) (feed_bytes f) (5 * l.i) 5 l.invariant.1 (first_feeds_length ss ws l.i) refl
           (omega arith)
           (c.put_pair.ensures
           ∙ ap (λ (z : ℤ). (get_or ss l.i 0 ∷ int_bytes z) ++ drop 5 (take (length l.out - 5 * l.i) (drop (5 * l.i) l.out)))

@@ -23,7 +23,7 @@ returns c =
     let e : count ≡ gate.fanin = omega arith in
     let head = gate.fanin ∷ int_bytes gate.threshold in (
       omega arith,
-      write_on x₀ c.put_pair.new.0 c.put_feeds.new.0 head (first_feeds gate.signals gate.weights count) 5 (5 * count)
+      write_on x₀ c.put_pair.new.out c.put_feeds.new.out head (first_feeds gate.signals gate.weights count) 5 (5 * count)
           (c.put_pair.ensures ∙ ap (λ (z : ℤ). (gate.fanin ∷ int_bytes z) ++ drop 5 x₀)
           (to_z-of_z {w = w32} {z = gate.threshold} (record { sfits = c.struct_told-1.given.1.0.1 })))
           refl (first_feeds_length gate.signals gate.weights count) (omega arith) c.put_feeds.ensures

@@ -15,8 +15,8 @@ put_board_requires : tie.Need-put_board-at-requires
 put_board_requires c κs = omega (arith, mark_bytes_length c.args.board)
 
 -- the counts have room
-room : (c : tie.After-put_board-at) → c.put_board-at.result + 3 ≤ length c.put_board-at.new.0
-room c = omega (arith, c.put_board-at.ensures.0, c.put_board-at.auto.0, mark_bytes_length c.args.board)
+room : (c : tie.After-put_board-at) → c.put_board-at.result + 3 ≤ length c.put_board-at.new.out
+room c = omega (arith, c.put_board-at.ensures.0, c.put_board-at.auto.out, mark_bytes_length c.args.board)
 
 sub_put_counts : tie.Need-slice_bounds-put_counts-count
 sub_put_counts c = omega (arith, room c.before.before)
@@ -27,7 +27,7 @@ part_put_counts_start c = omega (arith, room c.before.before)
 put_counts_requires : tie.Need-put_counts-requires
 put_counts_requires c κs =
     let put = c.before.before.before in
-    let t = tail_length put.put_board-at.result put.put_board-at.new.0 in
+    let t = tail_length put.put_board-at.result put.put_board-at.new.out in
     (c.requires.0, omega (arith, room put))
 
 add_result : tie.Need-overflow_add-result
@@ -42,7 +42,7 @@ returns c =
     let e = c.put_board-at.ensures.0 in
     let l = mark_bytes_length a.board in (
       omega arith,
-      write_on a.out.now c.put_board-at.new.0 c.put_counts.new.0 (mark_bytes a.board) (a.inputs ∷ a.gates ∷ a.outputs ∷ []) at 3
+      write_on a.out.now c.put_board-at.new.out c.put_counts.new.out (mark_bytes a.board) (a.inputs ∷ a.gates ∷ a.outputs ∷ []) at 3
           c.put_board-at.ensures.1 (sym c.put_board-at.ensures.0) refl (omega arith) c.put_counts.ensures,
     )
 

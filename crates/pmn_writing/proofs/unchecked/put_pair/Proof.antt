@@ -31,7 +31,7 @@ returns c =
     let out = c.args.out.now in
     let b = c.args.byte in
     let done = c.put_int in
-    write_on out (set out 0 b) done.new.0 (b ∷ []) (int_bytes c.args.number) 1 4 (first_put out b (omega arith)) refl refl (omega arith)
+    write_on out (set out 0 b) done.new.out (b ∷ []) (int_bytes c.args.number) 1 4 (first_put out b (omega arith)) refl refl (omega arith)
     (done.ensures ∙ ap (λ (z : ℤ). int_bytes z ++ drop 4 (take (length (set out 0 b) - 1) (drop 1 (set out 0 b)))) (to_z-of_z c.ranges.number))
 
 pub put_pair_spec : {M : Type 1} → statement M

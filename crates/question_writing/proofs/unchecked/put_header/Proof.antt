@@ -28,7 +28,7 @@ at_first c = c.before.before.before.before.before.before
 
 -- the first word with its number
 first : (c : tie.After-put_number-at) → TextPut (variable_word ++ decimal c.args.variables) c.put_number-at.result
-    c.args.out.now c.put_number-at.new.0
+    c.args.out.now c.put_number-at.new.out
 unfolding variable_word
 first c = c.put_number-at.ensures
 
@@ -36,7 +36,7 @@ first_room : (c : tie.After-put_number-at) → c.put_number-at.result + length (
     c.args.out.now
 first_room c = omega (arith, c.put_number-at.ensures.long, long c.before.before.before.before.before)
 
-first_long : (c : tie.After-put_number-at) → length c.put_number-at.new.0 ≡ length c.args.out.now
+first_long : (c : tie.After-put_number-at) → length c.put_number-at.new.out ≡ length c.args.out.now
 first_long c = put_length (first c) (omega (arith, first_room c))
 
 -- the second
@@ -47,9 +47,9 @@ room c = omega (arith, c.put_number.ensures.long, first_room c.before.before.bef
 second : (c : tie.After-put_number) →
     let a = c.args in
     let at = c.put_number-at.result in
-    let xs = c.put_number-at.new.0 in
+    let xs = c.put_number-at.new.out in
     TextPut ((variable_word ++ decimal a.variables) ++ (constraint_word ++ decimal a.lines)) (at + c.put_number.result) a.out.now
-    (put_mid at (length xs - at) xs c.put_number.new.0)
+    (put_mid at (length xs - at) xs c.put_number.new.out)
 unfolding constraint_word
 second c = let h = room c in put_part (first c.before.before.before.before.before.before) (omega arith) c.put_number.ensures
 
@@ -65,7 +65,7 @@ part_put_number_start c = omega (arith, first_long c.before.before, first_room c
 put_number_requires_2 : tie.Need-put_number-requires
 put_number_requires_2 c κs =
     let done = c.before.before.before.before.before in
-    omega (arith, first_long done, first_room done, tail_length done.put_number-at.result done.put_number-at.new.0)
+    omega (arith, first_long done, first_room done, tail_length done.put_number-at.result done.put_number-at.new.out)
 
 add_end : tie.Need-overflow_add-end
 add_end c = record {

@@ -42,7 +42,7 @@ room : (c : tie.After-put_terms-at) → c.put_terms-at.result + length (relation
     c.args.out.now
 room c = omega (arith, c.put_terms-at.ensures.long, long c.before.before.before.before.before)
 
-terms_long : (c : tie.After-put_terms-at) → length c.put_terms-at.new.0 ≡ length c.args.out.now
+terms_long : (c : tie.After-put_terms-at) → length c.put_terms-at.new.out ≡ length c.args.out.now
 terms_long c = put_length c.put_terms-at.ensures (omega (arith, room c))
 
 -- and the relation has room
@@ -72,7 +72,7 @@ put_relation_requires c κs =
       terms_long done,
       room done,
       ap length (right_is done.before.before.before.before.before),
-      tail_length done.put_terms-at.result done.put_terms-at.new.0,
+      tail_length done.put_terms-at.result done.put_terms-at.new.out,
     )
 
 add_result : tie.Need-overflow_add-result

@@ -27,7 +27,7 @@ right_is c = ap right_side (to_z-of_z c.ranges.right)
 
 -- the sign of the relation
 first_room : (c : tie.After-put_bytes-at) → (c.put_bytes-at.result ≡ 3)
-    × (length c.put_bytes-at.new.0 ≡ length c.args.out.now)
+    × (length c.put_bytes-at.new.out ≡ length c.args.out.now)
 first_room c =
     let r : c.put_bytes-at.result ≡ 3 = omega (arith, c.put_bytes-at.ensures.long) in
     (r, put_length c.put_bytes-at.ensures (omega (arith, long c.before.before.before.before.before)))
@@ -50,15 +50,15 @@ room c =
 second : (c : tie.After-put_right) →
     let a = c.args in
     let at = c.put_bytes-at.result in
-    let xs = c.put_bytes-at.new.0 in
-    TextPut ((62 ∷ 61 ∷ 32 ∷ []) ++ right_side a.right) (at + c.put_right.result) a.out.now (put_mid at (length xs - at) xs c.put_right.new.0)
+    let xs = c.put_bytes-at.new.out in
+    TextPut ((62 ∷ 61 ∷ 32 ∷ []) ++ right_side a.right) (at + c.put_right.result) a.out.now (put_mid at (length xs - at) xs c.put_right.new.out)
 second c =
     put_part c.put_bytes-at.ensures (omega (arith, room c)) (put_text c.put_right.ensures (right_is c.before.before.before.before.before.before.before.before.before))
 
 second_long : (c : tie.After-put_right) →
     let at = c.put_bytes-at.result in
-    let xs = c.put_bytes-at.new.0 in
-    length (put_mid at (length xs - at) xs c.put_right.new.0) ≡ length c.args.out.now
+    let xs = c.put_bytes-at.new.out in
+    length (put_mid at (length xs - at) xs c.put_right.new.out) ≡ length c.args.out.now
 second_long c = put_length (second c) (omega (arith, room c))
 
 -- the line's end
@@ -72,13 +72,13 @@ sub_put_right : tie.Need-slice_bounds-put_right-count
 sub_put_right c = omega (arith, first_room c.before.before, long c.before.before.before.before.before.before.before)
 
 part_put_right_start : tie.Need-slice_bounds-put_right-start
-part_put_right_start c = omega (arith, first_room c.before.before, long c.before.before.before.before.before.before)
+part_put_right_start c = omega (arith, first_room c.before.before, long c.before.before.before.before.before.before.before)
 
 put_right_requires : tie.Need-put_right-requires
 put_right_requires c κs =
     let done = c.before.before.before in
     let start = c.before.before.before.before.before.before.before.before in
-    omega (arith, ap length (right_is start), first_room done, long start, tail_length done.put_bytes-at.result done.put_bytes-at.new.0)
+    omega (arith, ap length (right_is start), first_room done, long start, tail_length done.put_bytes-at.result done.put_bytes-at.new.out)
 
 add_end : tie.Need-overflow_add-end
 add_end c = record {
@@ -96,13 +96,13 @@ put_bytes_requires_2 : tie.Need-put_bytes-requires
 put_bytes_requires_2 c κs =
     let right_done = c.before.before.before.before.before in
     let at = c.put_bytes-at.result in
-    let xs = c.put_bytes-at.new.0 in
+    let xs = c.put_bytes-at.new.out in
     omega (
       arith,
       second_long right_done,
       room right_done,
       tail_length (at + right_done.put_right.result)
-          (put_mid at (length xs - at) xs right_done.put_right.new.0),
+          (put_mid at (length xs - at) xs right_done.put_right.new.out),
     )
 
 add_result : tie.Need-overflow_add-result

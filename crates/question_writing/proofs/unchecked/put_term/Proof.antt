@@ -22,14 +22,14 @@ long c = omega (arith, term_length c.args.variable c.args.coefficient, c.require
 
 -- the coefficient
 first : (c : tie.After-put_coefficient-at) → TextPut (coefficient c.args.coefficient) c.put_coefficient-at.result
-    c.args.out.now c.put_coefficient-at.new.0
+    c.args.out.now c.put_coefficient-at.new.out
 first c = put_text c.put_coefficient-at.ensures (ap coefficient (to_z-of_z c.ranges.coefficient))
 
 first_room : (c : tie.After-put_coefficient-at)
     → c.put_coefficient-at.result + length (decimal (c.args.variable + 1)) + 3 ≤ length c.args.out.now
 first_room c = omega (arith, (first c).long, long c.before.before.before)
 
-first_long : (c : tie.After-put_coefficient-at) → length c.put_coefficient-at.new.0 ≡ length c.args.out.now
+first_long : (c : tie.After-put_coefficient-at) → length c.put_coefficient-at.new.out ≡ length c.args.out.now
 first_long c = put_length (first c) (omega (arith, first_room c))
 
 -- the variable after it
@@ -47,9 +47,9 @@ room c = omega (arith, c.put_number.ensures.long, first_room c.before.before.bef
 named : (c : tie.After-put_number) →
     let a = c.args in
     let at = c.put_coefficient-at.result in
-    let xs = c.put_coefficient-at.new.0 in
+    let xs = c.put_coefficient-at.new.out in
     TextPut (coefficient a.coefficient ++ ((32 ∷ 120 ∷ []) ++ decimal (a.variable + 1))) (at + c.put_number.result) a.out.now
-    (put_mid at (length xs - at) xs c.put_number.new.0)
+    (put_mid at (length xs - at) xs c.put_number.new.out)
 named c = let h = room c in put_part (first c.before.before.before.before.before.before) (omega arith) c.put_number.ensures
 
 put_coefficient_requires : tie.Need-put_coefficient-at-requires
@@ -65,7 +65,7 @@ part_put_number_start c = omega (arith, first_long c.before.before, first_room c
 put_number_requires : tie.Need-put_number-requires
 put_number_requires c κs =
     let done = c.before.before.before.before.before in
-    omega (arith, first_long done, first_room done, tail_length done.put_coefficient-at.result done.put_coefficient-at.new.0)
+    omega (arith, first_long done, first_room done, tail_length done.put_coefficient-at.result done.put_coefficient-at.new.out)
 
 add_end : tie.Need-overflow_add-end
 add_end c = record {

@@ -88,7 +88,7 @@ put_term_requires c κs =
 put : (c : tie.After-put_term-step invariant-loop decreases-loop) →
     let l = c.loop-i in
     TextPut (term_text (here c.before.before.before.before.before)) c.put_term-step.result (take (length l.out - l.at) (drop l.at l.out))
-    c.put_term-step.new.0
+    c.put_term-step.new.out
 put c = put_text c.put_term-step.ensures (ap term_text (term_is c.before.before.before.before.before))
 
 -- the turn of the loop in which a term is put, and the start before it
@@ -103,7 +103,7 @@ put_room : (c : tie.After-put_term-step invariant-loop decreases-loop)
 put_room c = omega (arith, (put c).long, room c.before.before.before.before.before)
 
 add_at : tie.Need-overflow_add-at invariant-loop decreases-loop
-add_at c = record { fits = omega (arith, put_room c.before.before, (at_start (in_loop c.before.before)).good.0.0) }
+add_at c = record { fits = omega (arith, put_room c.before.before, (at_start (in_loop c.before.before)).well_formed.0.0) }
 
 add_i : tie.Need-overflow_step-i invariant-loop decreases-loop
 add_i c = let h = c.loop-i-test.true in

@@ -28,7 +28,7 @@ loop_again c =
 returns : tie.Need-returns invariant-loop decreases-loop
 returns c =
     let a = c.args in
-    let long : length a.t1 ≡ 17 = search rules in
+    let long : length a.row ≡ 17 = search rules in
     let full : c.loop-i.i ≡ 16 = omega arith in
     row_moved a.p a.q long (rw full at c.loop-i.invariant.1)
 

@@ -44,7 +44,7 @@ loop_again c =
 returns_3 : tie.Need-returns invariant-loop decreases-loop
 returns_3 c =
     let full : c.loop-j.j ≡ c.args.outputs = omega (arith, c.loop-j-test.false, c.loop-j.invariant.0) in
-    (c.loop-j.invariant.1, λ e. rw full c c.loop-j.invariant.2)
+    (c.loop-j.invariant.1, λ e. rw full at c.loop-j.invariant.2)
 
 pub compare_outputs_spec : {M : Type 1} → statement M
 compare_outputs_spec =
