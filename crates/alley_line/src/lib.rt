@@ -1,2 +1,4 @@
 // The lines of a sheet as text. Its calls ask for what `unchecked` says.
+#![tactic(auto)]
+
 pub mod unchecked;

@@ -1,4 +1,6 @@
 // The sheet of an alley, lane by lane: a lane's line and the totals after it, and the last line with both sums.
+#![tactic(auto)]
+
 ghost use Rattle.std.specs.Prelude.{◌≡◌, List, ℕ, length};
 ghost use Rattle.basics.specs.Refusals.{stored};
 ghost use Rattle.pmn_format.specs.Format.{Bytes};

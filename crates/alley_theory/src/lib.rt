@@ -1,4 +1,5 @@
 // The sheet of an alley: definitions, claims and laws, in specs/. The only code is the types of what is listed.
+#![tactic(auto)]
 
 // What is listed of a lane: 0 and its gates and cost, or the number of its refusal and 0.
 #[derive(Clone, Copy)]

@@ -1,4 +1,6 @@
 // Leaf conversions: bytes, signed 32-bit little-endian integers, and the size of a number.
+#![tactic(auto)]
+
 ghost use Rattle.std.specs.Prelude.{◌≡◌, ◌<◌, nat_abs};
 
 // A byte as an index or a count.

@@ -1,4 +1,6 @@
 // One call of a list on records.
+#![tactic(auto)]
+
 pub mod unchecked;
 
 ghost use Rattle.std.specs.Prelude.{◌≡◌};

@@ -1,4 +1,6 @@
 // A list of calls given as numbers, five to a call, and the four numbers that each call's answer is. Its other calls ask for what `unchecked` says.
+#![tactic(auto)]
+
 pub mod unchecked;
 
 ghost use Rattle.std.specs.Prelude.{◌≡◌};

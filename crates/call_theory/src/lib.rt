@@ -1,5 +1,6 @@
 // Lists of calls on a network with its journal: definitions and laws, in specs/. The only code is the type of a call, and that of the numbers
 // which it gives.
+#![tactic(auto)]
 
 // One call of a list: a merge (u, v, k, l), a drop or a collapse (a signal), a sweep (B), a preview (the signal of the gate to collapse), or an
 // undo.

@@ -1,5 +1,7 @@
 // The calls for C and Rust: each function takes a PMN file and numbers (the last takes a number alone), and answers 0 or the refusal.
 // include/pmn.h has the declarations; a slice is a pointer and then a length.
+#![tactic(auto)]
+
 ghost use Rattle.std.specs.Prelude.{◌≡◌, length};
 ghost use Rattle.basics.specs.Refusals.{code_of, stored};
 ghost use Rattle.pmn_opening.specs.Files.{read_net, open_net, length_of};

@@ -1,5 +1,7 @@
 // Advice to a comparison: which signals may have one bit, a frame on which outputs may differ, which gates matter to two signals. A verdict holds
 // whatever the advice is, so these functions promise only that they are safe, that they end, and that what they give stays in range. Its calls ask for
 // what `unchecked` says.
+#![tactic(auto)]
+
 mod numbers;
 pub mod unchecked;

@@ -1,4 +1,6 @@
 // What is claimed of comparing two networks, each theorem as the promise of an empty public function. The promises cite the definitions in specs/.
+#![tactic(auto)]
+
 ghost use Rattle.std.specs.Prelude.{List, ℕ};
 ghost use Rattle.pmn_format.specs.Format.{Bytes};
 ghost use Rattle.journal_calls.specs.Answers.{CompareOn};

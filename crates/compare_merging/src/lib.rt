@@ -1,5 +1,7 @@
 // Pairs of signals of the joint tried, and what is shown to have one bit put to use: what reads the later signal reads the earlier one instead. Its
 // calls ask for what `unchecked` says.
+#![tactic(auto)]
+
 pub mod unchecked;
 
 // What came of it: whether both signals of each output are shown to have one bit; if they are not, a frame worth reading; and what is left of the

@@ -1,4 +1,6 @@
 // Whether two networks read alike on every frame.
+#![tactic(auto)]
+
 pub mod files;
 pub mod unchecked;
 

@@ -1,5 +1,7 @@
 // Whether two signals of the joint of two networks have one bit on every frame: what a partial assignment forces, decisions, and jumps back to the
 // last decision on which a contradiction rests. Its call asks for what `unchecked` says.
+#![tactic(auto)]
+
 mod advice;
 mod decisions;
 mod rules;

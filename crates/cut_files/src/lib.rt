@@ -1,4 +1,6 @@
 // The cut of a whole file, for C and Rust, with a place for the length of the new one. Document 02, No. 12.
+#![tactic(auto)]
+
 ghost use Rattle.std.specs.Prelude.{◌≡◌, length};
 ghost use Rattle.basics.specs.Refusals.{code_of, stored};
 ghost use Rattle.pmn_opening.specs.Files.{length_of};

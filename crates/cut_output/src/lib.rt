@@ -1,4 +1,6 @@
 // The cut of one output: a network of that output alone. Document 02, No. 12.
+#![tactic(auto)]
+
 pub mod unchecked;
 
 ghost use Rattle.std.specs.Prelude.{◌≡◌};

@@ -1,4 +1,6 @@
 // The distinct feeds of two gates, of which a setting speaks. Document 02, No. 9.
+#![tactic(auto)]
+
 pub mod files;
 pub mod unchecked;
 

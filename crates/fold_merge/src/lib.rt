@@ -1,4 +1,6 @@
 // Merges in the arrays of records.
+#![tactic(auto)]
+
 pub mod unchecked;
 
 use network::GateRecord;

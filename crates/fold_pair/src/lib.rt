@@ -1,4 +1,6 @@
 // The pair of two gates, on network records and on whole files.
+#![tactic(auto)]
+
 pub mod files;
 pub mod unchecked;
 

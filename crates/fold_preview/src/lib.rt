@@ -1,4 +1,6 @@
 // What collapsing a gate would give, without doing it: document 02, No. 1.
+#![tactic(auto)]
+
 pub mod files;
 pub mod unchecked;
 

@@ -1,4 +1,6 @@
 // The pair of each reader of a gate, or the refusal of its collapse. Its calls ask for what `unchecked` says.
+#![tactic(auto)]
+
 pub mod unchecked;
 
 // The multipliers for the readers of a gate: 0 or a refusal; the gate whose pair was refused, or the number of gates where none was; and

@@ -1,4 +1,6 @@
 // Which gate a sweep folds next: the lowest one with at most so many readers that collapse accepts.
+#![tactic(auto)]
+
 pub mod unchecked;
 
 use fold_reader_pairs::Pairs;

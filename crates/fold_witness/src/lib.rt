@@ -1,4 +1,6 @@
 // The fewest lit signals that show why a merge disagrees. Document 02, No. 9.
+#![tactic(auto)]
+
 pub mod files;
 pub mod unchecked;
 

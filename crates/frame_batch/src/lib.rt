@@ -1,4 +1,6 @@
 // The reading of up to 64 frames in one pass on a record.
+#![tactic(auto)]
+
 pub mod unchecked;
 
 ghost use Rattle.std.specs.Prelude.{◌≡◌};

@@ -1,4 +1,6 @@
 // A frame, and a batch of frames, on the network of a whole file. The record that was read is sound, and not tested again.
+#![tactic(auto)]
+
 ghost use Rattle.std.specs.Prelude.{◌≡◌};
 ghost use Rattle.basics.specs.Refusals.{code_of, stored};
 ghost use Rattle.frame_files.specs.Files.{frame_places, file_frames};

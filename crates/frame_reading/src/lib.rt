@@ -1,4 +1,6 @@
 // The reading of a frame: the output bits of a network by the threshold rule.
+#![tactic(auto)]
+
 pub mod unchecked;
 
 ghost use Rattle.std.specs.Prelude.{◌≡◌};

@@ -1,6 +1,8 @@
 // Every call of documents 01 and 02, in one file, each with its promise and its refusals in the paper's order. A call on a record tests it first
 // and answers 20 for one that is not sound: its network, or a journal that claims more than 64 steps. A refusal gives 0 for every other number,
 // hands the record back unchanged and touches no lent byte. Each call is thin over the crate that does the work.
+#![tactic(auto)]
+
 ghost use Rattle.std.specs.Prelude.{◌≡◌, length};
 ghost use Rattle.basics.specs.Refusals.{code_of, stored};
 ghost use Rattle.pmn_format.specs.Part.{part_answer, as_part};

@@ -1,5 +1,7 @@
 // What a customer buys, each theorem as the promise of an empty public function: the check names it, and nothing can make it vanish.
 // The promises cite the definitions in specs/. "Every record" is a parameter; "every file" is every list of bytes.
+#![tactic(auto)]
+
 ghost use Rattle.std.specs.Prelude.{◌≡◌, List, map, ℕ};
 ghost use Rattle.pmn_format.specs.Format.{Bytes};
 ghost use Rattle.pmn_reader.specs.Answers.{loaded};

@@ -1,4 +1,6 @@
 // The record: a network with the journal of its last 64 accepted steps, by value; and what a call of a list on it answers.
+#![tactic(auto)]
+
 pub mod unchecked;
 
 ghost use Rattle.std.specs.Prelude.{◌≡◌};

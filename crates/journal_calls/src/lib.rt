@@ -1,4 +1,6 @@
 // The calls that change nothing, on a record: the test of its journal, then the call on its network.
+#![tactic(auto)]
+
 ghost use Rattle.std.specs.Prelude.{◌≡◌, length};
 ghost use Rattle.basics.specs.Refusals.{code_of, stored};
 ghost use Rattle.journal_calls.specs.Answers.{writing_on, as_written, reading_on, frames_on, report_on, line_on, as_line_written};

@@ -1,4 +1,6 @@
 // What is claimed of networks in other words than the definitions have: margins, sizes, collapses and sweeps.
+#![tactic(auto)]
+
 ghost use Rattle.std.specs.Prelude.{◌≡◌, ℕ, ◌≤◌, T};
 ghost use Rattle.basics.specs.Refusals.{accepted};
 ghost use Rattle.network.specs.Threshold.{Net};

@@ -1,4 +1,6 @@
 // Whether one thing of a network is within the limits of document 01: its counts, its margins, a weight or a threshold, a gate's signal.
+#![tactic(auto)]
+
 ghost use Rattle.std.specs.Prelude.{◌≡◌, ◌&&◌, not};
 ghost use Rattle.basics.specs.Lists.{between};
 ghost use Rattle.network.specs.Limits.{in_scale, is_zero, board_ok, gate_signal};

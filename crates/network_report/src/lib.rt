@@ -1,4 +1,6 @@
 // The size report of a network: gates, cost and levels.
+#![tactic(auto)]
+
 ghost use Rattle.std.specs.Prelude.{◌≡◌};
 ghost use Rattle.network_report.specs.Size.{reported};
 

@@ -1,4 +1,6 @@
 // The test of a record's soundness: a PMN file describes its network, and its spare places hold 0.
+#![tactic(auto)]
+
 ghost use Rattle.std.specs.Prelude.{◌≡◌, ◌+◌, ◌≤◌, ◌<◌, get_or};
 ghost use Rattle.basics.specs.Lists.{all, all_from, below, tab};
 ghost use Rattle.network.specs.Limits.{gate_ok, gate_signal};

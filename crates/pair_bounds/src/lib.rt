@@ -1,5 +1,6 @@
 // The settings that bound the k / l of a merge the most, which a pair search tries first, on two gates by their distinct feeds. Its calls ask
 // for what `unchecked` says.
+#![tactic(auto)]
 
 // Two settings that rule candidates out, which are tried before all others.
 #[derive(Clone, Copy)]

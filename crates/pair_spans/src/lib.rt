@@ -1,4 +1,5 @@
 // The least and the greatest sum of a block of settings, on two gates by their distinct feeds. Its calls ask for what `unchecked` says.
+#![tactic(auto)]
 
 // The least and the greatest of some sums.
 #[derive(Clone, Copy)]

@@ -1,4 +1,6 @@
 // What is claimed of the functions on whole files, from bytes to bytes.
+#![tactic(auto)]
+
 ghost use Rattle.std.specs.Prelude.{List, ℕ};
 ghost use Rattle.network.specs.Threshold.{Net};
 ghost use Rattle.pmn_format.specs.Format.{Bytes};

@@ -1,4 +1,6 @@
 // Converting a file into the other version: document 02, No. 8.
+#![tactic(auto)]
+
 pub mod files;
 
 ghost use Rattle.std.specs.Prelude.{◌≡◌, length};

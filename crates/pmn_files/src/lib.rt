@@ -1,5 +1,7 @@
 // Reading a whole file, writing it anew, the bytes of one of its gates, and its size. Each function takes a PMN file and answers 0 or the
 // refusal.
+#![tactic(auto)]
+
 pub mod unchecked;
 
 ghost use Rattle.std.specs.Prelude.{◌≡◌};

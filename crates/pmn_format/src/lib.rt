@@ -1,4 +1,6 @@
 // The PMN file, versions 1 and 2, as a list of bytes: definitions and their laws, in specs/. The only code is lengths.
+#![tactic(auto)]
+
 ghost use Rattle.std.specs.Prelude.{◌≡◌, cond, eqb};
 
 // Fewer bytes are no PMN file.

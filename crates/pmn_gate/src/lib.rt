@@ -1,4 +1,6 @@
 // Reading one gate at a place of a PMN file. A code of 0 says that it was read, and that its bytes end before `next`; any other code is the refusal.
+#![tactic(auto)]
+
 use network::GateRecord;
 
 pub mod unchecked;

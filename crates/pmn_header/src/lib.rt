@@ -1,5 +1,7 @@
 // Reading the header of a PMN file: the mark and the version, the board, then the counts. A code of 0 says that the part was read, and that the
 // next one starts at `next`; any other code is the refusal.
+#![tactic(auto)]
+
 use network::Board;
 
 pub mod unchecked;

@@ -1,4 +1,6 @@
 // The PMN file: reading it into a record, and the bytes of one gate.
+#![tactic(auto)]
+
 ghost use Rattle.std.specs.Prelude.{◌≡◌};
 ghost use Rattle.basics.specs.Refusals.{code_of};
 ghost use Rattle.pmn_format.specs.Part.{part_answer, as_part};

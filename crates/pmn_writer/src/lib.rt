@@ -1,4 +1,6 @@
 // The PMN file: writing a record as a file.
+#![tactic(auto)]
+
 ghost use Rattle.std.specs.Prelude.{◌≡◌, length};
 ghost use Rattle.pmn_writer.specs.Answers.{written, bytes_after};
 

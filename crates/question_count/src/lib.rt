@@ -1,5 +1,7 @@
 // How many ways there are to tell two networks apart (document 02, No. 13), each theorem as the promise of an empty public function. The
 // promises cite the definitions in specs/.
+#![tactic(auto)]
+
 ghost use Rattle.std.specs.Prelude.{List, ℕ};
 ghost use Rattle.pmn_format.specs.Format.{Bytes};
 ghost use Rattle.pmn_reader.specs.Answers.{loaded};

@@ -1,4 +1,6 @@
 // One line of the question for two whole files, for C and Rust, with a place for its length.
+#![tactic(auto)]
+
 ghost use Rattle.std.specs.Prelude.{◌≡◌};
 ghost use Rattle.basics.specs.Refusals.{code_of, stored};
 ghost use Rattle.pmn_opening.specs.Files.{length_of};

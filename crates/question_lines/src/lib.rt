@@ -1,2 +1,4 @@
 // The lines of the question as plain data. Its calls ask for what `unchecked` says.
+#![tactic(auto)]
+
 pub mod unchecked;

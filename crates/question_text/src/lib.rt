@@ -1,4 +1,6 @@
 // The question for two networks, a line at a time, as text for a pseudo-Boolean solver.
+#![tactic(auto)]
+
 ghost use Rattle.std.specs.Prelude.{◌≡◌, ◌≤◌, length};
 ghost use Rattle.basics.specs.Refusals.{refused, stored};
 ghost use Rattle.network.specs.Record.{net_of};

@@ -1,4 +1,6 @@
 // The scorer: pins felled and running scores of one bowler's game, from the frames after each ball.
+#![tactic(auto)]
+
 pub mod files;
 
 ghost use Rattle.std.specs.Prelude.{◌≡◌};

@@ -1,4 +1,6 @@
 // What is claimed of games, on every network and after every list of calls. Document 02, No. 11.
+#![tactic(auto)]
+
 ghost use Rattle.std.specs.Prelude.{◌≡◌, List, map, ℕ};
 ghost use Rattle.basics.specs.Refusals.{accepted};
 ghost use Rattle.network.specs.Threshold.{Net};

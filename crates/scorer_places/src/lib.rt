@@ -1,2 +1,4 @@
 // A sheet in lent places. Its calls ask for what `unchecked` says.
+#![tactic(auto)]
+
 pub mod unchecked;

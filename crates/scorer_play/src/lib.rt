@@ -1,4 +1,6 @@
 // The play of a game on a network. The frames are read in one pass, and the balls played on the output words.
+#![tactic(auto)]
+
 mod unchecked;
 
 ghost use Rattle.std.specs.Prelude.{◌≡◌};

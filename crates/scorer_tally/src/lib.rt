@@ -1,4 +1,6 @@
 // The tally of a game: the running scores from the pins felled by each ball, and the sheet. Its calls ask for what `unchecked` says.
+#![tactic(auto)]
+
 pub mod unchecked;
 
 // What `score` answers: 0 or the refusal; how many balls, and the pins felled by each; how many frames have a score, and their running

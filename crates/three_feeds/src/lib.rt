@@ -1,5 +1,7 @@
 // The three-feed table: for each truth table of three feeds a gate with that function, or settings that show that no gate has it.
 // Document 02, No. 7.
+#![tactic(auto)]
+
 ghost use Rattle.std.specs.Prelude.{◌≡◌, false, map, ◌+◌, ◌*◌, ◌<◌, pos, get_or};
 ghost use Rattle.three_feeds.specs.Rule.{EntryRule, has_gate};
 ghost use Rattle.three_feeds.specs.Table.{table_entries, table_entry};

@@ -1,4 +1,6 @@
 // The bytes of a gate of the three-feed table on three signals, for a mask maker who writes a PMN file.
+#![tactic(auto)]
+
 ghost use Rattle.std.specs.Prelude.{◌≡◌, not, ◌≤◌, length};
 ghost use Rattle.network.specs.Threshold.{digit};
 ghost use Rattle.network.specs.Limits.{is_zero};

@@ -1,4 +1,6 @@
 // An entry as numbers in lent places: 1, the three weights and T; or 0, the two settings that are 1 and the two that are 0.
+#![tactic(auto)]
+
 ghost use Rattle.std.specs.Prelude.{◌≡◌, [], ◌∷◌, ◌++◌, ◌≤◌, pos, length, drop};
 ghost use Rattle.basics.specs.Refusals.{code_of, stored};
 ghost use Rattle.three_feeds_places.specs.Places.{places_of, entry_places};

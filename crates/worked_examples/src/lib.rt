@@ -1,5 +1,7 @@
 // Worked examples: what the definitions say of literal files, networks, alleys and games is what the papers say. Each claim is one table, or a few
 // of one subject, and is computed.
+#![tactic(auto)]
+
 ghost use Rattle.worked_examples.specs.Files.{FilesRead};
 ghost use Rattle.worked_examples.specs.Alleys.{AlleysListed};
 ghost use Rattle.worked_examples.specs.Games.{GamesPlayed};

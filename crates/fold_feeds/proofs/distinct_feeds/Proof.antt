@@ -18,7 +18,7 @@ use Rattle.fold_feeds.proofs.distinct_feeds.Tie as tie
 returns : tie.Need-returns-then-not-is_sound
 returns c =
     let a = c.args in
-    c.no_feeds.ensures ∙ sym (feeds_broken a.t1 (sym c.is_sound.ensures ∙ not-true _ c.if-not-is_sound.true-raw) a.u a.v)
+    c.no_feeds.ensures ∙ sym (feeds_broken a.network (sym c.is_sound.ensures ∙ not-true _ c.if-not-is_sound.true-raw) a.u a.v)
 
 -- past the first test the record is sound, and lends its arrays
 tested : (c : tie.Else-not-is_sound) → sound_record c.args.network ≡ true
@@ -34,14 +34,14 @@ returns_2 : tie.Need-returns-then-apart-ne0
 returns_2 c =
     let s = c.before.before.before.before.before.before.before in
     let a = s.args in
-    c.no_feeds-then-apart-ne0.ensures ∙ sym (feeds_apart a.t1 (tested s) a.u a.v _ c.edge_code-apart.ensures c.if-apart-ne0.true)
+    c.no_feeds-then-apart-ne0.ensures ∙ sym (feeds_apart a.network (tested s) a.u a.v _ c.edge_code-apart.ensures c.if-apart-ne0.true)
 
 -- past the second test u feeds v
 abbrev sound : tie.Else-apart-ne0 → tie.Else-not-is_sound
 sound c = c.before.before.before.before.before.before
 
 joined : (c : tie.Else-apart-ne0) → let a = (sound c).args in
-    GateReads a.t1.fanins a.t1.thresholds a.t1.signals a.t1.weights a.t1.inputs a.t1.gates a.u a.v
+    GateReads a.network.fanins a.network.thresholds a.network.signals a.network.weights a.network.inputs a.network.gates a.u a.v
 joined c =
     let a = (sound c).args in
     apart_none a.t1 (tested (sound c)) a.u a.v _ c.edge_code-apart.ensures c.if-apart-ne0.false
@@ -55,7 +55,7 @@ returns_3 : tie.Need-returns
 returns_3 c =
     let t = c.before.before.before.before.before.before.before in
     let a = (sound t).args in
-    feeds_joined a.t1 (tested (sound t)) a.u a.v _ t.edge_code-apart.ensures t.if-apart-ne0.false
+    feeds_joined a.network (tested (sound t)) a.u a.v _ t.edge_code-apart.ensures t.if-apart-ne0.false
     (c.listed.ensures ∙ ap feeds_of_alignment c.aligned_at-a.ensures)
 
 pub distinct_feeds_spec : {M : Type 1} → statement M

@@ -24,7 +24,7 @@ use Rattle.fold_witness.proofs.witness.Tie as tie
 returns : tie.Need-returns-then-not-is_sound
 returns c =
     let a = c.args in
-    witness_broken a.t1 (sym c.is_sound.ensures ∙ not-true _ c.if-not-is_sound.true-raw) a.u a.v a.k a.l c.none.ensures
+    witness_broken a.network (sym c.is_sound.ensures ∙ not-true _ c.if-not-is_sound.true-raw) a.u a.v a.k a.l c.none.ensures
 
 -- past the first test the record is sound, and lends its arrays
 tested : (c : tie.Else-not-is_sound) → sound_record c.args.network ≡ true
@@ -40,14 +40,14 @@ returns_2 : tie.Need-returns-then-apart-ne0
 returns_2 c =
     let s = c.before.before.before.before.before.before.before in
     let a = s.args in
-    witness_apart a.t1 (tested s) a.u a.v _ c.edge_code-apart.ensures c.if-apart-ne0.true a.k a.l c.none-then-apart-ne0.ensures
+    witness_apart a.network (tested s) a.u a.v _ c.edge_code-apart.ensures c.if-apart-ne0.true a.k a.l c.none-then-apart-ne0.ensures
 
 -- past the second test u feeds v
 abbrev sound : tie.Else-apart-ne0 → tie.Else-not-is_sound
 sound c = c.before.before.before.before.before.before
 
 joined : (c : tie.Else-apart-ne0) → let a = (sound c).args in
-    GateReads a.t1.fanins a.t1.thresholds a.t1.signals a.t1.weights a.t1.inputs a.t1.gates a.u a.v
+    GateReads a.network.fanins a.t1.thresholds a.t1.signals a.t1.weights a.t1.inputs a.t1.gates a.u a.v
 joined c =
     let a = (sound c).args in
     apart_none a.t1 (tested (sound c)) a.u a.v _ c.edge_code-apart.ensures c.if-apart-ne0.false
@@ -60,7 +60,7 @@ aligned_at_requires c κs =
 abbrev fed : tie.Else-apart-ne0 → Edge
 fed c =
     let a = (sound c).args in
-    edge_in a.t1.board a.t1.fanins a.t1.thresholds a.t1.signals a.t1.weights a.t1.inputs a.u a.v
+    edge_in a.network.board a.t1.fanins a.t1.thresholds a.t1.signals a.t1.weights a.t1.inputs a.u a.v
 
 edge_ok : (c : tie.Else-apart-ne0) → EdgeOk (fed c)
 edge_ok c = joined_ok (lent (sound c)) (joined c) (sound_board _ (tested (sound c)))
@@ -74,7 +74,7 @@ returns_3 : tie.Need-returns
 returns_3 c =
     let t = c.before.before.before.before.before.before.before in
     let a = (sound t).args in
-    witness_joined a.t1 (tested (sound t)) a.u a.v _ t.edge_code-apart.ensures t.if-apart-ne0.false (edge_ok t) a.k a.l
+    witness_joined a.network (tested (sound t)) a.u a.v _ t.edge_code-apart.ensures t.if-apart-ne0.false (edge_ok t) a.k a.l
     (subst (λ (g : Alignment). WitnessOfAlignment g a.k a.l c.witness_of.result) c.aligned_at-a.ensures c.witness_of.ensures)
 
 pub witness_spec : {M : Type 1} → statement M

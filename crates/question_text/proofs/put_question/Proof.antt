@@ -58,15 +58,14 @@ question_line_requires : tie.Need-question_line-line-requires
 question_line_requires c κs = (c.requires.0.pair, within c)
 
 put_line_requires : tie.Need-put_line-requires
-put_line_requires c κs =
-    (
-      record {
-        few = omega (arith, c.question_line-line.ensures.few, stands_count c.question_line-line.ensures);
-        narrow = subst (λ (l : Line). ShortLine l) (sym (stands_line c.question_line-line.ensures))
-            (line_narrow c.requires.0.pair (c.args.n - 1) (within c.before.before));
-      },
-      c.requires.1,
-    )
+put_line_requires c κs = (
+  record {
+    few = omega (arith, c.question_line-line.ensures.few, stands_count c.question_line-line.ensures);
+    narrow = subst (λ (l : Line). ShortLine l) (sym (stands_line c.question_line-line.ensures))
+        (line_narrow c.requires.0.pair (c.args.n - 1) (within c.before.before));
+  },
+  c.requires.1,
+)
 
 returns_2 : tie.Need-returns
 returns_2 c =

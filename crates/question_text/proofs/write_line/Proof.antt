@@ -19,10 +19,10 @@ abbrev text_of : tie.Start → List ℕ
 text_of c = question_text (net_of c.args.first) (net_of c.args.second) c.args.n
 
 -- the text in the 254 bytes
-text_is : (c : tie.After-put_question-length) → take c.put_question-length.result c.put_question-length.new.within ≡ text_of c.before.before.before
+text_is : (c : tie.After-put_question-length) → take c.put_question-length.result c.put_question-length.new.out ≡ text_of c.before.before.before
 text_is c = let p = c.put_question-length.ensures in ap (take c.put_question-length.result) p.bytes ∙ take_at _ _ _ p.long
 
-within : (c : tie.After-put_question-length) → c.put_question-length.result ≤ length c.put_question-length.new.within
+within : (c : tie.After-put_question-length) → c.put_question-length.result ≤ length c.put_question-length.new.out
 within c =
     let p = c.put_question-length.ensures in
     let h : c.put_question-length.result ≤ 254 = omega (arith, p.long, text_short c.requires.pair c.args.n c.requires.within) in

@@ -14,11 +14,11 @@ abbrev decreases-loop : tie.decreases-loop-turns
 decreases-loop input₀ output₀ place₀ turns₀ input output place turns = 131072 - turns
 
 -- a turn leaves as many bytes as there were
-kept_input : (c : tie.After-turn-place invariant-loop decreases-loop) → 
+kept_input : (c : tie.After-turn-place invariant-loop decreases-loop) →
     length c.turn-place.new.0 ≡ length c.args.input.now
 kept_input c = c.turn-place.auto.0 ∙ c.loop-turns.invariant.1
 
-kept_output : (c : tie.After-turn-place invariant-loop decreases-loop) → 
+kept_output : (c : tie.After-turn-place invariant-loop decreases-loop) →
     length c.turn-place.new.1.0 ≡ length c.args.output.now
 kept_output c = c.turn-place.auto.1.0 ∙ c.loop-turns.invariant.2
 

@@ -18,12 +18,11 @@ loop_holds : tie.Need-loop-i-init invariant-loop decreases-loop
 loop_holds c = (omega arith, none_moved _ _)
 
 loop_again : tie.Need-loop-i-preserved invariant-loop decreases-loop
-loop_again c =
-    (
-      omega arith,
-      one_moved c.loop-i.invariant.1
-          (omega (arith, c.loop-i-test.true, c.least-from.ensures.second, c.least-end.ensures.second)),
-    )
+loop_again c = (
+  omega arith,
+  one_moved c.loop-i.invariant.1
+      (omega (arith, c.loop-i-test.true, c.least-from.ensures.second, c.least-end.ensures.second)),
+)
 
 same_length : tie.Need-shape_of-bytes invariant-loop decreases-loop
 same_length c = c.loop-i.invariant.1.long

@@ -64,7 +64,7 @@ put_last_requires c κs =
     let done = c.before.before.before.before.before.before in
     omega (arith, first_long done, refused_room at_then, tail_length done.put_decimal-at.result done.put_decimal-at.new.out)
 
-refused_end : (c : tie.After-put_last) → 
+refused_end : (c : tie.After-put_last) →
     c.put_decimal-at.result + c.put_last.result ≤ length c.args.out.now
 refused_end c = omega (arith, refused_room c.before.before.before.before, simp length-append at c.put_last.ensures.long)
 
@@ -110,7 +110,7 @@ put_size_requires c κs =
     let done = c.before.before.before.before.before.before in
     omega (arith, first_long done, size_room at_else, tail_length done.put_decimal-at.result done.put_decimal-at.new.out)
 
-size_end : (c : tie.After-put_size) → 
+size_end : (c : tie.After-put_size) →
     c.put_decimal-at.result + c.put_size.result ≤ length c.args.out.now
 size_end c = omega (arith, size_room c.before.before.before.before, c.put_size.ensures.long)
 

@@ -35,7 +35,7 @@ file_open : (c : tie.Else-code-ne0)
 file_open c = c.refusal-code.ensures.gives c.if-code-ne0.false
 
 -- the list is well formed
-formed : (c : tie.Else-not-is_well_formed) → 
+formed : (c : tie.Else-not-is_well_formed) →
     well_formed c.args.calls.now ≡ true
 formed c = sym c.is_well_formed.ensures ∙ not-false _ c.if-not-is_well_formed.false-raw
 

@@ -16,7 +16,7 @@ use Rattle.call_restoring.proofs.unchecked.restored.Tie as tie
 returns : tie.Need-returns-then-fanin-gt16
 returns c =
     let a = c.args in
-    c.kept.ensures ∙ back_no a.network _ (newest_wide a.t2 (net_of a.network) (omega (arith, c.wide-fanin.ensures.0)))
+    c.kept.ensures ∙ back_no a.network _ (newest_wide a.journal (net_of a.network) (omega (arith, c.wide-fanin.ensures.0)))
 
 -- past the first test the gate has at most 16 feeds
 few : (c : tie.Else-fanin-gt16) → get_or c.args.journal.fanins 0 0 ≤ 16
@@ -41,7 +41,7 @@ returns_2 c =
     let gate = c.before.before.before.before.before in
     let a = (start gate).args in
     c.put_back.ensures ∙ ap (back_to a.network)
-    ((λ x. merging (c.wide-signal.ensures.0 x) (same gate x)) ∙ sym (newest_merge a.t2 c.if-kind-eq0.true))
+    ((λ x. merging (c.wide-signal.ensures.0 x) (same gate x)) ∙ sym (newest_merge a.journal c.if-kind-eq0.true))
 
 put_in_requires : tie.Need-put_in-requires
 put_in_requires c κs = let gate = c.before.before.before.before in ((start gate).requires, packed gate)
@@ -51,7 +51,7 @@ returns_3 c =
     let gate = c.before.before.before.before.before in
     let a = (start gate).args in
     c.put_in.ensures ∙ ap (back_to a.network)
-    ((λ x. dropping (c.wide-signal.ensures.0 x) (same gate x)) ∙ sym (newest_drop a.t2 c.if-kind-eq0.false))
+    ((λ x. dropping (c.wide-signal.ensures.0 x) (same gate x)) ∙ sym (newest_drop a.journal c.if-kind-eq0.false))
 
 pub restored_spec : {M : Type 1} → statement M
 restored_spec =

@@ -93,9 +93,9 @@ loop_again_2 c =
     let turn = else.before.before in
     let s = turn.before.before in
     let a = s.args in
-    let reads = sym (else.before.reads_gate.ensures a.thresholds.now a.weights.now) ∙ not-false _ else.if1.left in (
-      omega (arith, turn.loop-test.taken),
-      left_reader (record_at s) a.u turn.before.loop.g turn.before.loop.inv.1 s.requires turn.loop-test.taken reads refl
+    let reads = sym (else.before.reads_gate.ensures a.thresholds.now a.weights.now) ∙ not-false _ else.if-not-reads_gate.false-raw in (
+      omega (arith, turn.loop-g-test.true),
+      left_reader (record_at s) a.u turn.before.loop-g.g turn.before.loop-g.invariant.1 s.requires turn.loop-g-test.true reads refl
           (entered_parts _ c.one_more-steps.ensures c.enter_gate.ensures),
     )
 

@@ -36,11 +36,10 @@ returns c =
     read_apart c.requires.0 c.loop-first.invariant.1 c.put_frames.ensures c.run_gates.ensures c.lane_apart-f.ensures _ c.if-f-lt32.true
 
 loop_again : tie.Need-loop-first-preserved invariant-loop decreases-loop
-loop_again c =
-    (
-      omega (arith, c.requires.1),
-      read_next c.requires.0 c.loop-first.invariant.1 c.put_frames.ensures c.run_gates.ensures c.lane_apart-f.ensures c.if-f-lt32.false,
-    )
+loop_again c = (
+  omega (arith, c.requires.1),
+  read_next c.requires.0 c.loop-first.invariant.1 c.put_frames.ensures c.run_gates.ensures c.lane_apart-f.ensures c.if-f-lt32.false,
+)
 
 returns_2 : tie.Need-returns invariant-loop decreases-loop
 returns_2 c = read_all c.requires.0 _ c.loop-first.invariant.1 c.loop-first-test.false

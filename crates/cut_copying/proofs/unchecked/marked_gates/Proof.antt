@@ -81,7 +81,7 @@ add_g_2 : tie.Need-overflow_step-g-in-loop-g invariant-loop decreases-loop
 add_g_2 c = omega (arith, under (turn c.before.before.before.before.before))
 
 loop_less_2 : tie.Need-loop-g-smaller invariant-loop decreases-loop
-loop_less_2 c = omega (arith, (turn c.before.before.before.before.before).loop-g-test.taken)
+loop_less_2 c = omega (arith, (turn c.before.before.before.before.before).loop-g-test.true)
 
 loop_again_2 : tie.Need-loop-g-preserved invariant-loop decreases-loop
 loop_again_2 c =
@@ -90,16 +90,16 @@ loop_again_2 c =
     let t = turn row_made in
     let s = start t in
     let r = s.args.network in
-    let g = t.before.loop.g in
-    let within = t.loop-test.taken in
-    let numbers = t.before.before.before.new-signals in
+    let g = t.before.loop-g.g in
+    let within = t.loop-g-test.true in
+    let numbers = t.before.before.before.new_signals-numbers in
     let row = row_at r.fanins r.thresholds r.signals r.weights g in
     let gate_is : made.result ≡ gate_record (gate_of r g) = ◌∙◌ {b = row} made.ensures (row_gate r g (T_is _ s.requires.sound) within) in
     let row_is = row_made.renamed_row-renamed.ensures ∙ ap (λ (z : GateRecord). map (λ k. get_or numbers.result k 0) z.signals) gate_is
     ∙ copied_row r s.requires.sound (marks_of s.args.marks) numbers.result g numbers.ensures within in
     let test = kept_gate row_made in
-    copied_more t.before.loop.inv (here t) (under t)
-    (get_or-take _ _ _ _ within ∙ sym test.before.is-marked.ensures ∙ not-false _ test.if1.left)
+    copied_more t.before.loop-g.invariant (here t) (under t)
+    (get_or-take _ _ _ _ within ∙ sym test.before.is_marked.ensures ∙ not-false _ test.if1.left)
     (gate_within r g within) (renamed_record _ (gate_of r g) gate_is row_is) c.store_gate.ensures
 
 array_read_driver : tie.Need-bounds-numbers-wide invariant-loop decreases-loop

@@ -123,7 +123,7 @@ mark_gate_is_marked_requires : (t : ℕ) → mark-gate-lts.Need-is-marked-requir
 mark_gate_is_marked_requires t c κs = search rules
 
 mark_gate_returns : (t : ℕ) → mark-gate-lts.Need-returns (gate_claims t) (mark_gate_at t) mark-gate.Post
-mark_gate_returns t c = marked_already _ _ (sym c.before.is-marked.ensures ∙ c.if1.true) c.before.before.requires.1.2
+mark_gate_returns t c = marked_already _ _ (sym c.before.is_marked.ensures ∙ c.if1.true) c.before.before.requires.1.2
 
 mark_gate_with_mark_requires : (t : ℕ) → mark-gate-lts.Need-with-mark-requires (gate_claims t) (mark_gate_at t) mark-gate.Post
 mark_gate_with_mark_requires t c κs = search rules

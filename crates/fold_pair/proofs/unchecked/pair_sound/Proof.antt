@@ -28,7 +28,7 @@ edge_code_requires c κs = lent c.before.before.before.before
 returns : tie.Need-returns-then-code-ne0
 returns c =
     let a = c.args in
-    c.no_pair.ensures ∙ sym (pair_apart a.t1 c.requires a.u a.v _ c.edge_code-code.ensures c.if-code-ne0.true)
+    c.no_pair.ensures ∙ sym (pair_apart a.network c.requires a.u a.v _ c.edge_code-code.ensures c.if-code-ne0.true)
 
 -- past the test u feeds v
 abbrev start : tie.Else-code-ne0 → tie.Start
@@ -36,13 +36,13 @@ start c = c.before.before.before.before.before.before
 
 abbrev here : tie.Else-code-ne0 → Edge
 here c = let a = (start c).args in
-    edge_in a.t1.board a.t1.fanins a.t1.thresholds a.t1.signals a.t1.weights a.t1.inputs a.u a.v
+    edge_in a.network.board a.network.fanins a.network.thresholds a.network.signals a.network.weights a.network.inputs a.u a.v
 
 joined : (c : tie.Else-code-ne0) → let a = (start c).args in
-    GateReads a.t1.fanins a.t1.thresholds a.t1.signals a.t1.weights a.t1.inputs a.t1.gates a.u a.v
+    GateReads a.network.fanins a.network.thresholds a.network.signals a.network.weights a.network.inputs a.network.gates a.u a.v
 joined c =
     let a = (start c).args in
-    apart_none a.t1 (start c).requires a.u a.v _ c.edge_code-code.ensures c.if-code-ne0.false
+    apart_none a.network (start c).requires a.u a.v _ c.edge_code-code.ensures c.if-code-ne0.false
 
 edge_ok : (c : tie.Else-code-ne0) → EdgeOk (here c)
 edge_ok c = joined_ok (lent (start c)) (joined c) (sound_board _ (start c).requires)

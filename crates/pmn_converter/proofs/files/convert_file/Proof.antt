@@ -26,7 +26,7 @@ returns c =
     refused_two a.out.now a.answer.now (open_refused c.refusal-code.ensures _ c.if-code-ne0.true)
 
 -- the file that was read
-file_open : (c : tie.Else-code-ne0) → 
+file_open : (c : tie.Else-code-ne0) →
     let a = c.args in
     FileOpen a.file.now (length a.answer.now) 1 c.read-read.result.network
 file_open c = c.refusal-code.ensures.gives c.if-code-ne0.false

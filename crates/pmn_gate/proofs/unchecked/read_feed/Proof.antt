@@ -25,7 +25,7 @@ signal_is : (c : tie.After-wide-s) → let a = c.args in
 signal_is c = let a = c.args in ap (λ (x : ℕ). leb a.low x && ltb x a.own) (sym c.wide-s.ensures.0)
 
 -- the weight that was read
-weight_is : (c : tie.After-get_int-weight) → 
+weight_is : (c : tie.After-get_int-weight) →
     let a = c.args in
     to_z w32 (of_z w32 c.get_int-weight.result) ≡ int_at a.file.now (a.at + 1)
 weight_is c = to_z-of_z {w = w32} (record { sfits = c.get_int-weight.type_inv }) ∙ c.get_int-weight.ensures

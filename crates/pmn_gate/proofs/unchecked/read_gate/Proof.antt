@@ -28,7 +28,7 @@ threshold_is : (c : tie.After-get_int-threshold) → let a = c.args in
 threshold_is c = to_z-of_z {w = w32} (record { sfits = c.get_int-threshold.type_inv }) ∙ c.get_int-threshold.ensures
 
 -- the whole gate, by what the test of its threshold says
-whole : (c : tie.After-in_scale) {b : Bool} → c.in_scale.result ≡ b → 
+whole : (c : tie.After-in_scale) {b : Bool} → c.in_scale.result ≡ b →
     let a = c.args in
     let s = a.file.now in
     parse_gate a.board a.own (drop a.at s)
@@ -56,12 +56,11 @@ returns_4 : tie.Need-returns-then-not-in_scale
 returns_4 c = seen_refused 6 (omega arith) c.no_gate-then-not-in_scale.ensures (whole c.before.before (not-true _ c.if-not-in_scale.true-raw))
 
 read_kept_requires : tie.Need-read_kept-requires
-read_kept_requires c κs =
-    (
-      omega arith,
-      omega arith,
-      T_is (in_scale (to_z w32 (of_z w32 c.get_int-threshold.result))) (sym c.in_scale.ensures ∙ not-false _ c.if-not-in_scale.false-raw),
-    )
+read_kept_requires c κs = (
+  omega arith,
+  omega arith,
+  T_is (in_scale (to_z w32 (of_z w32 c.get_int-threshold.result))) (sym c.in_scale.ensures ∙ not-false _ c.if-not-in_scale.false-raw),
+)
 
 returns_5 : tie.Need-returns
 returns_5 c =

@@ -28,7 +28,7 @@ returns_3 c =
     (head_version s (omega arith) (not-false _ c.if-not-mark.false-raw) (not-true _ c.if-not-known.true-raw))
 
 -- the mark and the version are the format's
-known : (c : tie.Else-not-known) → 
+known : (c : tie.Else-not-known) →
     let s = c.args.file.now in
     parse_file s ≡ and_then (read_board s) parse_counts
 unfolding between

@@ -18,7 +18,7 @@ abbrev decreases-loop : tie.decreases-loop-j
 decreases-loop file start inputs gates count drivers₀ at₀ j₀ drivers at j = count - j
 
 -- the signal that was read, as the format tests it
-signal_is : (c : tie.After-is_gate-fits invariant-loop decreases-loop) → 
+signal_is : (c : tie.After-is_gate-fits invariant-loop decreases-loop) →
     let a = c.args in
     gate_signal a.inputs a.gates (get_or a.file.now c.loop-j.at 0) ≡ c.is_gate-fits.result
 signal_is c =

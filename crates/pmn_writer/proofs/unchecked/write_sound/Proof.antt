@@ -40,7 +40,7 @@ headed c = c.before.before.before.before.before.before.before.before
 abbrev body : tie.After-put_gates-gates → List ℕ
 body c =
     let put = (headed c).put_header-start in
-    put_mid put.result (length put.last.0 - put.result) put.last.0 c.put_gates-gates.new.0
+    put_mid put.result (length put.new.out - put.result) put.new.out c.put_gates-gates.new.0
 
 body_is : (c : tie.After-put_gates-gates) → let start = start_of (headed c) in
     let r = start.args.network in
@@ -69,7 +69,7 @@ ends c =
     let e : put.put_header-start.result ≡ header_length (start_of put).args.network.board = put.put_header-start.ensures.0 in
     let m = c.put_gates-gates.ensures.0 in
     let n = put.before.before.before.file_length-length.ensures in
-    let h = put.before.before.if1.left in
+    let h = put.before.before.if-out-length.false in
     (omega (arith, e, m, n), omega (arith, e, m, n, h))
 
 file_length_requires : tie.Need-file_length-length-requires

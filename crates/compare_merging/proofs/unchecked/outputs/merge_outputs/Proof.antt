@@ -20,12 +20,11 @@ merge_output_requires c κs =
     (c.loop-j.invariant.2.ready c.requires, c.loop-j-test.true)
 
 loop_again : tie.Need-loop-j-preserved invariant-loop decreases-loop
-loop_again c =
-    (
-      omega (arith, c.loop-j-test.true),
-      omega (arith, c.loop-j.invariant.1, c.merge_output-left.ensures.1),
-      kept_then c.requires c.loop-j.invariant.2 c.merge_output-left.ensures.0,
-    )
+loop_again c = (
+  omega (arith, c.loop-j-test.true),
+  omega (arith, c.loop-j.invariant.1, c.merge_output-left.ensures.1),
+  kept_then c.requires c.loop-j.invariant.2 c.merge_output-left.ensures.0,
+)
 
 pub merge_outputs_spec : {M : Type 1} → statement M
 merge_outputs_spec =
@@ -38,4 +37,4 @@ merge_outputs_spec =
     (λ c. search rules)
     (λ c. search rules)
     loop_again
-    (λ c. (c.before.loop.invariant.2, c.before.loop.invariant.1)))
+    (λ c. (c.before.loop-j.invariant.2, c.before.loop-j.invariant.1)))

@@ -29,7 +29,7 @@ merge_spec =
     (λ c κs. search rules)
     (λ c κs. search rules)
     decide_requires
-    (λ c. (kept_same _ _, c.before.before.decide.ensures.0))
+    (λ c. (kept_same _ _, c.before.before.decide-result.ensures.0))
     (λ c κs. search rules)
     (λ c κs. search rules)
     returns_2)

@@ -20,12 +20,11 @@ merge_signal_requires c κs =
     (c.loop-q.invariant.2.ready c.requires, c.loop-q.invariant.0)
 
 loop_again : tie.Need-loop-q-preserved invariant-loop decreases-loop
-loop_again c =
-    (
-      omega (arith, c.loop-q.invariant.0),
-      omega (arith, c.loop-q.invariant.1, c.merge_signal-left.ensures.1),
-      kept_then c.requires c.loop-q.invariant.2 c.merge_signal-left.ensures.0,
-    )
+loop_again c = (
+  omega (arith, c.loop-q.invariant.0),
+  omega (arith, c.loop-q.invariant.1, c.merge_signal-left.ensures.1),
+  kept_then c.requires c.loop-q.invariant.2 c.merge_signal-left.ensures.0,
+)
 
 pub merge_all_spec : {M : Type 1} → statement M
 merge_all_spec =
@@ -38,4 +37,4 @@ merge_all_spec =
     (λ c. search rules)
     (λ c. search rules)
     loop_again
-    (λ c. (c.before.loop.invariant.2, c.before.loop.invariant.1)))
+    (λ c. (c.before.loop-q.invariant.2, c.before.loop-q.invariant.1)))

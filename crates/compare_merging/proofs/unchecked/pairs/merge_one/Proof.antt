@@ -25,12 +25,11 @@ returns c =
     (kept_then c.requires.0 c.loop-p.invariant.2 c.merge_marked-tried.ensures.0, omega (arith, c.loop-p.invariant.1, c.merge_marked-tried.ensures.1))
 
 loop_again : tie.Need-loop-p-preserved invariant-loop decreases-loop
-loop_again c =
-    (
-      omega (arith, c.loop-p-test.true),
-      omega (arith, c.loop-p.invariant.1, c.merge_marked-tried.ensures.1),
-      kept_then c.requires.0 c.loop-p.invariant.2 c.merge_marked-tried.ensures.0,
-    )
+loop_again c = (
+  omega (arith, c.loop-p-test.true),
+  omega (arith, c.loop-p.invariant.1, c.merge_marked-tried.ensures.1),
+  kept_then c.requires.0 c.loop-p.invariant.2 c.merge_marked-tried.ensures.0,
+)
 
 pub merge_one_spec : {M : Type 1} → statement M
 merge_one_spec =
@@ -44,4 +43,4 @@ merge_one_spec =
     (λ c. search rules)
     (λ c. search rules)
     loop_again
-    (λ c. (c.before.loop.invariant.2, c.before.loop.invariant.1)))
+    (λ c. (c.before.loop-p.invariant.2, c.before.loop-p.invariant.1)))

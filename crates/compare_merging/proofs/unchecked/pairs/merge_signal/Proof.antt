@@ -16,4 +16,4 @@ returns_2 c =
     (kept_then pre.0 c.merge_one-twin.ensures.0 c.merge_one-tried.ensures.0, omega (arith, c.merge_one-twin.ensures.1, c.merge_one-tried.ensures.1))
 
 pub merge_signal_spec : {M : Type 1} → statement M
-merge_signal_spec = tie.close (tie.spec (λ c κs. search rules) (λ c. c.before.merge-one.ensures) merge_one_requires_2 returns_2)
+merge_signal_spec = tie.close (tie.spec (λ c κs. search rules) (λ c. c.before.merge_one-twin.ensures) merge_one_requires_2 returns_2)

@@ -9,7 +9,7 @@ decide_spec =
     tie.close
     (tie.spec
     (λ c κs. search rules)
-    (λ c. (omega arith, λ e. c.before.are-twins.ensures c.if1.true))
+    (λ c. (omega arith, λ e. c.before.are_twins.ensures c.if-are_twins.true))
     (λ c. (omega arith, λ e. absurd (omega arith)))
     (λ c κs. search rules)
     (λ c κs. search rules)
