@@ -1,10 +1,11 @@
-// An alley file on standard input, its sheet on standard output. The lanes are listed by the calls of `alley_sheet` as they come in; this module
+// An alley file from a reader, its sheet to a writer. The lanes are listed by the calls of `alley_sheet` as they come in; this module
 // only moves bytes. It holds 131,072 bytes of the file at a time, which is more than the longest lane has, and writes its lines in blocks.
-ghost use Rattle.std.specs.Prelude.{◌≤◌, length};
+// A read or a write that fails ends the work with its error.
+ghost use Rattle.std.specs.Prelude.{◌≤◌, length, IfOk};
 ghost use Rattle.alley.specs.Moves.{Lesser, MovedToFront};
 
 use alley_theory::{Listed, Totals};
-use libc::{STDIN_FILENO, STDOUT_FILENO};
+use std::io::{Read, Result, Write};
 
 // Where the work stands: the totals so far, the bytes of the input from `from` to `end` that are not listed yet, whether the file's last
 // byte is among them, the first `used` bytes of the output that are not written yet, and whether no lane is left.
@@ -41,43 +42,42 @@ fn sum_up_to(a: usize, b: usize, most: usize) -> usize
 // ---- output
 
 // Writes the first bytes of the output.
-fn write_first(output: &[u8], used: usize) {
+fn write_first<W: Write>(writer: &mut W, output: &[u8], used: usize) -> Result<()> {
     let end = least(used, output.len());
-    io::write_all(STDOUT_FILENO, &output[0..end]);
+    writer.write_all(&output[0..end])
 }
 
 // Writes the output where a line might not fit after it. No line has more than 48 bytes.
-fn with_room(output: &[u8], place: Place) -> Place {
+fn with_room<W: Write>(writer: &mut W, output: &[u8], place: Place) -> Result<Place> {
     let mut after = place;
     let used = least(place.used, output.len());
     if output.len() - used < 48 {
-        write_first(output, used);
+        write_first(writer, output, used)?;
         after.used = 0;
     }
-    after
+    Ok(after)
 }
 
 // ---- input
 
 // One read. The answer is how many bytes came; 0 where the file ends.
-fn read_some(part: &mut [u8]) -> usize
-    ensures { result ≤ length part.new }
+fn read_some<R: Read>(reader: &mut R, part: &mut [u8]) -> Result<usize>
+    ensures { IfOk result (λ count. count ≤ length part.new) }
 {
-    let got = libc::read(STDIN_FILENO, part);
-    io::count(got, part)
+    reader.read(part)
 }
 
 // Reads from a place on until the bytes are full or the file ends. The answer is where the file's bytes end.
-fn fill(input: &mut [u8], start: usize) -> usize {
+fn fill<R: Read>(reader: &mut R, input: &mut [u8], start: usize) -> Result<usize> {
     let mut end = least(start, input.len());
     while end < input.len() {
-        let got = read_some(&mut input[end..]);
+        let got = read_some(reader, &mut input[end..])?;
         if got == 0 {
-            return end;
+            return Ok(end);
         }
         end += got;
     }
-    end
+    Ok(end)
 }
 
 // Moves the bytes from one place to another to the front. The answer is their number.
@@ -94,14 +94,14 @@ fn move_to_front(bytes: &mut [u8], start: usize, stop: usize) -> usize
 }
 
 // More of the file, after what is not listed yet.
-fn refill(input: &mut [u8], place: Place) -> Place {
+fn refill<R: Read>(reader: &mut R, input: &mut [u8], place: Place) -> Result<Place> {
     let mut after = place;
     let kept = move_to_front(input, place.from, place.end);
-    let end = fill(input, kept);
+    let end = fill(reader, input, kept)?;
     after.from = 0;
     after.end = end;
     after.is_last = end < input.len();
-    after
+    Ok(after)
 }
 
 // ---- lanes
@@ -134,52 +134,64 @@ fn after_lane(place: Place, listed: Listed, room: usize) -> Place {
 }
 
 // No lane was listed: more of the file is read, unless its last byte is at hand or all lanes that are listed have been.
-fn more(input: &mut [u8], place: Place) -> Place {
+fn more<R: Read>(reader: &mut R, input: &mut [u8], place: Place) -> Result<Place> {
     let totals = place.totals;
     if place.is_last | (65535 <= totals.lanes) {
         let mut after = place;
         after.is_done = true;
-        return after;
+        return Ok(after);
     }
-    refill(input, place)
+    refill(reader, input, place)
 }
 
 // Lists a lane, or where the bytes at hand hold none reads more.
-fn turn(input: &mut [u8], output: &mut [u8], place: Place) -> Place {
-    let ready = with_room(output, place);
+fn turn<R: Read, W: Write>(
+    reader: &mut R,
+    writer: &mut W,
+    input: &mut [u8],
+    output: &mut [u8],
+    place: Place,
+) -> Result<Place> {
+    let ready = with_room(writer, output, place)?;
     let listed = list(input, output, ready);
     if listed.taken != 0 {
-        return after_lane(ready, listed, output.len());
+        return Ok(after_lane(ready, listed, output.len()));
     }
-    more(input, ready)
+    more(reader, input, ready)
 }
 
 // The total's line after the others.
-fn finish(output: &mut [u8], place: Place) {
-    let ready = with_room(output, place);
+fn finish<W: Write>(writer: &mut W, output: &mut [u8], place: Place) -> Result<()> {
+    let ready = with_room(writer, output, place)?;
     let used = least(ready.used, output.len());
     let totals = ready.totals;
     let line = alley_sheet::total_line(totals, &mut output[used..]);
     let end = sum_up_to(used, line.length, output.len());
-    write_first(output, end);
+    write_first(writer, output, end)
 }
 
 // Every lane: at most 65,535 are listed, with at most one reading before each, and two turns more find the end.
-fn list_all(input: &mut [u8], output: &mut [u8], start: Place) -> Place {
+fn list_all<R: Read, W: Write>(
+    reader: &mut R,
+    writer: &mut W,
+    input: &mut [u8],
+    output: &mut [u8],
+    start: Place,
+) -> Result<Place> {
     let mut place = start;
     let mut turns: usize = 0;
     while turns < 131072 {
-        place = turn(input, output, place);
+        place = turn(reader, writer, input, output, place)?;
         if place.is_done {
-            return place;
+            return Ok(place);
         }
         turns += 1;
     }
-    place
+    Ok(place)
 }
 
-// From standard input to standard output.
-pub(crate) fn run() {
+// From the reader to the writer.
+pub(crate) fn run<R: Read, W: Write>(reader: &mut R, writer: &mut W) -> Result<()> {
     let mut input = [0u8; 131072];
     let mut output = [0u8; 65536];
     let totals = alley_sheet::no_lanes();
@@ -191,6 +203,6 @@ pub(crate) fn run() {
         used: 0,
         is_done: false,
     };
-    let place = list_all(&mut input, &mut output, start);
-    finish(&mut output, place);
+    let place = list_all(reader, writer, &mut input, &mut output, start)?;
+    finish(writer, &mut output, place)
 }

@@ -1,12 +1,12 @@
-// What is printed on standard output.
-use libc::STDOUT_FILENO;
+// What is printed.
+use std::io::{Result, Write};
 
 // A text.
-pub(crate) fn text(bytes: &[u8]) {
-    io::write_all(STDOUT_FILENO, bytes);
+pub(crate) fn text<W: Write>(to: &mut W, bytes: &[u8]) -> Result<()> {
+    to.write_all(bytes)
 }
 
 // A number.
-pub(crate) fn decimal(n: usize) {
-    io::print_decimal(STDOUT_FILENO, n as u64);
+pub(crate) fn decimal<W: Write>(to: &mut W, n: usize) -> Result<()> {
+    write!(to, "{n}")
 }
