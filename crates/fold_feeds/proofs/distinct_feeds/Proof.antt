@@ -44,7 +44,7 @@ joined : (c : tie.Else-apart-ne0) → let a = (sound c).args in
     GateReads a.network.fanins a.network.thresholds a.network.signals a.network.weights a.network.inputs a.network.gates a.u a.v
 joined c =
     let a = (sound c).args in
-    apart_none a.t1 (tested (sound c)) a.u a.v _ c.edge_code-apart.ensures c.if-apart-ne0.false
+    apart_none a.network (tested (sound c)) a.u a.v _ c.edge_code-apart.ensures c.if-apart-ne0.false
 
 aligned_at_requires : tie.Need-aligned_at-a-requires
 aligned_at_requires c κs =

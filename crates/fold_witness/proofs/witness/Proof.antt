@@ -47,10 +47,10 @@ abbrev sound : tie.Else-apart-ne0 → tie.Else-not-is_sound
 sound c = c.before.before.before.before.before.before
 
 joined : (c : tie.Else-apart-ne0) → let a = (sound c).args in
-    GateReads a.network.fanins a.t1.thresholds a.t1.signals a.t1.weights a.t1.inputs a.t1.gates a.u a.v
+    GateReads a.network.fanins a.network.thresholds a.network.signals a.network.weights a.network.inputs a.network.gates a.u a.v
 joined c =
     let a = (sound c).args in
-    apart_none a.t1 (tested (sound c)) a.u a.v _ c.edge_code-apart.ensures c.if-apart-ne0.false
+    apart_none a.network (tested (sound c)) a.u a.v _ c.edge_code-apart.ensures c.if-apart-ne0.false
 
 aligned_at_requires : tie.Need-aligned_at-a-requires
 aligned_at_requires c κs =
@@ -60,7 +60,7 @@ aligned_at_requires c κs =
 abbrev fed : tie.Else-apart-ne0 → Edge
 fed c =
     let a = (sound c).args in
-    edge_in a.network.board a.t1.fanins a.t1.thresholds a.t1.signals a.t1.weights a.t1.inputs a.u a.v
+    edge_in a.network.board a.network.fanins a.network.thresholds a.network.signals a.network.weights a.network.inputs a.u a.v
 
 edge_ok : (c : tie.Else-apart-ne0) → EdgeOk (fed c)
 edge_ok c = joined_ok (lent (sound c)) (joined c) (sound_board _ (tested (sound c)))

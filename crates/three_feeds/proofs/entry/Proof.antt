@@ -59,17 +59,17 @@ table_below c = (start c).ranges.table.fits
 first_is : (c : tie.After-has_gate) → to_z w32 (of_z w32 (at_first c).number-first.result) ≡ entry_number (found c) 0
 first_is c =
     let n = (at_first c).number-first in
-    read_back w32 n.ok (n.ensures ∙ number_is (table_of c) (table_below c) 0 (omega arith))
+    read_back w32 n.type_inv (n.ensures ∙ number_is (table_of c) (table_below c) 0 (omega arith))
 
 second_is : (c : tie.After-has_gate) → to_z w32 (of_z w32 (at_third c).number-second.result) ≡ entry_number (found c) 1
 second_is c =
     let n = (at_third c).number-second in
-    read_back w32 n.ok (n.ensures ∙ number_is (table_of c) (table_below c) 1 (omega arith))
+    read_back w32 n.type_inv (n.ensures ∙ number_is (table_of c) (table_below c) 1 (omega arith))
 
 third_is : (c : tie.After-has_gate) → to_z w32 (of_z w32 (at_third c).number-third.result) ≡ entry_number (found c) 2
 third_is c =
     let n = (at_third c).number-third in
-    read_back w32 n.ok (n.ensures ∙ number_is (table_of c) (table_below c) 2 (omega arith))
+    read_back w32 n.type_inv (n.ensures ∙ number_is (table_of c) (table_below c) 2 (omega arith))
 
 fourth_is : (c : tie.After-has_gate) → to_z w32 (of_z w32 c.number-fourth.result) ≡ entry_number (found c) 3
 fourth_is c =

@@ -25,7 +25,7 @@ cast_result c = rw (to_z-of_z (small c)) (sfits_widen tt (small c))
 
 returns : tie.Need-returns
 returns c =
-    rw (to_z-of_z (small c)) (to_z-of_z (sfits_widen tt (small c))
+    rw (to_z-of_z (small c)) (to_z-of_z {w = w32} (sfits_widen tt (small c))
     ∙ ap (λ (l : List ℤ). get_or l (4 * c.wide.result + c.args.place) (pos 0)) c.requires.0
     ∙ ap (λ (n : ℕ). get_or (numbers_of_all table_entries) (4 * n + c.args.place) (pos 0)) c.wide.ensures.0)
 

@@ -28,7 +28,7 @@ size_of_requires : tie.Need-size_of-size-requires
 size_of_requires c κs = file_sound (c.refusal-code.ensures.gives c.if-code-ne0.false)
 
 returns_2 : tie.Need-returns
-returns_2 c = let o = c.before.before.before in made o (read_file o.refusal-code.ensures c.if-code-ne0.false c.size_of.ensures)
+returns_2 c = let o = c.before.before.before in made o (read_file o.refusal-code.ensures c.if-code-ne0.false c.size_of-size.ensures)
 
 pub file_entry_spec : {M : Type 1} → statement M
 file_entry_spec = tie.close (tie.spec (λ c κs. search rules) refusal_requires (λ c κs. search rules) returns size_of_requires returns_2)

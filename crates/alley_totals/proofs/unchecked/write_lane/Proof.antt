@@ -26,15 +26,15 @@ step_of c = listed c.args.totals c.args.taken (entry_in c.args.entry)
 abbrev text_in : tie.Start → List ℕ
 text_in c = lane_text (c.args.totals.lanes + 1) (entry_in c.args.entry)
 
-step_text : (c : tie.Start) → (step_of c).text-1 ≡ text_in c
+step_text : (c : tie.Start) → (step_of c).text ≡ text_in c
 unfolding listed
 step_text c = refl
 
 -- the line in the 21 bytes
-text_is : (c : tie.After-put_lane-length) → take c.put_lane-length.result c.put_lane-length.new.0 ≡ text_in c.before.before.before.before
+text_is : (c : tie.After-put_lane-length) → take c.put_lane-length.result c.put_lane-length.new.out ≡ text_in c.before.before.before.before
 text_is c = let p = c.put_lane-length.ensures in ap (take c.put_lane-length.result) p.bytes ∙ take_at _ _ _ p.long
 
-within : (c : tie.After-put_lane-length) → c.put_lane-length.result ≤ length c.put_lane-length.new.0
+within : (c : tie.After-put_lane-length) → c.put_lane-length.result ≤ length c.put_lane-length.new.out
 within c =
     let p = c.put_lane-length.ensures in
     let a = c.args in

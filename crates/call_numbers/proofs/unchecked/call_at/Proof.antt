@@ -14,19 +14,19 @@ returns c = rw c.in-0.keys1
 
 returns_2 : tie.Need-returns-in-1
 unfolding call_of
-returns_2 c = rw c.in-0.keys2
+returns_2 c = rw c.in-1.keys2
 
 returns_3 : tie.Need-returns-in-2
 unfolding call_of
-returns_3 c = rw c.in-0.keys3
+returns_3 c = rw c.in-2.keys3
 
 returns_4 : tie.Need-returns-in-3
 unfolding call_of
-returns_4 c = rw c.in-0.keys4
+returns_4 c = rw c.in-3.keys4
 
 returns_5 : tie.Need-returns-in-4
 unfolding call_of
-returns_5 c = rw c.in-0.keys5
+returns_5 c = rw c.in-4.keys5
 
 returns_6 : tie.Need-returns-in_default
 returns_6 c =

@@ -40,7 +40,7 @@ start c = c.before.before.before.before
 under : (c : tie.In-loop-g invariant-loop decreases-loop) → c.loop-g.g < 128
 under c = omega (arith, c.loop-g-test.true, (sized_of _ (start c).requires.sound).few_gates)
 
-small : (c : tie.In-loop-g invariant-loop decreases-loop) → c.loop-g.auto < 128
+small : (c : tie.In-loop-g invariant-loop decreases-loop) → c.loop-g.kept < 128
 small c = omega (arith, under c, c.loop-g.invariant.few)
 
 here : (c : tie.In-loop-g invariant-loop decreases-loop) → c.loop-g.g < length (net_of (start c).args.network).gates
@@ -99,7 +99,7 @@ loop_again_2 c =
     ∙ copied_row r s.requires.sound (marks_of s.args.marks) numbers.result g numbers.ensures within in
     let test = kept_gate row_made in
     copied_more t.before.loop-g.invariant (here t) (under t)
-    (get_or-take _ _ _ _ within ∙ sym test.before.is_marked.ensures ∙ not-false _ test.if1.left)
+    (get_or-take _ _ _ _ within ∙ sym test.before.is_marked.ensures ∙ not-false _ test.if-not-is_marked.false-raw)
     (gate_within r g within) (renamed_record _ (gate_of r g) gate_is row_is) c.store_gate.ensures
 
 array_read_driver : tie.Need-bounds-numbers-wide invariant-loop decreases-loop

@@ -9,11 +9,11 @@ use Rattle.fold_pair.proofs.unchecked.answered.Tie as tie
 
 returns : tie.Need-returns-in-At
 unfolding as_pair found_as
-returns c = sym (ap (λ (f : Found). as_pair (found_as f)) c.found-1.given.1)
+returns c = sym (ap (λ (f : Found). as_pair (found_as f)) c.in-At.is)
 
 returns_2 : tie.Need-returns-in-Nothing
 unfolding as_pair found_as
-returns_2 c = c.no_pair.ensures ∙ sym (ap (λ (f : Found). as_pair (found_as f)) c.enum_told-1.given.1)
+returns_2 c = c.no_pair.ensures ∙ sym (ap (λ (f : Found). as_pair (found_as f)) c.in-Nothing.is)
 
 pub answered_spec : {M : Type 1} → statement M
 answered_spec = tie.close (tie.spec (λ c. search rules) (λ c. search rules) (λ c κs. search rules) returns returns_2)

@@ -61,7 +61,7 @@ returns_2 c =
     let a = (start t).args in
     c.pair_of.ensures
     ∙ ap as_pair (ap pair_of_alignment c.aligned_at-a.ensures ∙ pair_on_lem (here t) (edge_ok t))
-    ∙ sym (pair_joined a.t1 (start t).requires a.u a.v _ t.edge_code-code.ensures t.if-code-ne0.false)
+    ∙ sym (pair_joined a.network (start t).requires a.u a.v _ t.edge_code-code.ensures t.if-code-ne0.false)
 
 pub pair_sound_spec : {M : Type 1} → statement M
 pair_sound_spec =

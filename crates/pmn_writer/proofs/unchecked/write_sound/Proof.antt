@@ -40,7 +40,7 @@ headed c = c.before.before.before.before.before.before.before.before
 abbrev body : tie.After-put_gates-gates → List ℕ
 body c =
     let put = (headed c).put_header-start in
-    put_mid put.result (length put.new.out - put.result) put.new.out c.put_gates-gates.new.0
+    put_mid put.result (length put.new.out - put.result) put.new.out c.put_gates-gates.new.out
 
 body_is : (c : tie.After-put_gates-gates) → let start = start_of (headed c) in
     let r = start.args.network in
@@ -51,8 +51,8 @@ body_is c =
     let put = headed c in
     let start = start_of put in
     let r = start.args.network in
-    let e : put.put-header.result ≡ header_length r.board = put.put-header.ensures.0 in
-    let n = put.before.before.before.file_length.ensures in
+    let e : put.put_header-start.result ≡ header_length r.board = put.put_header-start.ensures.0 in
+    let n = put.before.before.before.file_length-length.ensures in
     let h = put.before.before.if1.left in
     write_on start.args.out.now put.put-header.last.0 c.put_gates-gates.new.0 (counted_header r.board r.inputs r.gates r.outputs)
     (first_gates r.fanins r.thresholds r.signals r.weights r.gates) put.put-header.result c.put_gates-gates.result
@@ -111,7 +111,7 @@ put_outputs_requires c κs =
     let put = headed gates in
     let t = tail_length (put.put_header-start.result + gates.put_gates-gates.result) (body gates) in
     let l = c.out-2-1.given.1 in
-    let k = put.put-header.kept.0 in
+    let k = put.put_header-start.kept.0 in
     let e = (ends gates).1 in
     ((bounded (start_of put)).few_outputs, omega (arith, t, l, k, e))
 
@@ -139,7 +139,7 @@ returns_2 c =
     let el = length_is first in
     let w = written_whole r n x₀ (write_whole r (length x₀) start.requires (omega (arith, e.0, e.1, el))) el in (
       w.0,
-      write_on x₀ (body gates) c.put_outputs.new.0 (H ++ G) O (a + m) r.outputs (body_is gates) lp lO e.1 c.put_outputs.ensures
+      write_on x₀ (body gates) c.put_outputs.new.out (H ++ G) O (a + m) r.outputs (body_is gates) lp lO e.1 c.put_outputs.ensures
           ∙ ap (λ (k : ℕ). ((H ++ G) ++ O) ++ drop k x₀) e.0
           ∙ ap (λ (l : List ℕ). l ++ drop n x₀) (append_assoc H G O ∙ sym (file_parts r))
           ∙ w.1,

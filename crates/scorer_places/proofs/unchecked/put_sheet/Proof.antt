@@ -11,15 +11,15 @@ use Rattle.scorer_places.proofs.unchecked.put_sheet.Tie as tie
 returns : tie.Need-returns-then-code-ne0
 returns c =
     let a = c.args in
-    (refl, keep_places a.t2.code (sheet_numbers a.t2) a.answer.now c.if-code-ne0.true)
+    (refl, keep_places a.sheet.code (sheet_numbers a.sheet) a.answer.now c.if-code-ne0.true)
 
 returns_2 : tie.Need-returns
 returns_2 c =
     let a = c.args in
-    let many_pins : length a.t2.felled ≡ 21 = search rules in
-    let many_scores : length a.t2.scores ≡ 10 = search rules in (
+    let many_pins : length a.sheet.felled ≡ 21 = search rules in
+    let many_scores : length a.sheet.scores ≡ 10 = search rules in (
       refl,
-      sheet_put a.t2 a.answer.now c.put_counts.new.0 c.put_felled.new.0 c.put_scores.new.0 many_pins many_scores c.requires
+      sheet_put a.sheet a.answer.now c.put_counts.new.answer c.put_felled.new.answer c.put_scores.new.answer many_pins many_scores c.requires
           c.if-code-ne0.false c.put_counts.ensures c.put_felled.ensures c.put_scores.ensures,
     )
 

@@ -57,7 +57,7 @@ compare_outputs_spec =
     (λ c κs. search rules)
     (λ c. let h = below c.before.before.before in search rules)
     (λ c. below c.before.before.before.before)
-    (λ c. (c.before.before.before.before.before.loop.invariant.1, λ e. absurd (false≢true e)))
+    (λ c. (c.before.before.before.before.before.loop-j.invariant.1, λ e. absurd (false≢true e)))
     (λ c κs. search rules)
     decide_twice_requires
     returns_2
