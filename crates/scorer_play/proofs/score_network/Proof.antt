@@ -38,13 +38,13 @@ returns_3 c =
 array_share_prefix_words : tie.Need-slice_bounds-words-end
 array_share_prefix_words c =
     let short = c.short_frames-count.ensures in
-    let long : length c.read_frames-code.new.1.1.0 ≡ 22 = search rules in
+    let long : length c.read_frames-code.new.answers ≡ 22 = search rules in
     omega (arith, short.few)
 
 slice_aggregate_play : tie.Need-slice_bounds-play-end
 slice_aggregate_play c =
     let short = c.short_frames-count in
-    let long : length c.read_frames-code.new.1.1.0 ≡ 22 = search rules in
+    let long : length c.read_frames-code.new.answers ≡ 22 = search rules in
     sym (length-take-le short.result _ (omega (arith, short.ensures.few)))
 
 returns_4 : tie.Need-returns

@@ -1,4 +1,5 @@
 -- The numbers lent are the entries' numbers; an i8 of them is an i32. Assumes nothing.
+use mir.Syntax.{w32}
 use mathlib.Core.Path.{ap, ◌∙◌}
 use mathlib.Core.List.{List}
 use Prim.Native.Nat.{ℕ, ◌+◌, ◌*◌}

@@ -19,20 +19,20 @@ returns_3 : tie.Need-returns-in-NoGate
 returns_3 c =
     let a = c.args in
     settings_answered a.table a.i a.j a.k a.out.now c.if-i-j.false c.if-j-k.false c.entry-found.ensures.0
-    c.found-1.given.1
+    c.in-NoGate.is
 
 returns_4 : tie.Need-returns-in-HasGate
 returns_4 c =
     let done = c.put_in in
-    let ok = c.known_told-in-HasGate-1.given in
-    let field = c.found-in-HasGate-1.given.0 in
+    let ok = c.in-HasGate.known_told-in-HasGate-1-own.given in
+    let field = c.in-HasGate in
     let a = c.args in
-    let p : to_z w32 (of_z w32 field.0) ≡ field.0 = to_z-of_z (record { sfits = ok.0.1 }) in
-    let q : to_z w32 (of_z w32 field.1.0) ≡ field.1.0 = to_z-of_z (record { sfits = ok.1.0.1 }) in
-    let r : to_z w32 (of_z w32 field.1.1.0) ≡ field.1.1.0 = to_z-of_z (record { sfits = ok.1.1.0.1 }) in
-    let t : to_z w32 (of_z w32 field.1.1.1.0) ≡ field.1.1.1.0 = to_z-of_z (record { sfits = ok.1.1.1.0.1 }) in
+    let p : to_z w32 (of_z w32 field.weight_0) ≡ field.weight_0 = to_z-of_z (record { sfits = ok.0.1 }) in
+    let q : to_z w32 (of_z w32 field.weight_1) ≡ field.weight_1 = to_z-of_z (record { sfits = ok.1.0.1 }) in
+    let r : to_z w32 (of_z w32 field.weight_2) ≡ field.weight_2 = to_z-of_z (record { sfits = ok.1.1.0.1 }) in
+    let t : to_z w32 (of_z w32 field.threshold) ≡ field.threshold = to_z-of_z (record { sfits = ok.1.1.1.0.1 }) in
     gate_answered a.table a.i a.j a.k a.out.now c.if-i-j.false c.if-j-k.false c.entry-found.ensures.0
-    c.found-in-HasGate-1.given.1 (rw (p, q, r, t) at done.ensures.0) (rw (p, q, r, t) at done.ensures.1)
+    c.in-HasGate.is (rw (p, q, r, t) at done.ensures.0) (rw (p, q, r, t) at done.ensures.1)
 
 pub put_part_spec : {M : Type 1} → statement M
 put_part_spec =

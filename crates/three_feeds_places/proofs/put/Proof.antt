@@ -13,10 +13,10 @@ use Rattle.three_feeds_places.proofs.put.Tie as tie
 
 returns : tie.Need-returns-in-HasGate
 returns c =
-    let ok = c.known_told-1.given in
+    let ok = c.in-HasGate.known_told-in-HasGate-1-own.given in
     let lent = c.args.answer.now in
     c.put_five.ensures
-    ∙ ap (λ (l : List ℤ). l ++ drop 5 lent) (gate_places_lem c.found-1.given.1
+    ∙ ap (λ (l : List ℤ). l ++ drop 5 lent) (gate_places_lem c.in-HasGate.is
     (read_back w64 c.widened.type_inv (c.widened.ensures ∙ to_z-of_z (record { sfits = ok.0.1 })))
     (read_back w64 c.widened-in-HasGate.type_inv (c.widened-in-HasGate.ensures ∙ to_z-of_z (record { sfits = ok.1.0.1 })))
     (read_back w64 c.widened-in-HasGate-2.type_inv (c.widened-in-HasGate-2.ensures ∙ to_z-of_z (record { sfits = ok.1.1.0.1 })))
@@ -26,7 +26,7 @@ returns_2 : tie.Need-returns-in-NoGate
 returns_2 c =
     let lent = c.args.answer.now in
     c.put_five-in-NoGate.ensures
-    ∙ ap (λ (l : List ℤ). l ++ drop 5 lent) (witness_places c.found-in-NoGate-1.given.1
+    ∙ ap (λ (l : List ℤ). l ++ drop 5 lent) (witness_places c.in-NoGate.is
     (read_back w64 c.signed.type_inv c.signed.ensures)
     (read_back w64 c.signed-in-NoGate.type_inv c.signed-in-NoGate.ensures)
     (read_back w64 c.signed-in-NoGate-2.type_inv c.signed-in-NoGate-2.ensures)

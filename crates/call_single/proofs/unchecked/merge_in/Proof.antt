@@ -37,10 +37,10 @@ few_inputs c = (sized_of (held c).network (network_sound c)).few_inputs
 abbrev start_of : tie.Else-code-ne0 → tie.Start
 start_of c = c.before.before
 
-abbrev else_of : tie.After-enter-gate-arg10 → tie.Else-code-ne0
+abbrev else_of : tie.After-enter_gate-arg-1 → tie.Else-code-ne0
 else_of c =
-    let network_lent = c.before.before.before.before.before.before in
-    let known = network_lent.before.before.before.before in
+    let network_lent = c.before.before.before.before in
+    let known = network_lent.before.before.before in
     known.before
 
 -- past the test v is a gate's signal

@@ -41,7 +41,7 @@ returns_2 c =
     let else = at_else c.before.before.before in
     let s = else.before in
     let stuck = sym (back_ok (held s).network _) ∙ sym (ap (λ (b : Back). b.ok) c.restored-back.ensures) ∙ not-true _ c.if-not-ok.true-raw in
-    refused_parts s.args.head c.call_left-then-not-ok.ensures ∙ sym (undone_stuck (held s) s.requires.whole (omega (arith, else.if1.left)) stuck)
+    refused_parts s.args.head c.call_left-then-not-ok.ensures ∙ sym (undone_stuck (held s) s.requires.whole (omega (arith, else.if-count-eq0.false)) stuck)
 
 returns_3 : tie.Need-returns
 unfolding no_figures
@@ -53,7 +53,7 @@ returns_3 c =
     let can = sym (back_ok (held s).network _) ∙ sym (ap (λ (b : Back). b.ok) back) ∙ not-false _ c.if-not-ok.false-raw in
     let network = back_parts a.head _ _ _ _ _ (step_at (held s).journal 0) _ (ap (λ (b : Back). b.network) back ∙ back_network (held s).network _ can) in
     answered_parts a.head c.call_left-2.ensures network c.without_newest-later.ensures
-    ∙ sym (undone_back (held s) s.requires.whole (omega (arith, else.if1.left)) can)
+    ∙ sym (undone_back (held s) s.requires.whole (omega (arith, else.if-count-eq0.false)) can)
 
 pub undo_in_spec : {M : Type 1} → statement M
 undo_in_spec =

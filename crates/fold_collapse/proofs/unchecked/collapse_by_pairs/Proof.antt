@@ -85,16 +85,16 @@ merge_reader_requires : tie.Need-merge_reader-requires invariant-loop decreases-
 merge_reader_requires c κs =
     let else = c.before.before.before.before in
     let turn = turn_of else in
-    let loop = turn.before.loop in
+    let loop = turn.before.loop-g in
     let s = turn.before.before in
     let r = record_at s in
     record {
-      lent = part_lent r s.args.u s.args.pairs s.requires.1.own s.requires.1.pairs (so_far turn.before) loop.g loop.inv.1;
-      joined = part_joined r s.args.u s.args.pairs s.requires.1.own s.requires.1.pairs (so_far turn.before) loop.g loop.inv.1
-          turn.loop-test.taken else.if-k-eq0.false;
+      lent = part_lent r s.args.u s.args.pairs s.requires.1.own s.requires.1.pairs (so_far turn.before) loop.g loop.invariant.1;
+      joined = part_joined r s.args.u s.args.pairs s.requires.1.own s.requires.1.pairs (so_far turn.before) loop.g loop.invariant.1
+          turn.loop-g-test.true else.if-k-eq0.false;
       board_ok_lem = sound_board r s.requires.1.own.sound;
-      mergeable = part_mergeable r s.args.u s.args.pairs s.requires.1.own s.requires.1.pairs (so_far turn.before) loop.g loop.inv.1
-          turn.loop-test.taken else.if-k-eq0.false;
+      mergeable = part_mergeable r s.args.u s.args.pairs s.requires.1.own s.requires.1.pairs (so_far turn.before) loop.g loop.invariant.1
+          turn.loop-g-test.true else.if-k-eq0.false;
       place = under turn;
     }
 
@@ -102,19 +102,19 @@ add_g_2 : tie.Need-overflow_step-g-in-loop-g invariant-loop decreases-loop
 add_g_2 c = omega (arith, under (turn_of c.before.before.before.before.before))
 
 loop_less_2 : tie.Need-loop-g-smaller invariant-loop decreases-loop
-loop_less_2 c = omega (arith, (turn_of c.before.before.before.before.before).loop-g-test.taken)
+loop_less_2 c = omega (arith, (turn_of c.before.before.before.before.before).loop-g-test.true)
 
 loop_again_2 : tie.Need-loop-g-preserved invariant-loop decreases-loop
 loop_again_2 c =
     let else = c.before.before.before.before.before in
     let turn = turn_of else in
-    let loop = turn.before.loop in
+    let loop = turn.before.loop-g in
     let s = turn.before.before in
     let r = record_at s in (
-      omega (arith, turn.loop-test.taken),
-      part_next r s.args.u s.args.pairs s.requires.1.own s.requires.1.pairs (so_far turn.before) loop.g loop.inv.1 turn.loop-test.taken
+      omega (arith, turn.loop-g-test.true),
+      part_next r s.args.u s.args.pairs s.requires.1.own s.requires.1.pairs (so_far turn.before) loop.g loop.invariant.1 turn.loop-g-test.true
           else.if-k-eq0.false _
-          (part_made r s.args.u s.args.pairs s.requires.1.own s.requires.1.pairs (so_far turn.before) loop.g loop.inv.1 turn.loop-test.taken
+          (part_made r s.args.u s.args.pairs s.requires.1.own s.requires.1.pairs (so_far turn.before) loop.g loop.invariant.1 turn.loop-g-test.true
           else.if-k-eq0.false)
           c.merge_reader.ensures,
     )

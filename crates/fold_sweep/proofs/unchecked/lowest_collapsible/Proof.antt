@@ -57,7 +57,7 @@ turn c = tested (tried c.before).before
 test : (c : tie.After-is_output invariant-loop decreases-loop) → let at = tested c in
     let start = at.before.before.before in
     let r = record_at start in
-    let u = r.inputs + at.before.loop.g in
+    let u = r.inputs + at.before.loop-g.g in
     ltb start.args.b c.count_readers-readers.result || c.is_output.result
     ≡ ltb start.args.b (readers (net_of r) u) || occurs r.drivers 0 r.outputs u
 unfolding readers net_of
@@ -90,7 +90,7 @@ loop_again c =
 
 -- ---- a gate with too many readers, or an output
 add_u : tie.Need-overflow_add-u invariant-loop decreases-loop
-add_u c = let at = turn_of c.before in let z = sizes at.before in omega (arith, z.few_inputs, z.few_gates, at.loop-test.taken)
+add_u c = let at = turn_of c.before in let z = sizes at.before in omega (arith, z.few_inputs, z.few_gates, at.loop-g-test.true)
 
 count_readers_requires : tie.Need-count_readers-readers-requires invariant-loop decreases-loop
 count_readers_requires c κs = lent_counted (lent_of _ (T_is (sound_record _) (turn_of c.before).requires.0))
@@ -102,17 +102,17 @@ add_g_2 : tie.Need-overflow_step-g-then-b-readers invariant-loop decreases-loop
 add_g_2 c = omega (arith, under (tested c.before))
 
 loop_less_2 : tie.Need-loop-g-smaller-then-b-readers invariant-loop decreases-loop
-loop_less_2 c = omega (arith, (tested c.before).loop-g-test.taken)
+loop_less_2 c = omega (arith, (tested c.before).loop-g-test.true)
 
 loop_again_2 : tie.Need-loop-g-preserved-then-b-readers invariant-loop decreases-loop
 loop_again_2 c =
     let at = tested c.before in
     let start = at.before.before.before in
-    let loop = at.before.loop in
+    let loop = at.before.loop-g in
     let barred = sym (test c.before) ∙ c.if-b-readers.true in (
-      omega (arith, at.loop-test.taken),
-      lower_more _ _ _ loop.g loop.inv.1 (barred_refused (record_at start) start.args.b loop.g start.requires.0 at.loop-test.taken barred),
-      loop.inv.2,
+      omega (arith, at.loop-g-test.true),
+      lower_more _ _ _ loop.g loop.invariant.1 (barred_refused (record_at start) start.args.b loop.g start.requires.0 at.loop-g-test.true barred),
+      loop.invariant.2,
     )
 
 -- ---- a gate that is tried
@@ -124,20 +124,20 @@ hinted_pairs_requires c κs =
     let at = tested c.before.before.before.before in
     let start = at.before.before.before in
     let lent = lent_of _ (T_is (sound_record _) start.requires.0) in
-    (lent, (omega arith, omega (arith, at.loop-test.taken)), sound_board (record_at start) start.requires.0)
+    (lent, (omega arith, omega (arith, at.loop-g-test.true)), sound_board (record_at start) start.requires.0)
 
 kept_refusers_requires : tie.Need-kept_refusers-requires invariant-loop decreases-loop
-kept_refusers_requires c κs = (tested (tried c.before.before.before.before.before).before).before.loop.inv.2.long
+kept_refusers_requires c κs = (tested (tried c.before.before.before.before.before).before).before.loop-g.invariant.2.long
 
 returns : tie.Need-returns-then-code-eq0 invariant-loop decreases-loop
 returns c =
     let else = tried c.before.before.before.before.before.before in
     let at = tested else.before in
     let start = at.before.before.before in
-    let loop = at.before.loop in
+    let loop = at.before.loop-g in
     let pairs = c.hinted_pairs-pairs in
-    let next = taken (record_at start) start.args.b loop.g start.requires.0 at.loop-test.taken (sym (test else.before) ∙ else.if2.left)
-    pairs.result (pairs.ensures.found c.if-code-eq0.true) loop.inv.1 in (
+    let next = taken (record_at start) start.args.b loop.g start.requires.0 at.loop-g-test.true (sym (test else.before) ∙ else.if-b-readers.false)
+    pairs.result (pairs.ensures.found c.if-code-eq0.true) loop.invariant.1 in (
       record { next = λ t. next; none = λ t. absurd (true≢false t) },
       record { next = λ t. remembered_after (record_at start) start.args.b loop.g pairs.result next loop.inv.2 c.kept_refusers.ensures },
     )
@@ -145,11 +145,11 @@ returns c =
 -- the reader that refused it
 refuser : (c : tie.Else-code-eq0 invariant-loop decreases-loop) → let at = turn c in
     let r = record_at at.before.before.before in
-    RefusedBy (net_of r) (r.inputs + at.before.loop.g) (r.inputs + c.hinted_pairs-pairs.result.last)
+    RefusedBy (net_of r) (r.inputs + at.before.loop-g.g) (r.inputs + c.hinted_pairs-pairs.result.last)
 refuser c =
     let at = turn c in
     let start = at.before.before.before in
-    refused_of (record_at start) _ (own_gate (record_at start) start.args.b at.before.loop.g start.requires.0 at.loop-test.taken) _
+    refused_of (record_at start) _ (own_gate (record_at start) start.args.b at.before.loop-g.g start.requires.0 at.loop-g-test.true) _
     (c.hinted_pairs-pairs.ensures.refuses c.if-code-eq0.false)
 
 cast_last : tie.Need-overflow_cast-last invariant-loop decreases-loop
@@ -171,10 +171,10 @@ loop_again_3 : tie.Need-loop-g-preserved invariant-loop decreases-loop
 loop_again_3 c =
     let at = turn c in
     let start = at.before.before.before in
-    let loop = at.before.loop in (
-      omega (arith, at.loop-test.taken),
-      lower_more _ _ _ loop.g loop.inv.1 (reader_refused _ _ _ _ (refuser c)),
-      remembered_more (record_at start) loop.inv.2 loop.g _ (under at) (refuser c),
+    let loop = at.before.loop-g in (
+      omega (arith, at.loop-g-test.true),
+      lower_more _ _ _ loop.g loop.invariant.1 (reader_refused _ _ _ _ (refuser c)),
+      remembered_more (record_at start) loop.invariant.2 loop.g _ (under at) (refuser c),
     )
 
 -- ---- no gate is left

@@ -53,7 +53,7 @@ body_is c =
     let r = start.args.network in
     let e : put.put_header-start.result ≡ header_length r.board = put.put_header-start.ensures.0 in
     let n = put.before.before.before.file_length-length.ensures in
-    let h = put.before.before.if1.left in
+    let h = put.before.before.if-out-length.left in
     write_on start.args.out.now put.put-header.last.0 c.put_gates-gates.new.0 (counted_header r.board r.inputs r.gates r.outputs)
     (first_gates r.fanins r.thresholds r.signals r.weights r.gates) put.put-header.result c.put_gates-gates.result
     put.put-header.ensures.1 (counted_header_length r.board r.inputs r.gates r.outputs ∙ sym e)
@@ -111,7 +111,7 @@ put_outputs_requires c κs =
     let put = headed gates in
     let t = tail_length (put.put_header-start.result + gates.put_gates-gates.result) (body gates) in
     let l = c.out-2-1.given.1 in
-    let k = put.put_header-start.kept.0 in
+    let k = put.put_header-start.auto.out in
     let e = (ends gates).1 in
     ((bounded (start_of put)).few_outputs, omega (arith, t, l, k, e))
 

@@ -50,7 +50,7 @@ merge_rounds_spec =
     decreases-loop
     (λ c κs. search rules)
     look_more_requires
-    (λ c. (omega arith, c.before.before.before.before.merge_outputs-arg-2-1.ensures.1, kept_same _ _))
+    (λ c. (omega arith, c.merge_outputs-left.ensures.1, kept_same _ _))
     (λ c. search rules)
     (λ c. search rules)
     merge_outputs_requires_2
