@@ -1,5 +1,5 @@
 -- The alley file and its sheet, on the whole list of bytes. Document 02, No. 6. Nothing is proved here.
-use Rattle.basics.specs.Library.{cond, List, [], ◌∷◌, ◌++◌, map, ℕ, zero, suc, ◌+◌, ◌*◌, leb, length, take, drop}
+use Rattle.std.specs.Prelude.{cond, List, [], ◌∷◌, ◌++◌, map, ℕ, zero, suc, ◌+◌, ◌*◌, leb, length, take, drop}
 use Rattle.basics.specs.Refusals.{Answer, accepted, refused, bind}
 use Rattle.texts.specs.Texts.{decimal}
 use Rattle.network.specs.Threshold.{Net}

@@ -1,6 +1,6 @@
 -- What the calls answer. A sheet is made lane by lane: a call is lent bytes of the alley file from a lane's start on, and says whether
 -- they are its last. Nothing is proved here.
-use Rattle.basics.specs.Library.{Bool, cond, ◌&&◌, List, [], ◌∷◌, ℕ, ◌+◌, ◌*◌, leb, ltb, length, take}
+use Rattle.std.specs.Prelude.{Bool, cond, ◌&&◌, List, [], ◌∷◌, ℕ, ◌+◌, ◌*◌, leb, ltb, length, take}
 use Rattle.basics.specs.Refusals.{Answer, accepted, refused, ◌else◌, checks}
 use Rattle.alley_theory.specs.Alley.{Lane, whole, cut_short, lane_length, Size, lane_entry, size_counted, lane_text, total_text}
 use Rattle.alley_theory.specs.declared.Entry.{Entry}

@@ -1,5 +1,6 @@
 -- What is claimed of every alley file. Nothing is proved here.
-use Rattle.basics.specs.Library.{◌≡◌, Bool, true, cond, List, [], ◌∷◌, ◌++◌, map, some, ℕ, ◌+◌, ◌-◌, ◌%◌, ◌/◌, ◌≤◌, ◌<◌, eqb, length, take, drop}
+use Rattle.std.specs.Prelude.{◌≡◌, Bool, true, cond, List, [], ◌∷◌, ◌++◌, map, ℕ, ◌+◌, ◌-◌, ◌%◌, ◌/◌, ◌≤◌, ◌<◌, eqb, length, take, drop}
+use Rattle.basics.specs.Library.{some}
 use Rattle.basics.specs.Lists.{Each}
 use Rattle.basics.specs.Refusals.{Answer}
 use Rattle.network.specs.declared.Network.{Network}

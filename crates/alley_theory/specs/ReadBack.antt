@@ -1,6 +1,7 @@
 -- What a sheet says when its text is read back, strictly: a line feed ends each line, single spaces part its words, a number is digits only.
 -- Nothing is proved here.
-use Rattle.basics.specs.Library.{cond, List, [], ◌∷◌, map, Option, some, none, ℕ, suc}
+use Rattle.std.specs.Prelude.{cond, List, [], ◌∷◌, map, ℕ, suc}
+use Rattle.basics.specs.Library.{Option, some, none}
 use Rattle.basics.specs.Refusals.{Answer, accepted, refused}
 use Rattle.texts.specs.Texts.{parts, same_text, number}
 use Rattle.alley_theory.specs.Alley.{Size}

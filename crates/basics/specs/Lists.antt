@@ -1,5 +1,5 @@
 -- Lists, ranges and tests over them: the small vocabulary of the definitions. Nothing is proved here.
-use Rattle.basics.specs.Library.{Bool, true, not, cond, ◌&&◌, List, [], ◌∷◌, map, ℕ, zero, suc, leb, eqb, get_or}
+use Rattle.std.specs.Prelude.{Bool, true, not, cond, ◌&&◌, List, [], ◌∷◌, map, ℕ, zero, suc, leb, eqb, get_or}
 
 -- p holds of each member
 unfoldable pub all : {A : Type 0} → (A → Bool) → List A → Bool

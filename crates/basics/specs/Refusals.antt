@@ -1,6 +1,6 @@
 -- Answers and refusals. A call's order is a list of tests, each with its number; the first that fails is the answer. "A refusal .. touches
 -- no lent byte." Nothing is proved here.
-use Rattle.basics.specs.Library.{Bool, cond, List, [], ◌∷◌, ◌++◌, ℕ, T, length, drop}
+use Rattle.std.specs.Prelude.{Bool, cond, List, [], ◌∷◌, ◌++◌, ℕ, T, length, drop}
 
 -- "accepted", with what the call gives, or the number of a refusal
 pub data Answer (A : Type 0) : Type 0 where

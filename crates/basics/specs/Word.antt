@@ -1,5 +1,6 @@
 -- Little-endian 32-bit words at the front of a list of bytes, and their signed reading. Nothing is proved here.
-use Rattle.basics.specs.Library.{ℕ, ◌+◌, ◌*◌, ◌/◌, ◌%◌, List, [], ◌∷◌, ℤ, w32, of_z}
+use Rattle.std.specs.Prelude.{ℕ, ◌+◌, ◌*◌, ◌/◌, ◌%◌, List, [], ◌∷◌, ℤ}
+use Rattle.basics.specs.Library.{w32, of_z}
 
 -- the number that four bytes are, the least first
 abbrev pub number32 : ℕ → ℕ → ℕ → ℕ → ℕ

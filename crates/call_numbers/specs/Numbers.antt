@@ -1,6 +1,6 @@
 -- A list of calls given as numbers, five to a call: kind (0 merge u v k l, 1 drop s, 2 collapse s, 3 sweep B, 4 preview s, 5 undo) and four
 -- numbers, of which a kind passes over those that it does not use; and the four numbers that each call's answer is. Nothing is proved here.
-use Rattle.basics.specs.Library.{Bool, true, false, ◌&&◌, List, [], ◌∷◌, ℕ, zero, suc, leb}
+use Rattle.std.specs.Prelude.{Bool, true, false, ◌&&◌, List, [], ◌∷◌, ℕ, zero, suc, leb}
 use Rattle.call_theory.specs.declared.Figures.{Figures}
 use Rattle.call_theory.specs.declared.Call.{Call}
 use Rattle.call_theory.specs.declared.Call.TheVariants.{Merge, Drop, Collapse, Sweep, Preview, Undo}

@@ -1,6 +1,6 @@
 -- What the run of a list of calls on a whole file answers, with the order as read, 14, 18. A refusal leaves everything as it was. Nothing is
 -- proved here.
-use Rattle.basics.specs.Library.{◌&&◌, List, [], ◌∷◌, ℕ, ◌+◌, ◌*◌, length}
+use Rattle.std.specs.Prelude.{◌&&◌, List, [], ◌∷◌, ℕ, ◌+◌, ◌*◌, length}
 use Rattle.basics.specs.Refusals.{Answer, accepted, refused, ◌else◌, checks, bind}
 use Rattle.pmn_format.specs.Format.{file_bytes}
 use Rattle.pmn_opening.specs.Files.{read_net, room}

@@ -1,6 +1,6 @@
 -- What a list of calls answers and leaves. The list is run as document 01, "A list of calls", has it, from a network just read. Nothing is
 -- proved here.
-use Rattle.basics.specs.Library.{List, [], ◌∷◌, ◌++◌, ℕ, length}
+use Rattle.std.specs.Prelude.{List, [], ◌∷◌, ◌++◌, ℕ, length}
 use Rattle.basics.specs.Refusals.{Answer, accepted, refused, code_of}
 use Rattle.network.specs.Threshold.{Net}
 use Rattle.pmn_format.specs.Format.{file_bytes}

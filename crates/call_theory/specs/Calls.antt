@@ -1,6 +1,6 @@
 -- A list of calls: document 01, "A list of calls"; document 02, No. 1, "A list of calls may hold previews", and No. 5, "Undo joins the calls in
 -- the list". Nothing is proved here.
-use Rattle.basics.specs.Library.{List, [], ◌∷◌, ℕ, zero, suc, ◌+◌, length}
+use Rattle.std.specs.Prelude.{List, [], ◌∷◌, ℕ, zero, suc, ◌+◌, length}
 use Rattle.basics.specs.Refusals.{Answer, accepted, refused, ◌else◌, checks, bind}
 use Rattle.network.specs.Threshold.{Net}
 use Rattle.network.specs.Changes.{gate_at}

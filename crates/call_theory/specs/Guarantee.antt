@@ -1,5 +1,5 @@
 -- What is claimed of lists of calls, undo among them. Document 01, "A list of calls"; document 02, No. 1 and No. 5. Nothing is proved here.
-use Rattle.basics.specs.Library.{◌≡◌, List, [], ◌∷◌, ◌↔◌, ℕ, ◌-◌, ◌≤◌, length, take}
+use Rattle.std.specs.Prelude.{◌≡◌, List, [], ◌∷◌, ◌↔◌, ℕ, ◌-◌, ◌≤◌, length, take}
 use Rattle.basics.specs.Refusals.{accepted, refused, Passed}
 use Rattle.network.specs.Threshold.{Net}
 use Rattle.network.specs.Changes.{with_gate}

@@ -1,5 +1,5 @@
 -- The journal of accepted steps, and undo. Document 02, No. 5, "Take a fold back". Nothing is proved here.
-use Rattle.basics.specs.Library.{Bool, cond, ◌&&◌, List, [], ◌∷◌, ◌++◌, ℕ, zero, suc, ◌+◌, leb, length, take}
+use Rattle.std.specs.Prelude.{Bool, cond, ◌&&◌, List, [], ◌∷◌, ◌++◌, ℕ, zero, suc, ◌+◌, leb, length, take}
 use Rattle.basics.specs.Refusals.{Answer, accepted, refused, ◌else◌, checks}
 use Rattle.network.specs.Threshold.{Gate, Net}
 use Rattle.network.specs.Limits.{is_gate, sound}

@@ -1,5 +1,5 @@
 -- Single steps that were taken, one after another. Nothing is proved here.
-use Rattle.basics.specs.Library.{◌≡◌, List, [], ◌∷◌, ℕ, T}
+use Rattle.std.specs.Prelude.{◌≡◌, List, [], ◌∷◌, ℕ, T}
 use Rattle.basics.specs.Refusals.{accepted}
 use Rattle.network.specs.Threshold.{Net}
 use Rattle.network.specs.Changes.{gate_at}

@@ -1,5 +1,5 @@
 -- What is claimed of comparing two records. Nothing is proved here.
-use Rattle.basics.specs.Library.{◌≡◌, ◌≢◌, ◌↔◌, true, false, ◌&&◌, ℕ, ◌^◌, ◌≤◌, ◌<◌}
+use Rattle.std.specs.Prelude.{◌≡◌, ◌≢◌, ◌↔◌, true, false, ◌&&◌, ℕ, ◌^◌, ◌≤◌, ◌<◌}
 use Rattle.network.specs.Threshold.{Net, Assignment, frame, fits_frame, output_bits}
 use Rattle.network.specs.Record.{net_of}
 use Rattle.network.specs.declared.Network.{Network}

@@ -1,7 +1,7 @@
 -- Examples of verdicts: three networks with one input and one gate. The gates of the first two are "[1;1]" and "[2;1]", which have the input's bit;
 -- that of the third is "[ ;0]", which is always 1. So the first two are alike, and the first and the third are apart on frame 0 alone. Nothing is
 -- proved here.
-use Rattle.basics.specs.Library.{◌≡◌, [], ◌∷◌, ℕ, ℤ, pos}
+use Rattle.std.specs.Prelude.{◌≡◌, [], ◌∷◌, ℕ, ℤ, pos}
 use Rattle.network.specs.Threshold.{Feed, Net}
 use Rattle.compare_theory.specs.Verdicts.{Verdict}
 

@@ -1,6 +1,6 @@
 -- What is claimed of comparing two whole files: it starts from the records that a read gives, and answers as the comparison of records does. Nothing
 -- is proved here.
-use Rattle.basics.specs.Library.{◌≡◌, ◌≢◌, true, false, List, [], ◌∷◌, ℕ, ◌≤◌, ◌<◌, length, get_or, drop}
+use Rattle.std.specs.Prelude.{◌≡◌, ◌≢◌, true, false, List, [], ◌∷◌, ℕ, ◌≤◌, ◌<◌, length, get_or, drop}
 use Rattle.network.specs.Record.{net_of}
 use Rattle.pmn_reader.specs.Answers.{loaded}
 use Rattle.pmn_claims.specs.Answers.{record_in}

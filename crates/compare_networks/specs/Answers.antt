@@ -1,5 +1,5 @@
 -- What a comparison of two records answers, with the order 20, 19. Nothing is proved here.
-use Rattle.basics.specs.Library.{◌≡◌, ◌&&◌, [], ◌∷◌, ℕ}
+use Rattle.std.specs.Prelude.{◌≡◌, ◌&&◌, [], ◌∷◌, ℕ}
 use Rattle.basics.specs.Refusals.{Answer, accepted, refused, ◌else◌, checks}
 use Rattle.network.specs.Record.{net_of, sound_record}
 use Rattle.network.specs.declared.Network.{Network}

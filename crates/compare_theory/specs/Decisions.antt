@@ -1,5 +1,5 @@
 -- Internal: the decisions of a refutation, a signal and a bit at each level, and what holds along the way. Nothing is proved here.
-use Rattle.basics.specs.Library.{◌≡◌, ◌⊎◌, Bool, cond, List, ℕ, ◌-◌, ◌/◌, ◌^◌, ◌≤◌, ◌<◌, eqb, get_or, length, replicate, set}
+use Rattle.std.specs.Prelude.{◌≡◌, ◌⊎◌, Bool, cond, List, ℕ, ◌-◌, ◌/◌, ◌^◌, ◌≤◌, ◌<◌, eqb, get_or, length, replicate, set}
 use Rattle.network.specs.Threshold.{Assignment}
 use Rattle.compare_theory.specs.Joint.{Joint, FitsJoint, Extends}
 use Rattle.compare_theory.specs.Reasons.{Meets, Rests}

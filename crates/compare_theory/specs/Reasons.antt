@@ -1,6 +1,6 @@
 -- Internal: partial assignments whose bits rest on decisions. A mask has a bit for each decision, and an assignment meets some of the
 -- decisions. Nothing is proved here.
-use Rattle.basics.specs.Library.{◌≡◌, ◌⊎◌, Bool, true, List, ℕ, ◌+◌, ◌≤◌, ◌<◌, ℤ, pos, nat_abs, get_or, length}
+use Rattle.std.specs.Prelude.{◌≡◌, ◌⊎◌, Bool, true, List, ℕ, ◌+◌, ◌≤◌, ◌<◌, ℤ, pos, nat_abs, get_or, length}
 use Rattle.network.specs.Threshold.{Assignment, bit, frame}
 use Rattle.compare_theory.specs.Joint.{fanin, gate_of_rows, Allows}
 use Rattle.compare_theory.specs.Spans.{least, most, least_at, most_at, least_sum, most_sum, RoomyAll}

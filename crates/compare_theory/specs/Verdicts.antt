@@ -1,5 +1,5 @@
 -- What a comparison of two networks answers: a refusal, or a verdict on them. Nothing is proved here.
-use Rattle.basics.specs.Library.{◌≡◌, ◌≢◌, true, List, [], ◌∷◌, ℕ, ◌≤◌}
+use Rattle.std.specs.Prelude.{◌≡◌, ◌≢◌, true, List, [], ◌∷◌, ℕ, ◌≤◌}
 use Rattle.basics.specs.Refusals.{Answer, accepted, ◌else◌, checks}
 use Rattle.network.specs.Threshold.{Net, frame, fits_frame, output_bits}
 use Rattle.question_theory.specs.Question.{alike}

@@ -1,5 +1,5 @@
 -- What the cut of a file answers. Document 02, No. 12. Nothing is proved here.
-use Rattle.basics.specs.Library.{List, ℕ}
+use Rattle.std.specs.Prelude.{List, ℕ}
 use Rattle.basics.specs.Refusals.{Answer, bind}
 use Rattle.pmn_opening.specs.Files.{open_net}
 use Rattle.pmn_files.specs.Files.{file_in}

@@ -1,5 +1,5 @@
 -- What the cut of a record answers. Document 02, No. 12. Nothing is proved here.
-use Rattle.basics.specs.Library.{[], ◌∷◌, ℕ}
+use Rattle.std.specs.Prelude.{[], ◌∷◌, ℕ}
 use Rattle.basics.specs.Refusals.{Answer, accepted, refused, ◌else◌, checks}
 use Rattle.network.specs.Threshold.{Net}
 use Rattle.network.specs.Record.{net_of, layout}

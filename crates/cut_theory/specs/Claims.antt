@@ -1,5 +1,5 @@
 -- What is claimed of the cut. Document 02, No. 12. Nothing is proved here.
-use Rattle.basics.specs.Library.{◌≡◌, false, [], ◌∷◌, ◌↔◌, ℕ, ◌+◌, ◌^◌, ◌<◌, T, length, get_or}
+use Rattle.std.specs.Prelude.{◌≡◌, false, [], ◌∷◌, ◌↔◌, ℕ, ◌+◌, ◌^◌, ◌<◌, T, length, get_or}
 use Rattle.basics.specs.Refusals.{accepted}
 use Rattle.network.specs.Threshold.{Net, frame, output_bits}
 use Rattle.network.specs.Limits.{is_gate, sound}

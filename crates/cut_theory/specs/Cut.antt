@@ -1,5 +1,5 @@
 -- The cut of one output. Document 02, No. 12, "Cut out one pin". Nothing is proved here.
-use Rattle.basics.specs.Library.{◌≡◌, Bool, not, cond, ◌||◌, List, [], ◌∷◌, map, ℕ, suc, ◌-◌, T, eqb, ltb, length, get_or, take}
+use Rattle.std.specs.Prelude.{◌≡◌, Bool, not, cond, ◌||◌, List, [], ◌∷◌, map, ℕ, suc, ◌-◌, T, eqb, ltb, length, get_or, take}
 use Rattle.basics.specs.Lists.{all}
 use Rattle.basics.specs.Refusals.{Answer, accepted, ◌else◌, checks}
 use Rattle.network.specs.Threshold.{Feed, Gate, Net}

@@ -1,6 +1,6 @@
 -- The distinct feeds of two gates, as a call gives them. Document 02, No. 9: "the distinct signal i, counted from 0 in rising order".
 -- Nothing is proved here.
-use Rattle.basics.specs.Library.{List, [], ◌∷◌, ℕ, length}
+use Rattle.std.specs.Prelude.{List, [], ◌∷◌, ℕ, length}
 use Rattle.basics.specs.Lists.{places}
 use Rattle.basics.specs.Refusals.{Answer, accepted, refused, ◌else◌, checks}
 use Rattle.network.specs.Threshold.{Net}

@@ -1,5 +1,5 @@
 -- What the call on a whole file answers. Nothing is proved here.
-use Rattle.basics.specs.Library.{List, ◌∷◌, ℕ, length}
+use Rattle.std.specs.Prelude.{List, ◌∷◌, ℕ, length}
 use Rattle.basics.specs.Refusals.{Answer, accepted, bind}
 use Rattle.pmn_opening.specs.Files.{open_net}
 use Rattle.fold_feeds.specs.Feeds.{feeds}

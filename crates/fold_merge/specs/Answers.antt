@@ -1,6 +1,6 @@
 -- What a merge on a record answers. A call on a record tests the record first (20); then it is the call of document 01 on the
 -- network that the record stands for. "A refusal hands the record back unchanged, with 0 for every other number." Nothing is proved here.
-use Rattle.basics.specs.Library.{[], ◌∷◌, ℕ}
+use Rattle.std.specs.Prelude.{[], ◌∷◌, ℕ}
 use Rattle.basics.specs.Refusals.{Answer, ◌else◌, checks, code_of}
 use Rattle.network.specs.Threshold.{Net}
 use Rattle.network.specs.Record.{net_of, sound_record}

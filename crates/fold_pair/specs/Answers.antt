@@ -1,5 +1,5 @@
 -- What the pair on a record answers: 20 for a record that is not sound, then the pair of document 01. Nothing is proved here.
-use Rattle.basics.specs.Library.{ℕ}
+use Rattle.std.specs.Prelude.{ℕ}
 use Rattle.basics.specs.Refusals.{Answer, accepted, refused}
 use Rattle.network.specs.declared.Network.{Network}
 use Rattle.fold_theory.specs.Pair.{Pair, pair}

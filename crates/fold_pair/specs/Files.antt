@@ -1,5 +1,5 @@
 -- What the pair of two gates of a whole file answers, with the order as read, 18, then the pair's refusals. Nothing is proved here.
-use Rattle.basics.specs.Library.{List, [], ◌∷◌, ℕ, length}
+use Rattle.std.specs.Prelude.{List, [], ◌∷◌, ℕ, length}
 use Rattle.basics.specs.Refusals.{Answer, accepted, bind}
 use Rattle.fold_theory.specs.Pair.{pair}
 use Rattle.pmn_opening.specs.Files.{open_net}

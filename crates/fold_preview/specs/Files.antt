@@ -1,5 +1,5 @@
 -- What the preview on a whole file answers. Nothing is proved here.
-use Rattle.basics.specs.Library.{List, ℕ, length}
+use Rattle.std.specs.Prelude.{List, ℕ, length}
 use Rattle.basics.specs.Refusals.{Answer, accepted, bind}
 use Rattle.network_report.specs.Size.{sizes}
 use Rattle.fold_theory.specs.Collapse.{collapse}

@@ -1,5 +1,5 @@
 -- The preview of a collapse: document 02, No. 1. Nothing is proved here.
-use Rattle.basics.specs.Library.{ℕ}
+use Rattle.std.specs.Prelude.{ℕ}
 use Rattle.network.specs.declared.Network.{Network}
 use Rattle.network_report.specs.Size.{report_of}
 use Rattle.network_report.specs.declared.SizeReport.{SizeReport}

@@ -1,6 +1,6 @@
 -- The bench gates marked P in document 01, "Bench gates", and the example of document 02, No. 2, as a table: what is asked, and what is
 -- wanted. Inputs x, y and z have the signals 0, 1 and 2, u has 3 and v has 4. Nothing is proved here.
-use Rattle.basics.specs.Library.{Bool, true, false, List, [], ◌∷◌, ℕ, ℤ, pos, negsuc}
+use Rattle.std.specs.Prelude.{Bool, true, false, List, [], ◌∷◌, ℕ, ℤ, pos, negsuc}
 use Rattle.basics.specs.Refusals.{Answer, accepted, refused}
 use Rattle.network.specs.Threshold.{Feed, Gate, Net, bit, frame}
 use Rattle.network.specs.Changes.{gate_at}

@@ -1,5 +1,5 @@
 -- Drop and collapse. Document 01, "Pair, drop, collapse, sweep". Nothing is proved here.
-use Rattle.basics.specs.Library.{Bool, cond, ◌&&◌, List, [], ◌∷◌, ℕ, suc}
+use Rattle.std.specs.Prelude.{Bool, cond, ◌&&◌, List, [], ◌∷◌, ℕ, suc}
 use Rattle.basics.specs.Lists.{all, other}
 use Rattle.basics.specs.Refusals.{Answer, accepted, ◌else◌, checks, bind}
 use Rattle.network.specs.Threshold.{Gate, Net}

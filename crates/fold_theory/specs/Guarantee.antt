@@ -1,5 +1,5 @@
 -- What is claimed of merges, pairs, collapses and sweeps. Nothing is proved here.
-use Rattle.basics.specs.Library.{◌≡◌, ◌≢◌, ◌⊎◌, ℕ, ◌+◌, ◌^◌, ◌≤◌, ◌<◌, T, length}
+use Rattle.std.specs.Prelude.{◌≡◌, ◌≢◌, ◌⊎◌, ℕ, ◌+◌, ◌^◌, ◌≤◌, ◌<◌, T, length}
 use Rattle.basics.specs.Lists.{Each}
 use Rattle.basics.specs.Refusals.{Passed}
 use Rattle.network.specs.Threshold.{Net, Assignment, bit}

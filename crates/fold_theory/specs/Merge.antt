@@ -1,8 +1,9 @@
 -- The merge of gate u into gate v with k and l: distinct feeds, merged gate, composed pair, agreement, and the call. Document 01,
 -- "Merge of u into v with k and l", and document 02, No. 2, "Gates that vote against", and No. 8, "Board tolerance in the file". Nothing is
 -- proved here.
-use Rattle.basics.specs.Library.{Bool, false, not, cond, ◌&&◌, ◌||◌, Bool·beq, List, [], ◌∷◌, map, ℕ, ◌/◌, ◌%◌, ◌^◌, leb, eqb, ℤ, pos, ◌+ℤ◌, ◌-ℤ◌}
-use Rattle.basics.specs.Library.{◌*ℤ◌, non_neg, length}
+use Rattle.std.specs.Prelude.{Bool, false, not, cond, ◌&&◌, ◌||◌, List, [], ◌∷◌, map, ℕ, ◌/◌, ◌%◌, ◌^◌, leb, eqb, ℤ, pos, ◌+ℤ◌, ◌-ℤ◌, ◌*ℤ◌, length}
+use Rattle.basics.specs.Library.{Bool·beq}
+use Rattle.basics.specs.Library.{non_neg}
 use Rattle.basics.specs.Lists.{all, below, keep, range, between, other}
 use Rattle.basics.specs.Refusals.{Answer, accepted, Test, ◌else◌, checks}
 use Rattle.network.specs.Threshold.{Feed, negated, Gate, Net, Assignment, bit, assign}

@@ -1,5 +1,5 @@
 -- The pair search: the order of the pairs, which of them qualify, and the call. Document 01, "Pair". Nothing is proved here.
-use Rattle.basics.specs.Library.{Bool, cond, List, [], ◌∷◌, ◌++◌, map, ℕ, ◌-◌}
+use Rattle.std.specs.Prelude.{Bool, cond, List, [], ◌∷◌, ◌++◌, map, ℕ, ◌-◌}
 use Rattle.basics.specs.Lists.{every, range}
 use Rattle.basics.specs.Refusals.{Answer, accepted, refused, Test, ◌else◌, checks}
 use Rattle.network.specs.Threshold.{Net}

@@ -1,5 +1,5 @@
 -- The sweep. Document 01, "Sweep with reader limit B". Nothing is proved here.
-use Rattle.basics.specs.Library.{[], ◌∷◌, ℕ, zero, suc, leb, length}
+use Rattle.std.specs.Prelude.{[], ◌∷◌, ℕ, zero, suc, leb, length}
 use Rattle.basics.specs.Lists.{keep}
 use Rattle.basics.specs.Refusals.{Answer, accepted, refused, ◌else◌, checks}
 use Rattle.network.specs.Threshold.{Net}

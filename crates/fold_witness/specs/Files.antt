@@ -1,5 +1,5 @@
 -- What the call on a whole file answers, and what it leaves in the lent numbers. Nothing is proved here.
-use Rattle.basics.specs.Library.{◌≡◌, List, ◌∷◌, ℕ, ◌^◌, length, get_or, drop}
+use Rattle.std.specs.Prelude.{◌≡◌, List, ◌∷◌, ℕ, ◌^◌, length, get_or, drop}
 use Rattle.basics.specs.Refusals.{Answer, accepted, refused, code_of}
 use Rattle.network.specs.Threshold.{Net}
 use Rattle.fold_theory.specs.Merge.{edge, distinct, agrees_at, merge}

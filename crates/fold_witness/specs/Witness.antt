@@ -1,6 +1,6 @@
 -- The fewest lit patches that show it: what a witness of a merge is, and what the call promises. Document 02, No. 9. Nothing is proved
 -- here.
-use Rattle.basics.specs.Library.{◌≡◌, Bool, ℕ, ◌^◌, length}
+use Rattle.std.specs.Prelude.{◌≡◌, Bool, ℕ, ◌^◌, length}
 use Rattle.basics.specs.Lists.{keep}
 use Rattle.network.specs.Record.{net_of}
 use Rattle.network.specs.declared.Network.{Network}

@@ -1,5 +1,5 @@
 -- What reading up to 64 frames in one pass answers: document 02, No. 10, with the order 20, 26, 10. Nothing is proved here.
-use Rattle.basics.specs.Library.{Bool, ◌&&◌, List, [], ◌∷◌, map, ℕ, leb, length}
+use Rattle.std.specs.Prelude.{Bool, ◌&&◌, List, [], ◌∷◌, map, ℕ, leb, length}
 use Rattle.basics.specs.Lists.{all}
 use Rattle.basics.specs.Refusals.{Answer, accepted, ◌else◌, checks}
 use Rattle.network.specs.Threshold.{fits_frame}

@@ -1,6 +1,6 @@
 -- What reading frames answers on the network of a whole file: one frame, with the order as read, 18, 10, and up to 64 in one pass
 -- (document 02, No. 10), with the order as read, 26, 10. Nothing is proved here.
-use Rattle.basics.specs.Library.{List, [], ◌∷◌, ℕ, length}
+use Rattle.std.specs.Prelude.{List, [], ◌∷◌, ℕ, length}
 use Rattle.basics.specs.Lists.{all}
 use Rattle.basics.specs.Refusals.{Answer, accepted, ◌else◌, checks, bind}
 use Rattle.network.specs.Threshold.{frame, fits_frame, output_bits, word_of, ones_of}

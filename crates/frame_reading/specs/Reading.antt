@@ -1,5 +1,5 @@
 -- What reading a frame answers: document 01, "Reading a frame", with the order 20, 10. Nothing is proved here.
-use Rattle.basics.specs.Library.{Bool, List, [], ◌∷◌, ℕ}
+use Rattle.std.specs.Prelude.{Bool, List, [], ◌∷◌, ℕ}
 use Rattle.basics.specs.Refusals.{Answer, accepted, refused, ◌else◌, checks}
 use Rattle.network.specs.Threshold.{frame, fits_frame, output_bits, word_of, ones_of}
 use Rattle.network.specs.Record.{net_of, sound_record}

@@ -1,5 +1,5 @@
 -- What a read answers: the record of a file. Nothing is proved here.
-use Rattle.basics.specs.Library.{List, ℕ}
+use Rattle.std.specs.Prelude.{List, ℕ}
 use Rattle.journal.specs.Records.{just_read}
 use Rattle.pmn_reader.specs.Answers.{loaded}
 use Rattle.front.specs.declared.Opened.{Opened}

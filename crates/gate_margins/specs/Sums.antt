@@ -1,5 +1,6 @@
 -- The open interval in which no sum of some of a list of weights may lie. Document 02, No. 8. Nothing is proved here.
-use Rattle.basics.specs.Library.{Bool, ◌||◌, ℕ, ℤ, pos, ◌+ℤ◌, ◌-ℤ◌, le_z}
+use Rattle.std.specs.Prelude.{Bool, ◌||◌, ℕ, ℤ, pos, ◌+ℤ◌, ◌-ℤ◌}
+use Rattle.basics.specs.Library.{le_z}
 
 -- z does not lie above floor and below ceiling
 unfoldable pub apart : ℤ → ℤ → ℤ → Bool

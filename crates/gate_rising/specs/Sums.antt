@@ -1,5 +1,5 @@
 -- The sums of some of a list of weights. Document 02, No. 8. Nothing is proved here.
-use Rattle.basics.specs.Library.{Bool, ◌&&◌, List, [], ◌∷◌, ℤ, pos, ◌+ℤ◌}
+use Rattle.std.specs.Prelude.{Bool, ◌&&◌, List, [], ◌∷◌, ℤ, pos, ◌+ℤ◌}
 
 -- p holds of the sum of the weights that are 1, whichever they are
 unfoldable pub every_sum : (ℤ → Bool) → List ℤ → Bool

@@ -1,5 +1,5 @@
 -- Document 02, No. 12, of what the call on a record promises. Nothing is proved here.
-use Rattle.basics.specs.Library.{◌≡◌, true, false, List, ℕ, ◌^◌, ◌≤◌, ◌<◌}
+use Rattle.std.specs.Prelude.{◌≡◌, true, false, List, ℕ, ◌^◌, ◌≤◌, ◌<◌}
 use Rattle.network.specs.Threshold.{frame, output_bits}
 use Rattle.network.specs.Record.{net_of}
 use Rattle.call_theory.specs.declared.Call.{Call}

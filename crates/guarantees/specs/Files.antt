@@ -1,5 +1,5 @@
 -- What is claimed of files and records. Nothing is proved here.
-use Rattle.basics.specs.Library.{◌≡◌, true, List, ◌↔◌, ℕ, ◌≤◌}
+use Rattle.std.specs.Prelude.{◌≡◌, true, List, ◌↔◌, ℕ, ◌≤◌}
 use Rattle.network.specs.Record.{net_of}
 use Rattle.network.specs.declared.Network.{Network}
 use Rattle.pmn_format.specs.Format.{Bytes, file_bytes}

@@ -1,5 +1,5 @@
 -- Document 02, No. 10, of what the call on a record promises. Nothing is proved here.
-use Rattle.basics.specs.Library.{◌≡◌, true, false, List, map, ℕ, ◌≤◌, ◌<◌, length}
+use Rattle.std.specs.Prelude.{◌≡◌, true, false, List, map, ℕ, ◌≤◌, ◌<◌, length}
 use Rattle.basics.specs.Lists.{all}
 use Rattle.basics.specs.Refusals.{accepted, refused}
 use Rattle.network.specs.Threshold.{fits_frame}

@@ -1,7 +1,7 @@
 -- Demand 3, on records: what is claimed of every list of calls from the record of any file that a read accepts. Document 01, "A list of
 -- calls", and document 02, No. 1: "A list of calls may hold previews and still agrees with the network read", and No. 5: "Undo joins the calls in
 -- the list that no output may notice". Nothing is proved here.
-use Rattle.basics.specs.Library.{◌≡◌, true, cond, List, [], ◌∷◌, ◌≢◌, ℕ, zero, suc, ◌≤◌, eqb}
+use Rattle.std.specs.Prelude.{◌≡◌, true, cond, List, [], ◌∷◌, ◌≢◌, ℕ, zero, suc, ◌≤◌, eqb}
 use Rattle.network.specs.Threshold.{Assignment, frame, fits_frame, output_bits}
 use Rattle.network.specs.Record.{net_of}
 use Rattle.frame_reading.specs.Reading.{reading}

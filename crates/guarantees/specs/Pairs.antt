@@ -1,5 +1,5 @@
 -- The pair rule, of what the call on a record promises. Document 01, "Pair". Nothing is proved here.
-use Rattle.basics.specs.Library.{◌≡◌, ◌≢◌, true, ℕ}
+use Rattle.std.specs.Prelude.{◌≡◌, ◌≢◌, true, ℕ}
 use Rattle.network.specs.Record.{net_of}
 use Rattle.fold_theory.specs.Pair.{Pair}
 use Rattle.fold_theory.specs.Guarantee.{HasPair, LeastPair}

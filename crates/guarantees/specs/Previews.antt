@@ -1,5 +1,5 @@
 -- Document 02, No. 1, of what the calls on a record promise. Nothing is proved here.
-use Rattle.basics.specs.Library.{◌≡◌, ◌≢◌, ℕ}
+use Rattle.std.specs.Prelude.{◌≡◌, ◌≢◌, ℕ}
 use Rattle.call_theory.specs.Calls.{figures_of}
 use Rattle.call_theory.specs.declared.Call.TheVariants.{Collapse, Preview}
 use Rattle.journal.specs.Answers.{applied}

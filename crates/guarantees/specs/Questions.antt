@@ -1,5 +1,6 @@
 -- Demand 2's last sentence, on records, and what the question's text says. Nothing is proved here.
-use Rattle.basics.specs.Library.{◌≡◌, true, some, ℕ, suc, ◌≤◌, ◌<◌, length, get_or}
+use Rattle.std.specs.Prelude.{◌≡◌, true, ℕ, suc, ◌≤◌, ◌<◌, length, get_or}
+use Rattle.basics.specs.Library.{some}
 use Rattle.basics.specs.Lists.{Each}
 use Rattle.network.specs.Record.{net_of, sound_record}
 use Rattle.network.specs.declared.Network.{Network}

@@ -1,5 +1,5 @@
 -- What is claimed of every record, made by hand or not, and of its journal. Nothing is proved here.
-use Rattle.basics.specs.Library.{◌≡◌, ◌≢◌, true, false, List, [], ◌∷◌, ℕ, ◌≤◌, length, take}
+use Rattle.std.specs.Prelude.{◌≡◌, ◌≢◌, true, false, List, [], ◌∷◌, ℕ, ◌≤◌, length, take}
 use Rattle.basics.specs.Refusals.{accepted}
 use Rattle.call_theory.specs.Steps.{Step, State}
 use Rattle.call_theory.specs.Calls.{Given, no_figures, steps_of, answer}

@@ -1,5 +1,5 @@
 -- Document 02, No. 2: "Number 13 can then never be given, and this is shown." Nothing is proved here.
-use Rattle.basics.specs.Library.{◌≢◌, ℕ}
+use Rattle.std.specs.Prelude.{◌≢◌, ℕ}
 use Rattle.call_theory.specs.declared.Call.{Call}
 use Rattle.journal.specs.Answers.{applied}
 use Rattle.journal.specs.declared.Record.{Record}

@@ -1,5 +1,5 @@
 -- Document 02, No. 9: "with as few of them lit as any such setting has", counted signal by signal. Nothing is proved here.
-use Rattle.basics.specs.Library.{◌≡◌, false, ℕ, ◌^◌, ◌≤◌, ◌<◌, length}
+use Rattle.std.specs.Prelude.{◌≡◌, false, ℕ, ◌^◌, ◌≤◌, ◌<◌, length}
 use Rattle.network.specs.Record.{net_of}
 use Rattle.fold_theory.specs.Merge.{edge, distinct, agrees_at}
 use Rattle.fold_witness.specs.Witness.{lit}

@@ -1,5 +1,5 @@
 -- What a call of a list on a record answers. Nothing is proved here.
-use Rattle.basics.specs.Library.{[], ◌∷◌}
+use Rattle.std.specs.Prelude.{[], ◌∷◌}
 use Rattle.basics.specs.Refusals.{Answer, accepted, refused, ◌else◌, checks}
 use Rattle.network.specs.Threshold.{Net}
 use Rattle.network.specs.Record.{net_of, layout}

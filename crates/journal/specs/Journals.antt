@@ -1,5 +1,5 @@
 -- The journal's arrays: the steps that they stand for, a step entered, and the newest taken out. Document 02, No. 5. Nothing is proved here.
-use Rattle.basics.specs.Library.{cond, List, [], ◌∷◌, ◌++◌, map, ℕ, ◌+◌, ◌-◌, ltb, eqb, pos, length, get_or, take, drop, replicate}
+use Rattle.std.specs.Prelude.{cond, List, [], ◌∷◌, ◌++◌, map, ℕ, ◌+◌, ◌-◌, ltb, eqb, pos, length, get_or, take, drop, replicate}
 use Rattle.basics.specs.Lists.{tab}
 use Rattle.network.specs.Record.{nth_gate, place_of, gate_in, gate_record, row_at}
 use Rattle.network.specs.declared.GateRecord.{GateRecord}

@@ -1,5 +1,5 @@
 -- The record: a network with its journal. Document 02, No. 5, "The record gains a journal". Nothing is proved here.
-use Rattle.basics.specs.Library.{Bool, ◌&&◌, [], ◌∷◌, leb}
+use Rattle.std.specs.Prelude.{Bool, ◌&&◌, [], ◌∷◌, leb}
 use Rattle.basics.specs.Refusals.{Answer, ◌else◌, checks}
 use Rattle.network.specs.Record.{net_of, layout, sound_record}
 use Rattle.network.specs.declared.Network.{Network}

@@ -1,5 +1,5 @@
 -- What the calls answer on a record that do not change it: the answer on its network, after the test of its journal. Nothing is proved here.
-use Rattle.basics.specs.Library.{List, ℕ, ◌^◌, length}
+use Rattle.std.specs.Prelude.{List, ℕ, ◌^◌, length}
 use Rattle.basics.specs.Refusals.{Answer, code_of}
 use Rattle.network.specs.Record.{net_of}
 use Rattle.frame_reading.specs.Reading.{frame_answer, as_reading}

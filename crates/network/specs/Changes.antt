@@ -1,6 +1,6 @@
 -- A network made from another: gates replaced, a gate removed, and a removed gate put back. Document 01, "It replaces v" and "Drop";
 -- document 02, No. 5, "restores the network as it was before it, signals included". Nothing is proved here.
-use Rattle.basics.specs.Library.{cond, List, [], ◌∷◌, map, ℕ, zero, suc, ◌-◌, ltb, set, get_or}
+use Rattle.std.specs.Prelude.{cond, List, [], ◌∷◌, map, ℕ, zero, suc, ◌-◌, ltb, set, get_or}
 use Rattle.network.specs.Threshold.{Feed, Gate, Net}
 use Rattle.network.specs.Record.{no_gate}
 

@@ -1,6 +1,7 @@
 -- The margins in the words of source document 004: under every assignment a gate that is 1 has a sum of at least T + on, and one that is 0 a sum
 -- of at most T − off. Document 02, No. 8. Nothing is proved here.
-use Rattle.basics.specs.Library.{◌≡◌, true, false, ◌↔◌, ℕ, ◌≤◌, T, ◌+ℤ◌, ◌-ℤ◌, pos, le_z, length}
+use Rattle.std.specs.Prelude.{◌≡◌, true, false, ◌↔◌, ℕ, ◌≤◌, T, ◌+ℤ◌, ◌-ℤ◌, pos, length}
+use Rattle.basics.specs.Library.{le_z}
 use Rattle.basics.specs.Lists.{Each}
 use Rattle.network.specs.Threshold.{Gate, Net, Assignment, sum, bit}
 use Rattle.network.specs.Limits.{gate_ok, board_ok, is_gate, sound}

@@ -1,6 +1,6 @@
 -- The size report in other words: levels as longest paths, and the cost as the sum over all places of the record. Document 01, "Size report and
 -- `fold`", and document 02, No. 3. Nothing is proved here.
-use Rattle.basics.specs.Library.{◌≡◌, true, ◌⊎◌, List, [], ◌∷◌, ℕ, zero, suc, ◌+◌, ◌≤◌, T, ℤ, nat_abs}
+use Rattle.std.specs.Prelude.{◌≡◌, true, ◌⊎◌, List, [], ◌∷◌, ℕ, zero, suc, ◌+◌, ◌≤◌, T, ℤ, nat_abs}
 use Rattle.network.specs.Threshold.{Feed, Net}
 use Rattle.network.specs.Limits.{is_gate}
 use Rattle.network.specs.Changes.{gate_at}

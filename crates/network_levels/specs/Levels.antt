@@ -1,6 +1,6 @@
 -- The levels of a network's gates. Document 01, "Size report and `fold`", and document 02, No. 3, "A constant never waits". Nothing is
 -- proved here.
-use Rattle.basics.specs.Library.{cond, List, [], ◌∷◌, ℕ, suc, max, eqb}
+use Rattle.std.specs.Prelude.{cond, List, [], ◌∷◌, ℕ, suc, max, eqb}
 use Rattle.network.specs.Threshold.{Feed, Gate}
 
 -- ---- "Levels: an input has level 0, a gate one more than its highest feed"; document 02: "A gate without feeds now has level 0. A gate

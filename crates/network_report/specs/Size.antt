@@ -1,5 +1,5 @@
 -- Cost and levels of a network, and what the size report answers. Document 01, "Size report and `fold`". Nothing is proved here.
-use Rattle.basics.specs.Library.{List, [], ◌∷◌, ℕ, ◌+◌, nat_abs, length}
+use Rattle.std.specs.Prelude.{List, [], ◌∷◌, ℕ, ◌+◌, nat_abs, length}
 use Rattle.basics.specs.Refusals.{Answer, accepted, refused, ◌else◌, checks}
 use Rattle.network.specs.Threshold.{Feed, Gate, Net}
 use Rattle.network.specs.Record.{net_of, sound_record}

@@ -1,5 +1,6 @@
 -- The fewest lit patches that show it: a setting with the fewest ones. Document 02, No. 9. Nothing is proved here.
-use Rattle.basics.specs.Library.{◌≡◌, Bool, false, ℕ, ◌≤◌, ◌<◌, ones}
+use Rattle.std.specs.Prelude.{◌≡◌, Bool, false, ℕ, ◌≤◌, ◌<◌}
+use Rattle.basics.specs.Library.{ones}
 
 -- "a setting of the distinct signals on which the two differ, with as few of them lit as any such setting has": of n settings, where
 -- `agree` says on which the two agree

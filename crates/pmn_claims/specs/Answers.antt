@@ -1,6 +1,6 @@
 -- What the functions on whole files answer is what the calls on the record that was read answer: pair, preview and witness. So what is claimed of
 -- records holds of files too. Nothing is proved here.
-use Rattle.basics.specs.Library.{◌≡◌, ◌≢◌, List, [], ◌∷◌, ℕ, zero, suc, ◌≤◌, length, get_or}
+use Rattle.std.specs.Prelude.{◌≡◌, ◌≢◌, List, [], ◌∷◌, ℕ, zero, suc, ◌≤◌, length, get_or}
 use Rattle.basics.specs.Refusals.{Answer, accepted, refused}
 use Rattle.pmn_reader.specs.Answers.{loaded}
 use Rattle.pmn_opening.specs.Files.{open_net}

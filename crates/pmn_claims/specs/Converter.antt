@@ -1,5 +1,5 @@
 -- The converter, byte by byte: document 02, No. 8, "1 into 2 with margins 0 and 1, 2 into 1 only for those margins". Nothing is proved here.
-use Rattle.basics.specs.Library.{◌≡◌, ◌≢◌, ◌⊎◌, List, ◌∷◌, ◌++◌, ℕ, ◌+◌, ◌≤◌, ◌<◌, length, take, drop}
+use Rattle.std.specs.Prelude.{◌≡◌, ◌≢◌, ◌⊎◌, List, ◌∷◌, ◌++◌, ℕ, ◌+◌, ◌≤◌, ◌<◌, length, take, drop}
 use Rattle.basics.specs.Refusals.{accepted, refused}
 use Rattle.network.specs.declared.Board.{Board}
 use Rattle.pmn_reader.specs.Answers.{loaded}

@@ -1,5 +1,5 @@
 -- The cut of a file, from bytes to bytes: document 02, No. 12. Nothing is proved here.
-use Rattle.basics.specs.Library.{◌≡◌, ◌≢◌, List, ℕ, ◌≤◌, ◌<◌, length}
+use Rattle.std.specs.Prelude.{◌≡◌, ◌≢◌, List, ℕ, ◌≤◌, ◌<◌, length}
 use Rattle.basics.specs.Refusals.{accepted, refused}
 use Rattle.pmn_reader.specs.Answers.{loaded}
 use Rattle.cut_theory.specs.Claims.{CutOut}

@@ -1,5 +1,5 @@
 -- The margins of files: document 02, No. 8, "A broken margin is 24". Nothing is proved here.
-use Rattle.basics.specs.Library.{◌≡◌}
+use Rattle.std.specs.Prelude.{◌≡◌}
 use Rattle.basics.specs.Refusals.{accepted, refused}
 use Rattle.network.specs.Threshold.{Net}
 use Rattle.pmn_format.specs.Format.{file_bytes}

@@ -1,5 +1,5 @@
 -- What the functions on whole files start from: the network of the record that a read gives. Nothing is proved here.
-use Rattle.basics.specs.Library.{◌≡◌, ◌≢◌, List, ℕ, ◌≤◌, ◌<◌}
+use Rattle.std.specs.Prelude.{◌≡◌, ◌≢◌, List, ℕ, ◌≤◌, ◌<◌}
 use Rattle.basics.specs.Refusals.{accepted, refused}
 use Rattle.network.specs.Threshold.{Net}
 use Rattle.network.specs.Record.{net_of}

@@ -1,6 +1,6 @@
 -- Demand 3 from bytes to bytes: what `pmn_run` leaves in its lent places, for every file, every list of numbers and any lent lengths. Nothing is
 -- proved here.
-use Rattle.basics.specs.Library.{◌≡◌, true, List, [], ◌∷◌, ◌++◌, ◌≢◌, ℕ, ◌+◌, ◌*◌, ◌≤◌, length, get_or, take, drop}
+use Rattle.std.specs.Prelude.{◌≡◌, true, List, [], ◌∷◌, ◌++◌, ◌≢◌, ℕ, ◌+◌, ◌*◌, ◌≤◌, length, get_or, take, drop}
 use Rattle.basics.specs.Refusals.{code_of, stored}
 use Rattle.network.specs.Threshold.{Assignment, frame, fits_frame, output_bits}
 use Rattle.network.specs.Record.{net_of}

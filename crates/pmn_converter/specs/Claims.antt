@@ -1,5 +1,5 @@
 -- What is claimed of the converter. Nothing is proved here.
-use Rattle.basics.specs.Library.{◌≡◌, List, ℕ, ◌≤◌, length}
+use Rattle.std.specs.Prelude.{◌≡◌, List, ℕ, ◌≤◌, length}
 use Rattle.basics.specs.Refusals.{accepted}
 use Rattle.pmn_format.specs.Format.{Bytes}
 use Rattle.pmn_converter.specs.Conversion.{conversion_of}

@@ -1,5 +1,5 @@
 -- The converter: its refusals, and the file of the network in the other version. Document 02, No. 8. Nothing is proved here.
-use Rattle.basics.specs.Library.{List, [], ◌∷◌, ℕ, leb, length}
+use Rattle.std.specs.Prelude.{List, [], ◌∷◌, ℕ, leb, length}
 use Rattle.basics.specs.Refusals.{Answer, accepted, refused, ◌else◌, checks, bind}
 use Rattle.network.specs.Threshold.{Net}
 use Rattle.pmn_format.specs.Format.{file_bytes}

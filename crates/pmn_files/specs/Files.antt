@@ -1,7 +1,7 @@
 -- What the functions on a whole file answer that measure it, write it anew, or copy the bytes of one gate: a number, 0 or a refusal, and
 -- what they leave in the lent numbers and bytes. Each begins with the read of its file. A refusal leaves everything as it was; places and
 -- bytes beyond those named are untouched. Nothing is proved here.
-use Rattle.basics.specs.Library.{List, [], ◌∷◌, ℕ, leb, length}
+use Rattle.std.specs.Prelude.{List, [], ◌∷◌, ℕ, leb, length}
 use Rattle.basics.specs.Refusals.{Answer, accepted, ◌else◌, checks, bind}
 use Rattle.network.specs.Threshold.{Net}
 use Rattle.network.specs.Limits.{is_gate}

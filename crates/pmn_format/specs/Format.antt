@@ -1,7 +1,8 @@
 -- The PMN file, versions 1 and 2: the bytes of a network, and the network or the first refusal for a list of bytes. Document 01, "PMN file,
 -- version 1", with the order of "Codes on the head's display": fields in file order, a missing byte before the field's value; document 02,
 -- No. 8, "Board tolerance in the file". Nothing is proved here.
-use Rattle.basics.specs.Library.{ℕ, zero, suc, ◌<◌, List, [], ◌∷◌, ◌++◌, Bool, true, false, cond, ◌&&◌, length, ltb, leb, eqb, ℤ, w32, to_z}
+use Rattle.std.specs.Prelude.{ℕ, zero, suc, ◌<◌, List, [], ◌∷◌, ◌++◌, Bool, true, false, cond, ◌&&◌, length, ltb, leb, eqb, ℤ}
+use Rattle.basics.specs.Library.{w32, to_z}
 use Rattle.basics.specs.Word.{number32, int_bytes}
 use Rattle.basics.specs.Lists.{between}
 use Rattle.network.specs.Threshold.{Feed, Gate, Net}

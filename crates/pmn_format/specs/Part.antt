@@ -1,5 +1,5 @@
 -- The bytes of one gate in its file: document 01, "that gate's bytes come back as a part of the file". Nothing is proved here.
-use Rattle.basics.specs.Library.{ℕ, ◌+◌, ◌-◌, List, [], ◌∷◌, length, take, drop}
+use Rattle.std.specs.Prelude.{ℕ, ◌+◌, ◌-◌, List, [], ◌∷◌, length, take, drop}
 use Rattle.basics.specs.Refusals.{Answer, accepted, ◌else◌, checks}
 use Rattle.network.specs.Threshold.{Net}
 use Rattle.network.specs.Limits.{is_gate}

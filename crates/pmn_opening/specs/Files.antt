@@ -1,6 +1,6 @@
 -- What a function on a whole file begins with, and what it leaves: the read of the file, the places that are lent, and the length of bytes
 -- that are put out. Nothing is proved here.
-use Rattle.basics.specs.Library.{Bool, List, [], ◌∷◌, ℕ, leb, length}
+use Rattle.std.specs.Prelude.{Bool, List, [], ◌∷◌, ℕ, leb, length}
 use Rattle.basics.specs.Refusals.{Answer, accepted, refused, ◌else◌, checks, bind}
 use Rattle.network.specs.Threshold.{Net}
 use Rattle.pmn_format.specs.Format.{Read, done, parse_file}

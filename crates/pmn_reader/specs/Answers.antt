@@ -1,6 +1,6 @@
 -- What `read` answers, as document 01 has it: "A refusal hands the record back unchanged (a refused read: blank), with 0 for every other
 -- number, and touches no lent byte." Nothing is proved here.
-use Rattle.basics.specs.Library.{List, ℕ}
+use Rattle.std.specs.Prelude.{List, ℕ}
 use Rattle.network.specs.Threshold.{Net}
 use Rattle.network.specs.Record.{layout, blank_record}
 use Rattle.pmn_format.specs.Format.{Read, done, parse_file}

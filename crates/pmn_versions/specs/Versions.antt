@@ -1,5 +1,5 @@
 -- The same network in the other version, and which boards have one. Document 02, No. 8. Nothing is proved here.
-use Rattle.basics.specs.Library.{Bool, cond, ◌&&◌, ◌||◌, eqb}
+use Rattle.std.specs.Prelude.{Bool, cond, ◌&&◌, ◌||◌, eqb}
 use Rattle.network.specs.Threshold.{Net}
 use Rattle.network.specs.declared.Board.{Board}
 

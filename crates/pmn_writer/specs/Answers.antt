@@ -1,6 +1,6 @@
 -- What `write` answers, as document 01 has it: "A refusal hands the record back unchanged (a refused read: blank), with 0 for every other
 -- number, and touches no lent byte." Nothing is proved here.
-use Rattle.basics.specs.Library.{List, [], ◌∷◌, ℕ, leb, length}
+use Rattle.std.specs.Prelude.{List, [], ◌∷◌, ℕ, leb, length}
 use Rattle.basics.specs.Refusals.{Answer, accepted, refused, stored, ◌else◌, checks}
 use Rattle.network.specs.Record.{net_of, sound_record}
 use Rattle.network.specs.declared.Network.{Network}

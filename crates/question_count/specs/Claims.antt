@@ -1,6 +1,6 @@
 -- Document 02, No. 13, on records: any two with equal input and output counts, and any two moments of one list of calls. Nothing is
 -- proved here.
-use Rattle.basics.specs.Library.{◌≡◌, true, List, ℕ, take}
+use Rattle.std.specs.Prelude.{◌≡◌, true, List, ℕ, take}
 use Rattle.network.specs.Threshold.{Net}
 use Rattle.network.specs.Record.{net_of, sound_record}
 use Rattle.network.specs.declared.Network.{Network}

@@ -1,5 +1,5 @@
 -- How many ways there are to tell two networks apart: document 02, No. 13. Nothing is proved here.
-use Rattle.basics.specs.Library.{◌≡◌, Bool, ◌↔◌, ℕ, ◌-◌, ◌^◌, ◌<◌, T, length}
+use Rattle.std.specs.Prelude.{◌≡◌, Bool, ◌↔◌, ℕ, ◌-◌, ◌^◌, ◌<◌, T, length}
 use Rattle.basics.specs.Lists.{all}
 use Rattle.network.specs.Threshold.{Net, Assignment, frame}
 use Rattle.question_theory.specs.Question.{holds, Solves, question, variables}

@@ -1,6 +1,6 @@
 -- An example of document 02, No. 13: two networks with one input and one gate, which both outputs name. The gate of the first has the
 -- input's bit, that of the second is always 1. On frame 0 both outputs differ, on frame 1 none does. Nothing is proved here.
-use Rattle.basics.specs.Library.{◌≡◌, true, [], ◌∷◌, pos}
+use Rattle.std.specs.Prelude.{◌≡◌, true, [], ◌∷◌, pos}
 use Rattle.network.specs.Threshold.{Gate, Net}
 use Rattle.network.specs.Limits.{sound}
 use Rattle.question_theory.specs.Question.{variables, alike}

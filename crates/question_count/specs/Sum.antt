@@ -1,5 +1,5 @@
 -- Sums and counts over the numbers below a number. Nothing is proved here.
-use Rattle.basics.specs.Library.{Bool, ℕ, zero, suc, ◌+◌}
+use Rattle.std.specs.Prelude.{Bool, ℕ, zero, suc, ◌+◌}
 use Rattle.network.specs.Threshold.{digit}
 
 -- f 0 + f 1 + .., n of them

@@ -1,6 +1,6 @@
 -- What a line of the question for two whole files answers, with the order as the first file is read, as the second is read, 18, 19, 21, 18.
 -- A refusal leaves everything as it was. Nothing is proved here.
-use Rattle.basics.specs.Library.{List, [], ◌∷◌, ℕ, leb, length}
+use Rattle.std.specs.Prelude.{List, [], ◌∷◌, ℕ, leb, length}
 use Rattle.basics.specs.Refusals.{Answer, accepted, ◌else◌, checks, bind}
 use Rattle.question_theory.specs.Question.{question, alike}
 use Rattle.question_theory.specs.Text.{question_text}

@@ -1,5 +1,5 @@
 -- What the call for one line of the question answers. Document 01, "The question", with the order 20, 19, 21, 18. Nothing is proved here.
-use Rattle.basics.specs.Library.{◌&&◌, List, [], ◌∷◌, ℕ, leb, length}
+use Rattle.std.specs.Prelude.{◌&&◌, List, [], ◌∷◌, ℕ, leb, length}
 use Rattle.basics.specs.Refusals.{Answer, accepted, refused, ◌else◌, checks}
 use Rattle.network.specs.Record.{net_of, sound_record}
 use Rattle.network.specs.declared.Network.{Network}

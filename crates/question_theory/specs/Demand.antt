@@ -1,6 +1,7 @@
 -- What is claimed of the question of two networks: it has a 0/1 solution exactly when some frame makes their outputs differ, and what
 -- its solutions are. Nothing is proved here.
-use Rattle.basics.specs.Library.{◌≡◌, Bool, false, not, Bool·beq, List, ◌≢◌, ◌↔◌, some, ℕ, suc, ◌^◌, ◌<◌, T, length, get_or}
+use Rattle.std.specs.Prelude.{◌≡◌, Bool, false, not, List, ◌≢◌, ◌↔◌, ℕ, suc, ◌^◌, ◌<◌, T, length, get_or}
+use Rattle.basics.specs.Library.{Bool·beq, some}
 use Rattle.basics.specs.Lists.{Each}
 use Rattle.network.specs.Threshold.{Net, Assignment, frame, output_bits}
 use Rattle.question_theory.specs.Question.{Line, holds, Solves, question}

@@ -1,6 +1,7 @@
 -- What a text of the question says, read strictly: a line feed ends it, single spaces part its words, and each word has the exact form
 -- of its place. A text of any other form says nothing. Nothing is proved here.
-use Rattle.basics.specs.Library.{cond, ◌&&◌, List, [], ◌∷◌, Option, some, none, ℕ, zero, suc, eqb, ℤ, pos, neg_ℤ}
+use Rattle.std.specs.Prelude.{cond, ◌&&◌, List, [], ◌∷◌, ℕ, zero, suc, eqb, ℤ, pos, neg_ℤ}
+use Rattle.basics.specs.Library.{Option, some, none}
 use Rattle.texts.specs.Texts.{parts, same_text, number}
 use Rattle.question_theory.specs.Question.{Line, term}
 

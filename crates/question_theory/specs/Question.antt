@@ -1,8 +1,8 @@
 -- The question for two networks, as pseudo-Boolean lines. Document 01, "The question". Variables are numbered from 0 here: signal s of
 -- the first network is variable s, the second's gates come after the first's, then one variable d for each output. Nothing is proved
 -- here.
-use Rattle.basics.specs.Library.{Bool, cond, ◌&&◌, List, [], ◌∷◌, ◌++◌, map, ℕ, suc, ◌+◌, T, ltb, eqb, ℤ, pos, negsuc, ◌+ℤ◌, ◌-ℤ◌, le_z, non_neg}
-use Rattle.basics.specs.Library.{length}
+use Rattle.std.specs.Prelude.{Bool, cond, ◌&&◌, List, [], ◌∷◌, ◌++◌, map, ℕ, suc, ◌+◌, T, ltb, eqb, ℤ, pos, negsuc, ◌+ℤ◌, ◌-ℤ◌, length}
+use Rattle.basics.specs.Library.{le_z, non_neg}
 use Rattle.basics.specs.Lists.{range, Each}
 use Rattle.network.specs.Threshold.{Feed, negated, Gate, Net, Assignment, sum}
 

@@ -1,6 +1,7 @@
 -- The text of the question, in ASCII. Document 01, "The question": single spaces between, a line feed ends each line, "Coefficients
 -- always carry a sign, and 0 is written `+0`; right sides carry a sign only below 0". Nothing is proved here.
-use Rattle.basics.specs.Library.{cond, List, [], ◌∷◌, ◌++◌, ℕ, zero, suc, ◌+◌, ℤ, nat_abs, pos, non_neg, length, get_or}
+use Rattle.std.specs.Prelude.{cond, List, [], ◌∷◌, ◌++◌, ℕ, zero, suc, ◌+◌, ℤ, nat_abs, pos, length, get_or}
+use Rattle.basics.specs.Library.{non_neg}
 use Rattle.texts.specs.Texts.{decimal}
 use Rattle.network.specs.Threshold.{Feed, Net}
 use Rattle.question_theory.specs.Question.{Line, question, variables}

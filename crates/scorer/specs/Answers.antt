@@ -1,6 +1,6 @@
 -- What the scorer answers for a record, and for a file, and the frames after each ball. Document 02, No. 11: 20, then 27, then ball by ball.
 -- Nothing is proved here.
-use Rattle.basics.specs.Library.{List, [], ◌∷◌, ◌++◌, ℕ, length}
+use Rattle.std.specs.Prelude.{List, [], ◌∷◌, ◌++◌, ℕ, length}
 use Rattle.basics.specs.Lists.{places}
 use Rattle.basics.specs.Refusals.{Answer, accepted, ◌else◌, checks, bind}
 use Rattle.network.specs.Record.{net_of}

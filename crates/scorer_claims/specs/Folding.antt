@@ -1,5 +1,5 @@
 -- "Scores before and after folding are equal for every game": the claim, over every list of calls. Nothing is proved here.
-use Rattle.basics.specs.Library.{◌≡◌, List, ℕ}
+use Rattle.std.specs.Prelude.{◌≡◌, List, ℕ}
 use Rattle.call_theory.specs.declared.Call.{Call}
 use Rattle.journal.specs.declared.Record.{Record}
 use Rattle.guarantees.specs.Lists.{calls_on}

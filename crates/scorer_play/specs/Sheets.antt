@@ -1,5 +1,5 @@
 -- The game on a network: 20, then 27, then ball by ball. Document 02, No. 11. Nothing is proved here.
-use Rattle.basics.specs.Library.{List, [], ◌∷◌, ℕ}
+use Rattle.std.specs.Prelude.{List, [], ◌∷◌, ℕ}
 use Rattle.basics.specs.Refusals.{◌else◌, checks}
 use Rattle.network.specs.Record.{net_of, sound_record}
 use Rattle.network.specs.declared.Network.{Network}

@@ -1,5 +1,5 @@
 -- The sheet of a game: what the scorer answers. Nothing is proved here.
-use Rattle.basics.specs.Library.{List, ℕ, length, replicate}
+use Rattle.std.specs.Prelude.{List, ℕ, length, replicate}
 use Rattle.basics.specs.Lists.{places}
 use Rattle.basics.specs.Refusals.{Answer, accepted, refused}
 use Rattle.scorer_theory.specs.Scores.{running_scores}

@@ -1,6 +1,6 @@
 -- The frames of a game, from the pins felled by each ball: a grammar that a bowler can read. Document 02, No. 11: "a strike adds the next
 -- two balls, a spare the next one, and the tenth frame has up to three balls". Nothing is proved here.
-use Rattle.basics.specs.Library.{◌≡◌, List, [], ◌∷◌, ◌⊎◌, ℕ, suc, ◌+◌, ◌≤◌, ◌<◌, length}
+use Rattle.std.specs.Prelude.{◌≡◌, List, [], ◌∷◌, ◌⊎◌, ℕ, suc, ◌+◌, ◌≤◌, ◌<◌, length}
 use Rattle.basics.specs.Refusals.{Answer, accepted, refused}
 use Rattle.network.specs.Threshold.{Net}
 use Rattle.scorer_theory.specs.Rules.{Pins, Game, first_frame, next_game}

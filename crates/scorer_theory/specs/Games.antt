@@ -1,6 +1,6 @@
 -- Known games as a table: the pins that stand after each ball, the pins felled by each, and the running scores; and games that are
 -- refused. Nothing is proved here.
-use Rattle.basics.specs.Library.{true, false, List, [], ◌∷◌, ◌++◌, ℕ, zero, suc, ◌-◌, replicate}
+use Rattle.std.specs.Prelude.{true, false, List, [], ◌∷◌, ◌++◌, ℕ, zero, suc, ◌-◌, replicate}
 use Rattle.basics.specs.Refusals.{Answer, accepted, refused, bind}
 use Rattle.scorer_theory.specs.Rules.{Pins, first_frame, felled_from}
 use Rattle.scorer_theory.specs.Scores.{running_scores}

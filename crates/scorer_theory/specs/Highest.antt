@@ -1,5 +1,5 @@
 -- The highest score. Nothing is proved here.
-use Rattle.basics.specs.Library.{◌≡◌, false, List, [], ◌∷◌, ℕ, ◌≤◌, length, replicate}
+use Rattle.std.specs.Prelude.{◌≡◌, false, List, [], ◌∷◌, ℕ, ◌≤◌, length, replicate}
 use Rattle.basics.specs.Lists.{Each}
 use Rattle.basics.specs.Refusals.{accepted}
 use Rattle.network.specs.Threshold.{Net}

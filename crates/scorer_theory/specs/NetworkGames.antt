@@ -1,6 +1,6 @@
 -- The game on a network: the pins that it shows after each ball, and the pins felled. Document 02, No. 11: 27, then ball by ball.
 -- Nothing is proved here.
-use Rattle.basics.specs.Library.{List, [], ◌∷◌, ℕ, leb, length}
+use Rattle.std.specs.Prelude.{List, [], ◌∷◌, ℕ, leb, length}
 use Rattle.basics.specs.Refusals.{Answer, accepted, ◌else◌, checks}
 use Rattle.network.specs.Threshold.{Net, frame, fits_frame, output_bits}
 use Rattle.scorer_theory.specs.Rules.{Pins, pins_of, first_frame, felled_from}

@@ -1,6 +1,6 @@
 -- The ten-pin rules on pins, ball by ball: racks, frames, the end of the game, and the pins felled by each ball. Document 02, No. 11.
 -- Nothing is proved here.
-use Rattle.basics.specs.Library.{Bool, true, false, not, cond, ◌&&◌, ◌||◌, List, [], ◌∷◌, ℕ, ◌+◌, leb, ltb, eqb, take, replicate}
+use Rattle.std.specs.Prelude.{Bool, true, false, not, cond, ◌&&◌, ◌||◌, List, [], ◌∷◌, ℕ, ◌+◌, leb, ltb, eqb, take, replicate}
 use Rattle.basics.specs.Refusals.{Answer, accepted, ◌else◌, checks, bind}
 use Rattle.network.specs.Threshold.{digit, ones_of}
 

@@ -1,6 +1,6 @@
 -- Scores by ten-pin rules, from the pins felled by each ball. A list of balls starts at the first ball of a frame. Document 02, No. 11.
 -- Nothing is proved here.
-use Rattle.basics.specs.Library.{Bool, not, cond, ◌&&◌, List, [], ◌∷◌, ℕ, zero, suc, ◌+◌, leb, eqb, length, get_or, take, drop}
+use Rattle.std.specs.Prelude.{Bool, not, cond, ◌&&◌, List, [], ◌∷◌, ℕ, zero, suc, ◌+◌, leb, eqb, length, get_or, take, drop}
 
 -- a strike fells ten with the frame's first ball, a spare with its two
 unfoldable pub is_strike : List ℕ → Bool

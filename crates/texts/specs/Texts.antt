@@ -1,6 +1,6 @@
 -- Text in ASCII: numbers as decimal digits, and what a text says when it is read back, strictly. Nothing is proved here.
-use Rattle.basics.specs.Library.{Bool, true, false, cond, ◌&&◌, List, [], ◌∷◌, ◌++◌, Option, some, none, ℕ, zero, suc, ◌+◌, ◌-◌, ◌*◌, ◌/◌, ◌%◌, ltb}
-use Rattle.basics.specs.Library.{eqb}
+use Rattle.std.specs.Prelude.{Bool, true, false, cond, ◌&&◌, List, [], ◌∷◌, ◌++◌, ℕ, zero, suc, ◌+◌, ◌-◌, ◌*◌, ◌/◌, ◌%◌, ltb, eqb}
+use Rattle.basics.specs.Library.{Option, some, none}
 use Rattle.basics.specs.Lists.{all, between}
 
 -- ---- writing

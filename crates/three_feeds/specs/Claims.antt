@@ -1,5 +1,5 @@
 -- The claims on the whole table. Nothing is proved here.
-use Rattle.basics.specs.Library.{◌≡◌, ◌↔◌, ℕ, ◌<◌, T, length}
+use Rattle.std.specs.Prelude.{◌≡◌, ◌↔◌, ℕ, ◌<◌, T, length}
 use Rattle.basics.specs.Lists.{keep}
 use Rattle.network.specs.Threshold.{Gate, Assignment, bit, frame}
 use Rattle.three_feeds.specs.Rule.{HasFunction, OverThree, EntryRule, gate_on_signals, setting_of, has_gate}

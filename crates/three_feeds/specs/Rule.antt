@@ -1,5 +1,5 @@
 -- What an entry of the three-feed table says: document 02, No. 7, "The three-feed table". Nothing is proved here.
-use Rattle.basics.specs.Library.{◌≡◌, Bool, true, false, List, [], ◌∷◌, ℕ, ◌+◌, ◌≤◌, ◌<◌, ℤ, pos, nat_abs}
+use Rattle.std.specs.Prelude.{◌≡◌, Bool, true, false, List, [], ◌∷◌, ℕ, ◌+◌, ◌≤◌, ◌<◌, ℤ, pos, nat_abs}
 use Rattle.basics.specs.Lists.{keep, Each}
 use Rattle.network.specs.Threshold.{Feed, Gate, Assignment, bit, frame, digit, word_of}
 use Rattle.network.specs.Limits.{weighs}

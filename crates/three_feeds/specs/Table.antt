@@ -1,6 +1,6 @@
 -- The three-feed table: "a constant table of 256 entries, indexed by the truth table of three feeds". The constants of src/table.rt are
 -- these entries as numbers. Nothing is proved here.
-use Rattle.basics.specs.Library.{List, [], ◌∷◌, ℕ, ℤ, pos, neg_ℤ, get_or}
+use Rattle.std.specs.Prelude.{List, [], ◌∷◌, ℕ, ℤ, pos, neg_ℤ, get_or}
 use Rattle.three_feeds.specs.declared.TableEntry.{TableEntry}
 use Rattle.three_feeds.specs.declared.TableEntry.TheVariants.{HasGate, NoGate}
 

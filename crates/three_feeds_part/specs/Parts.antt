@@ -1,5 +1,5 @@
 -- The bytes of a gate of the three-feed table on three chosen signals, as a mask maker puts it into a PMN file. Nothing is proved here.
-use Rattle.basics.specs.Library.{Bool, cond, ◌&&◌, List, ◌++◌, ℕ, leb, ltb, length, drop}
+use Rattle.std.specs.Prelude.{Bool, cond, ◌&&◌, List, ◌++◌, ℕ, leb, ltb, length, drop}
 use Rattle.network.specs.Threshold.{Gate}
 use Rattle.pmn_format.specs.Format.{gate_bytes}
 use Rattle.three_feeds.specs.Rule.{gate_on_signals}

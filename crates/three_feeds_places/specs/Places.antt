@@ -1,5 +1,5 @@
 -- An entry as numbers in lent places, and the refusals of that call. Nothing is proved here.
-use Rattle.basics.specs.Library.{List, [], ◌∷◌, ℕ, leb, ℤ, pos, length}
+use Rattle.std.specs.Prelude.{List, [], ◌∷◌, ℕ, leb, ℤ, pos, length}
 use Rattle.basics.specs.Refusals.{Answer, accepted, ◌else◌, checks}
 use Rattle.network.specs.Threshold.{digit}
 use Rattle.three_feeds.specs.Rule.{has_gate, entry_numbers}

@@ -1,6 +1,6 @@
 -- Alley files by their bytes, and their sheets: document 02, No. 6, "a run of lanes, each a 16-bit little-endian length and a PMN file of that
 -- length", and "one cut short by the end of the alley file, even in its length". Texts are in ASCII. Nothing is proved here.
-use Rattle.basics.specs.Library.{◌≡◌, List, [], ◌∷◌, ◌++◌, map, ℕ, zero, suc}
+use Rattle.std.specs.Prelude.{◌≡◌, List, [], ◌∷◌, ◌++◌, map, ℕ, zero, suc}
 use Rattle.alley_theory.specs.Alley.{sheet}
 use Rattle.worked_examples.specs.Literal.{bytes_f}
 

@@ -1,7 +1,7 @@
 -- Files by their bytes, and the network or the number that a read of each gives: document 01, "PMN file, version 1", with the order of "Codes on
 -- the head's display", and document 02, No. 8. A file of a number's table has nothing else wrong; one with two faults gives the number of the
 -- first. Nothing is proved here.
-use Rattle.basics.specs.Library.{◌≡◌, List, [], ◌∷◌, ◌++◌, map, ℕ, zero, suc, pos, negsuc, replicate}
+use Rattle.std.specs.Prelude.{◌≡◌, List, [], ◌∷◌, ◌++◌, map, ℕ, zero, suc, pos, negsuc, replicate}
 use Rattle.basics.specs.Refusals.{Answer, accepted, refused}
 use Rattle.network.specs.Threshold.{Feed, Net}
 use Rattle.pmn_opening.specs.Files.{read_net}

@@ -1,6 +1,6 @@
 -- Collapses and sweeps of literal networks, and pairs and merges on boards of version 2 whose two margins differ: document 01, "Pair, drop,
 -- collapse, sweep", and document 02, No. 8. The inputs x, y and z have the signals 0, 1 and 2. Nothing is proved here.
-use Rattle.basics.specs.Library.{◌≡◌, List, [], ◌∷◌, map, ℕ, pos}
+use Rattle.std.specs.Prelude.{◌≡◌, List, [], ◌∷◌, map, ℕ, pos}
 use Rattle.basics.specs.Refusals.{Answer, accepted, refused}
 use Rattle.network.specs.Threshold.{Gate, Net}
 use Rattle.network.specs.declared.Board.{Board}

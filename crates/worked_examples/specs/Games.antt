@@ -1,6 +1,6 @@
 -- Games on literal networks of ten and more outputs and of nine: document 02, No. 11. A frame's bit i is 1 where pin i stands. Nothing is proved
 -- here.
-use Rattle.basics.specs.Library.{◌≡◌, List, [], ◌∷◌, ◌++◌, map, ℕ, pos, replicate}
+use Rattle.std.specs.Prelude.{◌≡◌, List, [], ◌∷◌, ◌++◌, map, ℕ, pos, replicate}
 use Rattle.basics.specs.Refusals.{Answer, accepted, refused, bind}
 use Rattle.network.specs.Threshold.{Gate, Net}
 use Rattle.scorer_theory.specs.Scores.{running_scores}

@@ -1,6 +1,6 @@
 -- Literal networks: how the examples write feeds, gates, boards and networks, and file F of document 01 as bytes and as a network. Nothing is
 -- proved here.
-use Rattle.basics.specs.Library.{List, [], ◌∷◌, ℕ, ℤ, pos}
+use Rattle.std.specs.Prelude.{List, [], ◌∷◌, ℕ, ℤ, pos}
 use Rattle.network.specs.Threshold.{Feed, Gate, Net}
 use Rattle.network.specs.declared.Board.{Board}
 

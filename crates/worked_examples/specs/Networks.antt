@@ -1,5 +1,5 @@
 -- Literal networks with their reports and their cuts, and entries of the three-feed table by name. Nothing is proved here.
-use Rattle.basics.specs.Library.{◌≡◌, List, [], ◌∷◌, map, ℕ, ℤ, pos, negsuc}
+use Rattle.std.specs.Prelude.{◌≡◌, List, [], ◌∷◌, map, ℕ, ℤ, pos, negsuc}
 use Rattle.basics.specs.Refusals.{Answer, accepted, refused}
 use Rattle.network.specs.Threshold.{Gate, Net}
 use Rattle.network_report.specs.Size.{sizes}

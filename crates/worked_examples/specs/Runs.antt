@@ -1,5 +1,5 @@
 -- Lists of calls by their numbers, and runs of one on file F, from bytes to bytes. Nothing is proved here.
-use Rattle.basics.specs.Library.{◌≡◌, Bool, true, false, List, [], ◌∷◌, map, ℕ, replicate}
+use Rattle.std.specs.Prelude.{◌≡◌, Bool, true, false, List, [], ◌∷◌, map, ℕ, replicate}
 use Rattle.basics.specs.Refusals.{Answer, accepted, refused}
 use Rattle.call_theory.specs.declared.Call.{Call}
 use Rattle.call_theory.specs.declared.Call.TheVariants.{Merge, Drop, Collapse, Sweep, Preview, Undo}

@@ -17,10 +17,10 @@ abbrev text_in : tie.Start → List ℕ
 text_in c = total_text (sums c.args.totals)
 
 -- the line in the 48 bytes
-text_is : (c : tie.After-put_total-length) → take c.put_total-length.result c.put_total-length.new.0 ≡ text_in c.before.before.before
+text_is : (c : tie.After-put_total-length) → take c.put_total-length.result c.put_total-length.new.out ≡ text_in c.before.before.before
 text_is c = let p = c.put_total-length.ensures.0 in ap (take c.put_total-length.result) p.bytes ∙ take_at _ _ _ p.long
 
-within : (c : tie.After-put_total-length) → c.put_total-length.result ≤ length c.put_total-length.new.0
+within : (c : tie.After-put_total-length) → c.put_total-length.result ≤ length c.put_total-length.new.out
 within c = omega (arith, put_length c.put_total-length.ensures.0 c.put_total-length.ensures.1, c.put_total-length.ensures.1)
 
 returns : tie.Need-returns-then-out-length

@@ -39,7 +39,7 @@ returns_2 c =
     let done = c.put_gate in
     let gate = c.before.before.before.before.before.before in
     let out = gate.args.out.now in
-    has_room (gate_of gate) out done.result done.new.0
+    has_room (gate_of gate) out done.result done.new.out
     (subst (λ (n : ℕ). n ≤ length out) (room_is c.before.before.before.before.before) c.if-out-wide.false)
     (done.ensures.0 ∙ length_is gate)
     (done.ensures.1 ∙ ap (λ (g : Gate). gate_bytes g ++ drop done.result out) (made gate))

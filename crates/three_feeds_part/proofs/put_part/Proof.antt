@@ -27,10 +27,10 @@ returns_4 c =
     let ok = c.in-HasGate.known_told-in-HasGate-1-own.given in
     let field = c.in-HasGate in
     let a = c.args in
-    let p : to_z w32 (of_z w32 field.weight_0) ≡ field.weight_0 = to_z-of_z (record { sfits = ok.0.1 }) in
-    let q : to_z w32 (of_z w32 field.weight_1) ≡ field.weight_1 = to_z-of_z (record { sfits = ok.1.0.1 }) in
-    let r : to_z w32 (of_z w32 field.weight_2) ≡ field.weight_2 = to_z-of_z (record { sfits = ok.1.1.0.1 }) in
-    let t : to_z w32 (of_z w32 field.threshold) ≡ field.threshold = to_z-of_z (record { sfits = ok.1.1.1.0.1 }) in
+    let p : to_z w32 (of_z w32 field.weight_0) ≡ field.weight_0 = to_z-of_z {w = w32} (record { sfits = ok.0.1 }) in
+    let q : to_z w32 (of_z w32 field.weight_1) ≡ field.weight_1 = to_z-of_z {w = w32} (record { sfits = ok.1.0.1 }) in
+    let r : to_z w32 (of_z w32 field.weight_2) ≡ field.weight_2 = to_z-of_z {w = w32} (record { sfits = ok.1.1.0.1 }) in
+    let t : to_z w32 (of_z w32 field.threshold) ≡ field.threshold = to_z-of_z {w = w32} (record { sfits = ok.1.1.1.0.1 }) in
     gate_answered a.table a.i a.j a.k a.out.now c.if-i-j.false c.if-j-k.false c.entry-found.ensures.0
     c.in-HasGate.is (rw (p, q, r, t) at done.ensures.0) (rw (p, q, r, t) at done.ensures.1)
 

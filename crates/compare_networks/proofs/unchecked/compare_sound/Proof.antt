@@ -17,7 +17,7 @@ use Rattle.compare_networks.proofs.unchecked.compare_sound.Tie as tie
 returns : tie.Need-returns-then-not-same_counts
 returns c =
     let a = c.args in
-    unlike (net_of a.t1) (net_of a.t2) a.budget (sym (alike_is a.t1 a.t2) ∙ sym c.same_counts.ensures ∙ not-true _ c.if-not-same_counts.true-raw)
+    unlike (net_of a.first) (net_of a.second) a.budget (sym (alike_is a.first a.second) ∙ sym c.same_counts.ensures ∙ not-true _ c.if-not-same_counts.true-raw)
     c.refusal.ensures
 
 pair : (c : tie.Else-not-same_counts) → Comparable c.args.first c.args.second
@@ -64,18 +64,18 @@ settle_requires c κs =
     let first = first_laid c.before.before.before.before.before.before.before in
     let e = at_lay first in
     let a = e.before.before.args in
-    let s = joint_stands a.t1 a.t2 (pair e) _ _ _ _ _ _ refl refl first.lay.ensures c.lay-2.ensures _
-    (outputs_put a.t1 a.t2 (pair e) refl c.joint_outputs-outs.ensures) in
-    (both_outputs a.t1 a.t2 (pair e) _ _ s refl refl, omega arith)
+    let s = joint_stands a.first a.second (pair e) _ _ _ _ _ _ refl refl first.lay.ensures c.lay-2.ensures _
+    (outputs_put a.first a.second (pair e) refl c.joint_outputs-outs.ensures) in
+    (both_outputs a.first a.t2 (pair e) _ _ s refl refl, omega arith)
 
 returns_2 : tie.Need-returns
 returns_2 c =
     let first = first_laid c.before.before.before.before.before.before.before.before.before.before in
     let e = at_lay first in
     let a = e.before.before.args in
-    let s = joint_stands a.t1 a.t2 (pair e) _ _ _ _ _ _ refl refl first.lay.ensures c.lay-2.ensures _
-    (outputs_put a.t1 a.t2 (pair e) refl c.joint_outputs-outs.ensures) in
-    given (net_of a.t1) (net_of a.t2) (pair e).same_counts c.given.ensures
+    let s = joint_stands a.first a.second (pair e) _ _ _ _ _ _ refl refl first.lay.ensures c.lay-2.ensures _
+    (outputs_put a.first a.second (pair e) refl c.joint_outputs-outs.ensures) in
+    given (net_of a.first) (net_of a.t2) (pair e).same_counts c.given.ensures
     (settled_verdict a.t1 a.t2 (pair e) _ _ s refl refl a.budget _ _ c.settle-found.ensures.0 (omega arith))
 
 pub compare_sound_spec : {M : Type 1} → statement M

@@ -139,7 +139,7 @@ returns c =
     let next = taken (record_at start) start.args.b loop.g start.requires.0 at.loop-g-test.true (sym (test else.before) ∙ else.if-b-readers.false)
     pairs.result (pairs.ensures.found c.if-code-eq0.true) loop.invariant.1 in (
       record { next = λ t. next; none = λ t. absurd (true≢false t) },
-      record { next = λ t. remembered_after (record_at start) start.args.b loop.g pairs.result next loop.inv.2 c.kept_refusers.ensures },
+      record { next = λ t. remembered_after (record_at start) start.args.b loop.g pairs.result next loop.invariant.2 c.kept_refusers.ensures },
     )
 
 -- the reader that refused it
