@@ -3,18 +3,20 @@ use crate::output::{byte, number, text};
 use crate::show;
 use cut_output::CutAnswer;
 use journal::Record;
+use std::io;
 
 // The bit of an output on eight frames: the frame 0, and each later one so much more.
-pub(crate) fn bits(held: Record, output: usize, step: usize) {
+pub(crate) fn bits(rt: &impl Print, held: Record, output: usize, step: usize) -> io::Result<()> {
     let j = output % 16;
     let mut frame: usize = 0;
     let mut k: usize = 0;
     while k < 8 {
         let reading = front::read_frame(held, frame as u64);
-        number((reading.bits >> j) % 2);
+        number(rt, (reading.bits >> j) % 2)?;
         frame = std::num::wrapping_add_usize(frame, step);
         k = k + 1;
     }
+    Ok(())
 }
 
 // The cut of an output.
@@ -23,14 +25,14 @@ pub(crate) fn cut(held: Record, output: usize) -> CutAnswer {
 }
 
 // A case: the code of the cut, the record that it left, and the output's bits before it and after it.
-pub(crate) fn case(held: Record, output: usize, step: usize) {
+pub(crate) fn case(rt: &impl Print, held: Record, output: usize, step: usize) -> io::Result<()> {
     let answer = cut(held, output);
     let left = answer.after;
-    byte(answer.code);
-    show::network(left);
-    show::size(left);
-    text(b" before");
-    bits(held, output, step);
-    text(b" after");
-    bits(left, 0, step);
+    byte(rt, answer.code)?;
+    show::network(rt, left)?;
+    show::size(rt, left)?;
+    text(rt, b" before")?;
+    bits(rt, held, output, step)?;
+    text(rt, b" after")?;
+    bits(rt, left, 0, step)
 }

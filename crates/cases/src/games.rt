@@ -4,6 +4,7 @@ use crate::output::{byte, count, number, numbers, text};
 use crate::script::{after, byte_at, find};
 use journal::Record;
 use scorer_tally::Sheet;
+use std::io;
 
 // The frame after a ball: a digit for that many pins standing, from the first on, and `T` for all ten; `t` for the tenth pin alone; `M` for
 // all ten and a bit above ten inputs; anything else for that bit alone.
@@ -51,45 +52,46 @@ fn balls_from(script: &[u8], from: usize) -> Balls {
 }
 
 // A running score.
-fn points(n: u16) {
-    number(n as u64);
+fn points(rt: &impl Print, n: u16) -> io::Result<()> {
+    number(rt, n as u64)
 }
 
 // The running scores.
-fn scores(places: &[u16; 10], scored: usize) {
+fn scores(rt: &impl Print, places: &[u16; 10], scored: usize) -> io::Result<()> {
     let mut i: usize = 0;
     while i < 10 {
         if i < scored {
-            points(places[i]);
+            points(rt, places[i])?;
         }
         i = i + 1;
     }
+    Ok(())
 }
 
 // The code, the pins felled by each ball and the running scores.
-fn show_sheet(sheet: Sheet) {
-    byte(sheet.code);
-    text(b", balls");
-    count(sheet.balls);
-    text(b":");
-    numbers(&sheet.felled, sheet.balls);
-    text(b", frames");
-    count(sheet.scored);
-    text(b":");
-    scores(&sheet.scores, sheet.scored);
+fn show_sheet(rt: &impl Print, sheet: Sheet) -> io::Result<()> {
+    byte(rt, sheet.code)?;
+    text(rt, b", balls")?;
+    count(rt, sheet.balls)?;
+    text(rt, b":")?;
+    numbers(rt, &sheet.felled, sheet.balls)?;
+    text(rt, b", frames")?;
+    count(rt, sheet.scored)?;
+    text(rt, b":")?;
+    scores(rt, &sheet.scores, sheet.scored)
 }
 
 // The sheet of the first frames of a list.
-fn scored(held: Record, frames: &[u64], balls: usize) {
+fn scored(rt: &impl Print, held: Record, frames: &[u64], balls: usize) -> io::Result<()> {
     let end = words_up_to(balls, frames);
-    show_sheet(front::score(held, &frames[..end]));
+    show_sheet(rt, front::score(held, &frames[..end]))
 }
 
 // A game: the gates of the network, and the sheet.
-pub(crate) fn case(held: Record, script: &[u8], call: usize) {
+pub(crate) fn case(rt: &impl Print, held: Record, script: &[u8], call: usize) -> io::Result<()> {
     let game = balls_from(script, call);
-    text(b" gates");
-    count(held.network.gates);
-    text(b", code");
-    scored(held, &game.frames, game.balls);
+    text(rt, b" gates")?;
+    count(rt, held.network.gates)?;
+    text(rt, b", code")?;
+    scored(rt, held, &game.frames, game.balls)
 }

@@ -1,6 +1,8 @@
 // Records and files through every call of `front`: the bench gates of the paper, every refusal of every call, the order of the refusals where
 // several apply. The file stdin is a script. A line that begins with '=' names a part. A line with a colon is a case: a name and a call, which
 // are printed with what the call answered. Any other line says what the record is. The file stdout holds the whole output.
+#![tactic(auto)]
+
 mod alley;
 mod building;
 mod calls;
@@ -8,6 +10,7 @@ mod cuts;
 mod describing;
 mod files;
 mod games;
+mod input;
 mod journals;
 mod lent;
 mod output;
@@ -19,50 +22,65 @@ mod show;
 mod table;
 mod verdicts;
 
+use input::read_full;
 use journal::{Record, just_read};
-use libc::STDIN_FILENO;
 use output::{part, text};
 use records::{is_record_line, with_line};
 use script::{after, byte_at, find, numbers_from};
+use std::io;
 
 // A case of a part that leaves the record as it is.
-fn case(part: u8, kept: Record, held: Record, script: &[u8], call: usize) {
+fn case(
+    rt: &impl Print,
+    part: u8,
+    kept: Record,
+    held: Record,
+    script: &[u8],
+    call: usize,
+) -> io::Result<()> {
     let mut lane = [0u8; 66];
     let mut out = [170u8; 260];
     let letter = byte_at(script, call);
     let n = numbers_from(script, call);
     files::put_lane(held, &mut lane);
     match part {
-        b'f' => files::case(letter, held, n, &mut lane, &mut out),
-        b'q' => question::case(kept, held, n[0], &mut out, n[1]),
-        b'o' => cuts::case(held, n[0], n[1]),
-        b'g' => games::case(held, script, call),
-        b't' => table::case(letter, n, &mut out),
-        b'v' => verdicts::case(kept, held, n[0]),
-        _ => alley::case(letter, n, &lane, &mut out),
+        b'f' => files::case(rt, letter, held, n, &mut lane, &mut out),
+        b'q' => question::case(rt, kept, held, n[0], &mut out, n[1]),
+        b'o' => cuts::case(rt, held, n[0], n[1]),
+        b'g' => games::case(rt, held, script, call),
+        b't' => table::case(rt, letter, n, &mut out),
+        b'v' => verdicts::case(rt, kept, held, n[0]),
+        _ => alley::case(rt, letter, n, &lane, &mut out),
     }
 }
 
 // One line, from its first byte on, of a part. The answer is the record for the next line.
-fn line(letter: u8, kept: Record, held: Record, script: &[u8], from: usize) -> Record {
+fn line(
+    rt: &impl Print,
+    letter: u8,
+    kept: Record,
+    held: Record,
+    script: &[u8],
+    from: usize,
+) -> io::Result<Record> {
     if is_record_line(byte_at(script, from)) {
-        return with_line(held, script, from);
+        return Ok(with_line(held, script, from));
     }
     let mut left = held;
     let call = after(after(find(script, from, b':')));
-    part(script, from, find(script, from, b'\n'));
-    text(b" =");
+    part(rt, script, from, find(script, from, b'\n'))?;
+    text(rt, b" =")?;
     if letter == b'c' {
-        left = calls::case(held, script, from, call);
+        left = calls::case(rt, held, script, from, call)?;
     } else {
-        case(letter, kept, held, script, call);
+        case(rt, letter, kept, held, script, call)?;
     }
-    text(b"\n");
-    left
+    text(rt, b"\n")?;
+    Ok(left)
 }
 
 // The lines of a script after its first, which is a heading.
-fn lines(script: &[u8], length: usize) {
+fn lines(rt: &impl Print, script: &[u8], length: usize) -> io::Result<()> {
     let mut held = just_read(network::blank());
     let mut kept = held;
     let mut letter = b'c';
@@ -72,9 +90,9 @@ fn lines(script: &[u8], length: usize) {
             let from = at + 1;
             if byte_at(script, from) == b'=' {
                 letter = byte_at(script, after(after(from)));
-                part(script, from, after(find(script, from, b'\n')));
+                part(rt, script, from, after(find(script, from, b'\n')))?;
             } else {
-                held = line(letter, kept, held, script, from);
+                held = line(rt, letter, kept, held, script, from)?;
             }
             if byte_at(script, from) == b'K' {
                 kept = held;
@@ -82,10 +100,12 @@ fn lines(script: &[u8], length: usize) {
         }
         at = at + 1;
     }
+    Ok(())
 }
 
-fn main() {
+fn main(rt: HostRuntime) -> io::Result<()> {
     let mut script = [b'\n'; 131072];
-    let length = io::read_full(STDIN_FILENO, &mut script);
-    lines(&script, length);
+    let mut reader = rt.reader();
+    let length = read_full(&mut reader, &mut script)?;
+    lines(&rt, &script, length)
 }

@@ -1,56 +1,56 @@
 // What is printed on standard output.
 use basics::magnitude;
-use libc::STDOUT_FILENO;
+use std::io;
 
 // A text.
-pub(crate) fn text(bytes: &[u8]) {
-    io::write_all(STDOUT_FILENO, bytes);
+pub(crate) fn text(rt: &impl Print, bytes: &[u8]) -> io::Result<()> {
+    rt.write_all(bytes)
 }
 
 // The bytes of a text from a place on, up to an end; nothing where they are not all there.
-pub(crate) fn part(bytes: &[u8], from: usize, end: usize) {
+pub(crate) fn part(rt: &impl Print, bytes: &[u8], from: usize, end: usize) -> io::Result<()> {
     if end < from {
-        return;
+        return Ok(());
     }
     if bytes.len() < end {
-        return;
+        return Ok(());
     }
-    text(&bytes[from..end]);
+    text(rt, &bytes[from..end])
 }
 
 // A space and a number.
-pub(crate) fn number(n: u64) {
-    text(b" ");
-    io::print_decimal(STDOUT_FILENO, n);
+pub(crate) fn number(rt: &impl Print, n: u64) -> io::Result<()> {
+    print!(rt; " {n}")
 }
 
 // A space and a count, a signal or a place.
-pub(crate) fn count(n: usize) {
-    number(n as u64);
+pub(crate) fn count(rt: &impl Print, n: usize) -> io::Result<()> {
+    number(rt, n as u64)
 }
 
 // A space and the number that a byte is.
-pub(crate) fn byte(n: u8) {
-    number(n as u64);
+pub(crate) fn byte(rt: &impl Print, n: u8) -> io::Result<()> {
+    number(rt, n as u64)
 }
 
 // A space, a sign and a size.
-pub(crate) fn signed(z: i32) {
+pub(crate) fn signed(rt: &impl Print, z: i32) -> io::Result<()> {
+    let size = magnitude(z);
     if z < 0 {
-        text(b" -");
+        print!(rt; " -{size}")
     } else {
-        text(b" +");
+        print!(rt; " +{size}")
     }
-    io::print_decimal(STDOUT_FILENO, magnitude(z) as u64);
 }
 
 // The numbers that the first bytes of a list are.
-pub(crate) fn numbers(list: &[u8], count: usize) {
+pub(crate) fn numbers(rt: &impl Print, list: &[u8], count: usize) -> io::Result<()> {
     let mut i: usize = 0;
     while i < list.len() {
         if i < count {
-            byte(list[i]);
+            byte(rt, list[i])?;
         }
         i = i + 1;
     }
+    Ok(())
 }

@@ -3,117 +3,146 @@ use crate::output::{byte, count, number, numbers, signed, text};
 use basics::wide;
 use journal::{Journal, Record};
 use network::{Board, Network};
+use std::io;
 
 // The feed at a place: its signal and its weight.
-fn feed<'a>(signals: &'a [u8], weights: &'a [i32], place: usize) {
+fn feed<'a>(
+    rt: &impl Print,
+    signals: &'a [u8],
+    weights: &'a [i32],
+    place: usize,
+) -> io::Result<()> {
     if signals.len() <= place {
-        return;
+        return Ok(());
     }
     if weights.len() <= place {
-        return;
+        return Ok(());
     }
-    byte(signals[place]);
-    signed(weights[place]);
+    byte(rt, signals[place])?;
+    signed(rt, weights[place])
 }
 
 // A gate: in brackets its feeds, which stand from a place on, and its threshold.
-fn gate<'a>(signals: &'a [u8], weights: &'a [i32], first: usize, fanin: u8, threshold: i32) {
+fn gate<'a>(
+    rt: &impl Print,
+    signals: &'a [u8],
+    weights: &'a [i32],
+    first: usize,
+    fanin: u8,
+    threshold: i32,
+) -> io::Result<()> {
     let end = wide(fanin);
-    text(b" [");
+    text(rt, b" [")?;
     let mut i: usize = 0;
     while i < end {
-        feed(signals, weights, std::num::wrapping_add_usize(first, i));
+        feed(rt, signals, weights, std::num::wrapping_add_usize(first, i))?;
         i = i + 1;
     }
-    text(b" ;");
-    signed(threshold);
-    text(b" ]");
+    text(rt, b" ;")?;
+    signed(rt, threshold)?;
+    text(rt, b" ]")
 }
 
 // Gate g of a network, after its signal.
-fn gate_of(network: Network, g: usize) {
+fn gate_of(rt: &impl Print, network: Network, g: usize) -> io::Result<()> {
     let i = g % 128;
     let fanin = network.fanins[i];
     let threshold = network.thresholds[i];
-    count(std::num::wrapping_add_usize(network.inputs, g));
-    gate(&network.signals, &network.weights, 16 * i, fanin, threshold);
+    count(rt, std::num::wrapping_add_usize(network.inputs, g))?;
+    gate(
+        rt,
+        &network.signals,
+        &network.weights,
+        16 * i,
+        fanin,
+        threshold,
+    )
 }
 
 // A board of version 2: its version and its margins.
-fn board(board: Board) {
+fn board(rt: &impl Print, board: Board) -> io::Result<()> {
     if board.version == 1 {
-        return;
+        return Ok(());
     }
-    text(b" board");
-    byte(board.version);
-    byte(board.on);
-    byte(board.off);
+    text(rt, b" board")?;
+    byte(rt, board.version)?;
+    byte(rt, board.on)?;
+    byte(rt, board.off)
 }
 
 // The first 16 gates of a network, and its outputs.
-fn gates(network: Network) {
-    text(b" gates");
+fn gates(rt: &impl Print, network: Network) -> io::Result<()> {
+    text(rt, b" gates")?;
     let mut g: usize = 0;
     while g < 16 {
         if g < network.gates {
-            gate_of(network, g);
+            gate_of(rt, network, g)?;
         }
         g = g + 1;
     }
-    text(b" outputs");
-    numbers(&network.drivers, network.outputs);
+    text(rt, b" outputs")?;
+    numbers(rt, &network.drivers, network.outputs)
 }
 
 // The network of a record where it has at most 16 gates, and whether the record is sound.
-pub(crate) fn network(held: Record) {
+pub(crate) fn network(rt: &impl Print, held: Record) -> io::Result<()> {
     let network = held.network;
     if network.gates <= 16 {
-        gates(network);
-        board(network.board);
+        gates(rt, network)?;
+        board(rt, network.board)?;
     }
     if front::is_sound(held) {
-        text(b" sound");
+        text(rt, b" sound")?;
     }
+    Ok(())
 }
 
 // The report of a record: its code, gates, cost and levels; and the number of the steps in its journal.
-pub(crate) fn size(held: Record) {
+pub(crate) fn size(rt: &impl Print, held: Record) -> io::Result<()> {
     let size = front::report(held);
-    text(b" size");
-    byte(size.code);
-    count(size.gates);
-    number(size.cost);
-    count(size.levels);
-    text(b" steps");
-    count(held.journal.count);
+    text(rt, b" size")?;
+    byte(rt, size.code)?;
+    count(rt, size.gates)?;
+    number(rt, size.cost)?;
+    count(rt, size.levels)?;
+    text(rt, b" steps")?;
+    count(rt, held.journal.count)
 }
 
 // The kind of a step: 0 is a merge.
-fn kind(kind: u8) {
+fn kind(rt: &impl Print, kind: u8) -> io::Result<()> {
     if kind == 0 {
-        text(b" merge");
+        text(rt, b" merge")
     } else {
-        text(b" drop");
+        text(rt, b" drop")
     }
 }
 
 // Step i of a journal: its kind, its signal, and the gate that stood there.
-fn step(journal: Journal, step: usize) {
+fn step(rt: &impl Print, journal: Journal, step: usize) -> io::Result<()> {
     let i = step % 64;
     let fanin = journal.fanins[i];
     let threshold = journal.thresholds[i];
-    kind(journal.kinds[i]);
-    byte(journal.signals[i]);
-    gate(&journal.feeds, &journal.weights, 16 * i, fanin, threshold);
+    kind(rt, journal.kinds[i])?;
+    byte(rt, journal.signals[i])?;
+    gate(
+        rt,
+        &journal.feeds,
+        &journal.weights,
+        16 * i,
+        fanin,
+        threshold,
+    )
 }
 
 // Every step of a journal, the newest first.
-pub(crate) fn steps(journal: Journal) {
+pub(crate) fn steps(rt: &impl Print, journal: Journal) -> io::Result<()> {
     let mut i: usize = 0;
     while i < 64 {
         if i < journal.count {
-            step(journal, i);
+            step(rt, journal, i)?;
         }
         i = i + 1;
     }
+    Ok(())
 }

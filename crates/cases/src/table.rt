@@ -3,20 +3,21 @@ use crate::cuts::bits;
 use crate::files::opened;
 use crate::lent::up_to;
 use crate::output::{byte, count, numbers, signed, text};
+use std::io;
 use three_feeds::TableEntry;
 use three_feeds_part::MaskPart;
 
 // Two settings that are 1, and two that are 0.
-fn settings(one: u8, other_one: u8, zero: u8, other_zero: u8) {
-    text(b" no gate");
-    byte(one);
-    byte(other_one);
-    byte(zero);
-    byte(other_zero);
+fn settings(rt: &impl Print, one: u8, other_one: u8, zero: u8, other_zero: u8) -> io::Result<()> {
+    text(rt, b" no gate")?;
+    byte(rt, one)?;
+    byte(rt, other_one)?;
+    byte(rt, zero)?;
+    byte(rt, other_zero)
 }
 
 // The entry of a truth table.
-fn entry(entry: TableEntry) {
+fn entry(rt: &impl Print, entry: TableEntry) -> io::Result<()> {
     match entry {
         TableEntry::HasGate {
             weight_0,
@@ -24,46 +25,54 @@ fn entry(entry: TableEntry) {
             weight_2,
             threshold,
         } => {
-            text(b" gate");
-            signed(weight_0);
-            signed(weight_1);
-            signed(weight_2);
-            signed(threshold);
+            text(rt, b" gate")?;
+            signed(rt, weight_0)?;
+            signed(rt, weight_1)?;
+            signed(rt, weight_2)?;
+            signed(rt, threshold)
         }
         TableEntry::NoGate {
             one,
             other_one,
             zero,
             other_zero,
-        } => settings(one, other_one, zero, other_zero),
+        } => settings(rt, one, other_one, zero, other_zero),
     }
 }
 
 // What a part's call answered.
-fn answered(part: MaskPart) {
+fn answered(rt: &impl Print, part: MaskPart) -> io::Result<()> {
     match part {
         MaskPart::Put(length) => {
-            text(b" put");
-            count(length);
+            text(rt, b" put")?;
+            count(rt, length)
         }
         MaskPart::NoGate {
             one,
             other_one,
             zero,
             other_zero,
-        } => settings(one, other_one, zero, other_zero),
+        } => settings(rt, one, other_one, zero, other_zero),
         MaskPart::Refused(code) => {
-            text(b" refused");
-            byte(code);
+            text(rt, b" refused")?;
+            byte(rt, code)
         }
     }
 }
 
 // A part in so many of the lent bytes: the answer, and 22 of them.
-fn put(table: u8, i: u8, j: u8, k: u8, out: &mut [u8], room: usize) {
+fn put(
+    rt: &impl Print,
+    table: u8,
+    i: u8,
+    j: u8,
+    k: u8,
+    out: &mut [u8],
+    room: usize,
+) -> io::Result<()> {
     let end = up_to(room, out);
-    answered(front::table_part(table, i, j, k, &mut out[..end]));
-    numbers(out, 22);
+    answered(rt, front::table_part(table, i, j, k, &mut out[..end]))?;
+    numbers(rt, out, 22)
 }
 
 // The gate of a truth table and an output after it put into a file whose header stands. The answer is the file's length, 0 where there is no gate.
@@ -84,15 +93,15 @@ fn fill(table: u8, file: &mut [u8]) -> usize {
 }
 
 // The first bytes of a file read: the code, and the bit on each of the eight frames.
-fn read_prefix(file: &[u8], length: usize) {
+fn read_prefix(rt: &impl Print, file: &[u8], length: usize) -> io::Result<()> {
     let opened = opened(file, length);
-    byte(opened.code);
-    bits(opened.held, 0, 1);
+    byte(rt, opened.code)?;
+    bits(rt, opened.held, 0, 1)
 }
 
 // A file of three inputs, one gate and one output, with the gate of a truth table in it, read back: the truth table, the code, and the bits,
 // which are the truth table's. Nothing where there is no gate.
-fn read_back(table: u8) {
+fn read_back(rt: &impl Print, table: u8) -> io::Result<()> {
     let mut file = [0u8; 29];
     file[0] = 80;
     file[1] = 77;
@@ -103,18 +112,20 @@ fn read_back(table: u8) {
     file[7] = 1;
     let length = fill(table, &mut file);
     if 0 < length {
-        byte(table);
-        read_prefix(&file, length);
+        byte(rt, table)?;
+        read_prefix(rt, &file, length)?;
     }
+    Ok(())
 }
 
 // Every gate of the table.
-fn read_all_back() {
+fn read_all_back(rt: &impl Print) -> io::Result<()> {
     let mut table: usize = 0;
     while table < 256 {
-        read_back(table as u8);
+        read_back(rt, table as u8)?;
         table = table + 1;
     }
+    Ok(())
 }
 
 // The lowest byte of a number.
@@ -123,10 +134,11 @@ fn narrow(n: usize) -> u8 {
 }
 
 // A case: 'entry', 'put', or 'all'.
-pub(crate) fn case(letter: u8, n: [usize; 8], out: &mut [u8]) {
+pub(crate) fn case(rt: &impl Print, letter: u8, n: [usize; 8], out: &mut [u8]) -> io::Result<()> {
     match letter {
-        b'e' => entry(front::table_entry(narrow(n[0]))),
+        b'e' => entry(rt, front::table_entry(narrow(n[0]))),
         b'p' => put(
+            rt,
             narrow(n[0]),
             narrow(n[1]),
             narrow(n[2]),
@@ -134,6 +146,6 @@ pub(crate) fn case(letter: u8, n: [usize; 8], out: &mut [u8]) {
             out,
             n[4],
         ),
-        _ => read_all_back(),
+        _ => read_all_back(rt),
     }
 }
