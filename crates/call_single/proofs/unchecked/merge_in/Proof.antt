@@ -39,9 +39,7 @@ start_of c = c.before.before
 
 abbrev else_of : tie.After-enter_gate-arg-1 → tie.Else-code-ne0
 else_of c =
-    let network_lent = c.before.before.before.before in
-    let known = network_lent in
-    known.before
+    c.before.before
 
 -- past the test v is a gate's signal
 number : (c : tie.Else-code-ne0) → let a = (start_of c).args in

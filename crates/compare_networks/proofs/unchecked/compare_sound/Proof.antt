@@ -66,7 +66,7 @@ settle_requires c κs =
     let a = e.before.before.args in
     let s = joint_stands a.first a.second (pair e) _ _ _ _ _ _ refl refl first.lay.ensures c.lay-2.ensures _
     (outputs_put a.first a.second (pair e) refl c.joint_outputs-outs.ensures) in
-    (both_outputs a.first a.t2 (pair e) _ _ s refl refl, omega arith)
+    (both_outputs a.first a.second (pair e) _ _ s refl refl, omega arith)
 
 returns_2 : tie.Need-returns
 returns_2 c =
@@ -75,8 +75,8 @@ returns_2 c =
     let a = e.before.before.args in
     let s = joint_stands a.first a.second (pair e) _ _ _ _ _ _ refl refl first.lay.ensures c.lay-2.ensures _
     (outputs_put a.first a.second (pair e) refl c.joint_outputs-outs.ensures) in
-    given (net_of a.first) (net_of a.t2) (pair e).same_counts c.given.ensures
-    (settled_verdict a.t1 a.t2 (pair e) _ _ s refl refl a.budget _ _ c.settle-found.ensures.0 (omega arith))
+    given (net_of a.first) (net_of a.second) (pair e).same_counts c.given.ensures
+    (settled_verdict a.first a.second (pair e) _ _ s refl refl a.budget _ _ c.settle-found.ensures.0 (omega arith))
 
 pub compare_sound_spec : {M : Type 1} → statement M
 compare_sound_spec =

@@ -26,10 +26,8 @@ rem_frame : tie.Need-nonzero_rem-frame
 rem_frame c = c.frame_count-frames.ensures.1
 
 -- ---- a frame
-below : (c : tie.After-read-frames-arg2)
-    → c.before.before.before.before.before.before.match-outputs.result.frame % c.before.before.before.frame_count.result
-    < c.before.before.before.frame_count.result
-below c = mod-lt c.before.before.before.before.before.before.match-outputs.result.frame c.before.before.before.frame_count.ensures.1
+below : (c : tie.After-struct_known-2-1) → c.match_outputs-outcome.result.frame % c.frame_count-frames.result < c.frame_count-frames.result
+below c = mod-lt c.match_outputs-outcome.result.frame c.frame_count-frames.ensures.1
 
 add_read_frames : tie.Need-overflow_add-frame
 add_read_frames c = record { fits = omega (arith, below c, c.frame_count-frames.ensures) }
