@@ -13,7 +13,7 @@ shaped : (c : tie.Start) → ArrayLengths c.args.network
 shaped c = record { fanins = search rules; signals = search rules; weights = search rules; thresholds = search rules; drivers = search rules }
 
 returns : tie.Need-returns-then-not-is_sound
-returns c = let a = c.args in sym (preview_broken a.t1 a.s (sym c.is_sound.ensures ∙ not-true _ c.if-not-is_sound.true-raw))
+returns c = let a = c.args in sym (preview_broken a.network a.s (sym c.is_sound.ensures ∙ not-true _ c.if-not-is_sound.true-raw))
 
 preview_at_requires : tie.Need-preview_at-requires
 preview_at_requires c κs =

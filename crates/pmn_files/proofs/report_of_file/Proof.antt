@@ -24,7 +24,7 @@ put_three_requires c κs = (c.refusal-code.ensures.gives c.if-code-ne0.false).ro
 
 returns_2 : tie.Need-returns
 returns_2 c =
-    let g = c.size_of in
+    let g = c.size_of-size in
     let a = c.args in
     placed g.result.code (g.result.gates ∷ g.result.cost ∷ g.result.levels ∷ []) a.answer.now
     (report_answer a.answer.now (c.refusal-code.ensures.gives c.if-code-ne0.false) g.ensures) c.put_three.ensures

@@ -55,7 +55,7 @@ returns_2 c =
     let s = start_of else.before in
     let done = c.collapse_entered-steps.ensures in
     answered_parts s.args.head c.call_left-2.ensures done.network_is done.journal_is
-    ∙ collapse_entered (held s) s.requires.whole s.args.s _ (else.before.collapse-pairs.ensures.accepts else.if1.left)
+    ∙ collapse_entered (held s) s.requires.whole s.args.s _ (else.before.collapse_pairs-pairs.ensures.accepts else.if-code-ne0.false)
 
 pub collapse_in_spec : {M : Type 1} → statement M
 collapse_in_spec =

@@ -62,23 +62,23 @@ sub_g : tie.Need-overflow_sub-g
 sub_g c = omega (arith, number c.before)
 
 cast_enter_gate : tie.Need-overflow_cast-s
-cast_enter_gate c = let else = else_of c in omega (arith, number else, few_inputs (start_of else.before))
+cast_enter_gate c = let else = else_of c.before.before.before.before.before in omega (arith, number else, few_inputs (start_of else.before))
 
 enter_gate_requires : tie.Need-enter_gate-requires
-enter_gate_requires c κs = omega (arith, number (else_of c))
+enter_gate_requires c κs = omega (arith, number (else_of c.before.before.before.before.before))
 
 remove_places_requires : tie.Need-remove_places-requires
 remove_places_requires c κs =
-    let else = else_of c.before.before.before.before.before.before in
+    let else = else_of c.before.before.before.before.before.before.before.before.before.before.before in
     (omega (arith, number else), (start_of else.before).requires.lengths)
 
 sub_call_left : tie.Need-overflow_sub-head
 sub_call_left c =
-    omega (arith, number (else_of c.before))
+    omega (arith, number (else_of c.before.before.before.before.before.before.before.before.before.before.before.before.before))
 
 returns_2 : tie.Need-returns
 returns_2 c =
-    let else = else_of c.before in
+    let else = else_of c.before.before.before.before.before.before.before.before.before.before.before.before.before.before.before in
     let s = start_of else.before in
     let a = s.args in
     let n = (held s).network in
@@ -92,7 +92,7 @@ returns_2 c =
     ∙ ap (λ (x : GateRecord). with_step (held s).journal 1 a.s x) row)
     ∙ drop_entered (held s) s.requires.whole a.s _ (tried.accepts else.if1.left)
 
-pub drop_in_spec : {M : Type 1} → statement M
+pub drop_in_spec.before.before.before.before.before : {M : Type 1} → statement M
 drop_in_spec =
     tie.close
     (tie.spec

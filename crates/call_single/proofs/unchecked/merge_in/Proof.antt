@@ -62,22 +62,22 @@ sub_g : tie.Need-overflow_sub-g
 sub_g c = omega (arith, number c.before)
 
 cast_enter_gate : tie.Need-overflow_cast-v
-cast_enter_gate c = let else = else_of c in omega (arith, number else, few_inputs (start_of else))
+cast_enter_gate c = let else = else_of c.before.before.before.before.before in omega (arith, number else, few_inputs (start_of else))
 
 enter_gate_requires : tie.Need-enter_gate-requires
-enter_gate_requires c κs = omega (arith, number (else_of c))
+enter_gate_requires c κs = omega (arith, number (else_of c.before.before.before.before.before))
 
 store_gate_requires : tie.Need-store_gate-requires
-store_gate_requires c κs = omega (arith, number (else_of c.before.before.before.before.before.before))
+store_gate_requires c κs = omega (arith, number (else_of c.before.before.before.before.before.before.before.before.before.before.before))
 
 returns_2 : tie.Need-returns
 returns_2 c =
-    let else = else_of c.before in
+    let else = else_of c.before.before.before.before.before.before.before.before.before.before.before.before.before.before in
     let s = start_of else in
     let a = s.args in
     let n = (held s).network in
-    let tried = else.before.merged_at.ensures in
-    let own = tried.own else.if1.left in
+    let tried = else.before.merged_at-merged.ensures in
+    let own = tried.own else.if-code-ne0.left in
     let has = has_of (net_of n) a.v (T_is (is_gate (net_of n) a.v) own.gate) in
     let row = row_gate_at n a.v (T_is (sound_record n) own.sound) has in
     answered_parts a.head c.call_left-2.ensures

@@ -56,7 +56,7 @@ body_is c =
     let h = put.before.before.if-out-length.false in
     write_on start.args.out.now put.put_header-start.new.out c.put_gates-gates.new.out (counted_header r.board r.inputs r.gates r.outputs)
     (first_gates r.fanins r.thresholds r.signals r.weights r.gates) put.put_header-start.result c.put_gates-gates.result
-    put.put-header.ensures.1 (counted_header_length r.board r.inputs r.gates r.outputs ∙ sym e)
+    put.put_header-start.ensures.1 (counted_header_length r.board r.inputs r.gates r.outputs ∙ sym e)
     (first_gates_length r.fanins r.thresholds r.signals r.weights r.gates ∙ sym c.put_gates-gates.ensures.0)
     (omega (arith, e, n, h, c.put_gates-gates.ensures.0)) c.put_gates-gates.ensures.1
 
