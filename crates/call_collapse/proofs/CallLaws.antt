@@ -14,7 +14,7 @@ use Rattle.journal.specs.Records.{state_of, sound_whole}
 use Rattle.journal.specs.Answers.{journal_after, applied}
 use Rattle.journal.specs.Parts.{refusing, answered}
 use Rattle.journal.specs.declared.Record.{Record}
-use Rattle.journal.specs.CallLaws.{IsCall, call_refused, call_accepted}
+use Rattle.journal.proofs.CallLaws.{IsCall, call_refused, call_accepted}
 
 module _ (r : Record) (whole : sound_whole r ≡ true) (s : ℕ) where
   is_collapse : IsCall r (Collapse s) (λ M. collapse M s)

@@ -19,7 +19,7 @@ use Rattle.call_numbers.specs.CallPlaces.{call_at}
 use Rattle.call_numbers.specs.NumberLaws.{count_calls}
 use Rattle.call_runs.specs.Runs.{answers_of}
 use Rattle.call_runs.specs.Running.{FromRead, Stepped}
-use Rattle.call_runs.specs.RunLaws.{just_came, just_state, next_came, next_calls, next_answers, store_more}
+use Rattle.call_runs.proofs.RunLaws.{just_came, just_state, next_came, next_calls, next_answers, store_more}
 
 -- r is the record before call i of a list that began at the state q
 pub record Reached (q : State) (ns : List ℕ) (i : ℕ) (r : Record) : Type 0 where

@@ -16,7 +16,7 @@ use Rattle.call_theory.specs.declared.Call.TheVariants.{Preview}
 use Rattle.journal.specs.Journals.{enter_all}
 use Rattle.journal.specs.Records.{state_of, sound_whole}
 use Rattle.journal.specs.Answers.{journal_after, as_call_answer, applied}
-use Rattle.journal.specs.AnswerLaws.{whole_network, applied_sound}
+use Rattle.journal.proofs.AnswerLaws.{whole_network, applied_sound}
 use Rattle.journal.specs.declared.Record.{Record}
 use Rattle.fold_merge.specs.Answers.{on_record}
 use Rattle.fold_preview.specs.Preview.{previewed}

@@ -4,7 +4,7 @@ use Rattle.basics.specs.Refusals.{Answer, code_of}
 use Rattle.network.specs.Threshold.{Net}
 use Rattle.call_theory.specs.Steps.{State}
 use Rattle.call_theory.specs.Calls.{Given, leaves}
-use Rattle.call_theory.specs.TraceLaws.{Traced}
+use Rattle.call_theory.proofs.TraceLaws.{Traced}
 use Rattle.journal.specs.Records.{state_of, record_of}
 use Rattle.journal.specs.declared.CallAnswer.{CallAnswer}
 use Rattle.journal.specs.declared.Record.{Record}

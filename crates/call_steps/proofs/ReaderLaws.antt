@@ -19,7 +19,7 @@ use Rattle.fold_theory.specs.Merge.{silent, reads}
 use Rattle.call_theory.specs.Steps.{Step, merging, dropping, old_gate, reader_steps, collapse_steps}
 use Rattle.journal.specs.Journals.{kind_of, signal_of, with_step, enter, enter_all}
 use Rattle.journal.specs.declared.Journal.{Journal}
-use Rattle.journal.specs.JournalLaws.{enter_all_join}
+use Rattle.journal.proofs.JournalLaws.{enter_all_join}
 
 -- ---- the steps from gate g on
 module _ (n : Network) (u g : ℕ) where

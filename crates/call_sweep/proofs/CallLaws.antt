@@ -13,7 +13,7 @@ use Rattle.call_theory.specs.Calls.{no_figures, with_collapses, steps_of, moved,
 use Rattle.call_theory.specs.declared.Call.TheVariants.{Sweep}
 use Rattle.journal.specs.Records.{state_of, sound_whole}
 use Rattle.journal.specs.Answers.{journal_after, as_call_answer, applied}
-use Rattle.journal.specs.AnswerLaws.{whole_network, applied_sound, applied_refused}
+use Rattle.journal.proofs.AnswerLaws.{whole_network, applied_sound, applied_refused}
 use Rattle.journal.specs.Parts.{refusing}
 use Rattle.journal.specs.declared.Record.{Record}
 use Rattle.call_sweep.proofs.TurnLaws.{answer_after}

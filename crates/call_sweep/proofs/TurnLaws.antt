@@ -18,7 +18,7 @@ use Rattle.network.specs.SoundLaws.{sized_of}
 use Rattle.network.specs.declared.Network.{Network}
 use Rattle.fold_theory.specs.Collapse.{collapse}
 use Rattle.fold_theory.specs.Sweep.{readers, go_on, sweep_once, Swept, sweeping}
-use Rattle.fold_theory.specs.StepLaws.{collapse_kept}
+use Rattle.fold_theory.proofs.StepLaws.{collapse_kept}
 use Rattle.call_theory.specs.Steps.{Step, collapse_steps, turn_steps, sweep_steps}
 use Rattle.journal.specs.Journals.{enter_all}
 use Rattle.journal.specs.declared.CallAnswer.{CallAnswer}
@@ -31,7 +31,7 @@ use Rattle.fold_sweep.specs.Sweeping.{asked, NextCollapse}
 use Rattle.fold_sweep.specs.Memory.{Remembered, RememberedAfter}
 use Rattle.fold_sweep.specs.MemoryLaws.{remembered_none}
 use Rattle.journal.specs.Parts.{answered}
-use Rattle.journal.specs.JournalLaws.{enter_all_join}
+use Rattle.journal.proofs.JournalLaws.{enter_all_join}
 use Rattle.call_collapse.specs.Entering.{CollapseEntered}
 
 go_on_end : {A : Type 0} (a : Answer Net) (f : Net → A) (x : A) → Refused a → go_on a f x ≡ x

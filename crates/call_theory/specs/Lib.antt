@@ -3,8 +3,3 @@ pub mod Calls
 pub mod Trail
 pub mod Guarantee
 pub mod Preserved
-pub mod UndoLaws
-pub mod RunLaws
-pub mod TraceLaws
-pub mod GuaranteeLaws
-pub mod NumberLaws

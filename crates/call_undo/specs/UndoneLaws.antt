@@ -16,7 +16,7 @@ use Rattle.call_theory.specs.declared.Call.TheVariants.{Undo}
 use Rattle.journal.specs.Journals.{step_at, steps_in, without_newest}
 use Rattle.journal.specs.Records.{state_of, sound_whole}
 use Rattle.journal.specs.Answers.{as_call_answer, journal_after, applied}
-use Rattle.journal.specs.AnswerLaws.{whole_state, applied_sound, applied_refused}
+use Rattle.journal.proofs.AnswerLaws.{whole_state, applied_sound, applied_refused}
 use Rattle.journal.specs.declared.Record.{Record}
 
 module _ (r : Record) (whole : sound_whole r ≡ true) where

@@ -25,16 +25,16 @@ use Rattle.network.specs.SoundLaws.{CountsInArrays, sized_of}
 use Rattle.network.specs.declared.GateRecord.{GateRecord}
 use Rattle.network.specs.declared.Network.{Network}
 use Rattle.network_equivalence.specs.Consistent.{Ordered, WellFormed}
-use Rattle.network_equivalence.specs.ConsistentLaws.{sound_good}
+use Rattle.network_equivalence.proofs.ConsistentLaws.{sound_good}
 use Rattle.network_places.specs.PasteLaws.{pasted_first}
 use Rattle.question_theory.specs.Question.{term, second_variable, second_of, over_gate}
-use Rattle.question_theory.specs.AlikeLaws.{alike_inputs}
+use Rattle.question_theory.proofs.AlikeLaws.{alike_inputs}
 use Rattle.question_lines.specs.Lines.{Comparable}
 use Rattle.question_lines.specs.StretchLaws.{first_gate_lem}
 use Rattle.compare_theory.specs.Joint.{Joint, joint, wires_of, weights_of, fanin, gate_of_rows, gate_of, gates_of, Summable, Ready}
-use Rattle.compare_theory.specs.RowLaws.{feeds_over}
+use Rattle.compare_theory.proofs.RowLaws.{feeds_over}
 use Rattle.compare_theory.specs.SideBySide.{joined, both}
-use Rattle.compare_theory.specs.SideBySideLaws.{second_most, joined_ordered, both_fits, both_second}
+use Rattle.compare_theory.proofs.SideBySideLaws.{second_most, joined_ordered, both_fits, both_second}
 use Rattle.compare_theory.specs.Wiring.{StandsFor}
 use Rattle.compare_joint.specs.Rows.{wires_row, weights_row, Laid, OutputsPut}
 

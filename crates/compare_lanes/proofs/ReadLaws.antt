@@ -14,7 +14,7 @@ use lib.Pow.{pow_pos, shl_exact, field, mod-mod-pow}
 use Rattle.basics.specs.ListLaws.{length_tab}
 use Rattle.network.specs.Threshold.{Net, Assignment, values, frame}
 use Rattle.network_equivalence.specs.Consistent.{WellFormed}
-use Rattle.network_equivalence.specs.ConsistentLaws.{fits_one, values_fit, values_inputs}
+use Rattle.network_equivalence.proofs.ConsistentLaws.{fits_one, values_fit, values_inputs}
 use Rattle.frame_lanes.specs.Lanes.{mask_of, is_on}
 use Rattle.compare_theory.specs.Joint.{Joint, gate_of, gates_of, FitsJoint}
 use Rattle.compare_lanes.specs.Lanes.{lane_bits, Masked, FramesPut, GatesRun}

@@ -8,7 +8,7 @@ use native.Mathlib.Omega.{arith}
 use lib.IntN.{ℤ}
 use Rattle.basics.specs.Lists.{range}
 use Rattle.network.specs.Threshold.{Gate, Assignment, bit, assign, run, frame}
-use Rattle.network_equivalence.specs.ConsistentLaws.{assign_same, assign_other}
+use Rattle.network_equivalence.proofs.ConsistentLaws.{assign_same, assign_other}
 use Rattle.compare_theory.specs.Joint.{Joint, gate_of, gates_of}
 use Rattle.compare_lanes.specs.Lanes.{lane_bits, Masked, LanesPut, FramesPut, GatesRun}
 

@@ -5,10 +5,10 @@ use Rattle.std.proofs.Math.Decide.{dec_lt}
 use Rattle.std.specs.Int.{w32}
 use Rattle.basics.specs.SizeLaws.{size_fits}
 use Rattle.network.specs.Threshold.{bit}
-use Rattle.question_theory.specs.LineLaws.{over_same}
+use Rattle.question_theory.proofs.LineLaws.{over_same}
 use Rattle.compare_theory.specs.Joint.{Joint, fanin, gate_of_rows, gate_of, OneBit}
-use Rattle.compare_theory.specs.RowLaws.{rows_over}
-use Rattle.compare_theory.specs.SpanLaws.{gate_bit}
+use Rattle.compare_theory.proofs.RowLaws.{rows_over}
+use Rattle.compare_theory.proofs.SpanLaws.{gate_bit}
 use Rattle.compare_merging.specs.Twins.{SameBelow}
 
 -- ---- rows

@@ -4,7 +4,7 @@ use Rattle.std.proofs.Common.{sym, ap, ◌∙◌, ⊎_elim, arith}
 use Rattle.basics.specs.ListLaws.{length_tab}
 use Rattle.network.specs.Threshold.{Net, Assignment, frame, values}
 use Rattle.network_equivalence.specs.Consistent.{WellFormed}
-use Rattle.network_equivalence.specs.ConsistentLaws.{fits_one, values_fit, values_inputs}
+use Rattle.network_equivalence.proofs.ConsistentLaws.{fits_one, values_fit, values_inputs}
 use Rattle.compare_theory.specs.Joint.{Joint, gate_of, gates_of, FitsJoint}
 use Rattle.compare_theory.specs.Wiring.{with_wires, Kept, Matched}
 use Rattle.compare_lanes.specs.Reading.{Readable, SameOutputs, FramesRead}

@@ -11,15 +11,15 @@ use Rattle.network.specs.RecordLaws.{count_gates, count_outputs, output_within, 
 use Rattle.network.specs.SoundLaws.{sized_of}
 use Rattle.network.specs.declared.Network.{Network}
 use Rattle.network_equivalence.specs.Consistent.{WellFormed}
-use Rattle.network_equivalence.specs.ConsistentLaws.{fits_one, sound_good}
-use Rattle.question_theory.specs.AlikeLaws.{alike_inputs, alike_outputs}
-use Rattle.question_theory.specs.FrameLaws.{fits_below}
+use Rattle.network_equivalence.proofs.ConsistentLaws.{fits_one, sound_good}
+use Rattle.question_theory.proofs.AlikeLaws.{alike_inputs, alike_outputs}
+use Rattle.question_theory.proofs.FrameLaws.{fits_below}
 use Rattle.question_lines.specs.Lines.{Comparable}
 use Rattle.compare_theory.specs.Joint.{Joint, gate_of, gates_of, FitsJoint}
 use Rattle.compare_theory.specs.SideBySide.{both}
-use Rattle.compare_theory.specs.SideBySideLaws.{both_inputs, first_outputs_lem}
+use Rattle.compare_theory.proofs.SideBySideLaws.{both_inputs, first_outputs_lem}
 use Rattle.compare_theory.specs.Wiring.{StandsFor}
-use Rattle.compare_theory.specs.WiringLaws.{outputs_same}
+use Rattle.compare_theory.proofs.WiringLaws.{outputs_same}
 use Rattle.compare_theory.specs.Verdicts.{Verdict}
 use Rattle.compare_lanes.specs.Reading.{SameOutputs}
 use Rattle.compare_networks.specs.Settled.{Outputs, Settled}

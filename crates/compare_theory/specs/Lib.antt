@@ -2,14 +2,6 @@ pub mod Verdicts
 pub mod Joint
 pub mod Spans
 pub mod SideBySide
-pub mod SideBySideLaws
-pub mod RowLaws
 pub mod Wiring
-pub mod WiringLaws
 pub mod Reasons
 pub mod Decisions
-pub mod SpanLaws
-pub mod ForceLaws
-pub mod MaskLaws
-pub mod ReasonLaws
-pub mod DecisionLaws

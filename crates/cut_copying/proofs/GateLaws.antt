@@ -24,7 +24,7 @@ use Rattle.network.specs.declared.Network.{Network}
 use Rattle.network.specs.declared.GateRecord.{GateRecord}
 use Rattle.network_places.specs.StoreLaws.{stored_gates}
 use Rattle.cut_theory.specs.Cut.{picked, new_signal, renamed_feed, renamed_gate, cut_by}
-use Rattle.cut_theory.specs.CopyLaws.{new_zero, picked_kept, picked_gone}
+use Rattle.cut_theory.proofs.CopyLaws.{new_zero, picked_kept, picked_gone}
 use Rattle.cut_signals.specs.Signals.{NewSignals}
 
 -- ---- one gate with new signals

@@ -13,8 +13,8 @@ use Rattle.pmn_opening.specs.Opening.{FileOpen}
 use Rattle.pmn_opening.specs.OpeningLaws.{file_sound, open_record, open_on}
 use Rattle.pmn_files.specs.Files.{file_in}
 use Rattle.cut_theory.specs.Cut.{named, cut_net, cut}
-use Rattle.cut_theory.specs.RemoveLaws.{cut_sound}
-use Rattle.cut_theory.specs.CutLaws.{named_has, cut_accepts, cut_stray}
+use Rattle.cut_theory.proofs.RemoveLaws.{cut_sound}
+use Rattle.cut_theory.proofs.CutLaws.{named_has, cut_accepts, cut_stray}
 use Rattle.cut_files.specs.Answers.{cut_places}
 
 module _ {file : List ℕ} {places : ℕ} {r : Network} (a : FileOpen file places 1 r) (output room : ℕ) where

@@ -5,7 +5,7 @@ use Rattle.std.proofs.Common.{sym, ap, ◌∙◌, subst, inl, inr, arith, get_or
 use Rattle.std.proofs.Math.Decide.{dec_lt, ℕ_discrete}
 use Rattle.basics.specs.ListLaws.{get_or_spare}
 use Rattle.cut_theory.specs.Cut.{Reached, start, next}
-use Rattle.cut_theory.specs.BelongLaws.{reached_on}
+use Rattle.cut_theory.proofs.BelongLaws.{reached_on}
 use Rattle.cut_marking.specs.Marking.{IsMarked, Wired, BehindFeed, Closed, Grown, GateMarked, FeedsMarked, Needed}
 
 -- a mark more

@@ -21,7 +21,7 @@ use Rattle.network.specs.SoundLaws.{sized_of}
 use Rattle.network.specs.declared.Network.{Network}
 use Rattle.fold_theory.specs.Merge.{silent, reads}
 use Rattle.cut_theory.specs.Cut.{Reached, start, next, Behind, InCut, cut_marks}
-use Rattle.cut_theory.specs.BelongLaws.{belongs_exact}
+use Rattle.cut_theory.proofs.BelongLaws.{belongs_exact}
 use Rattle.cut_marking.specs.Marking.{Wired, BehindFeed, Needed}
 
 -- ---- a signal in a list

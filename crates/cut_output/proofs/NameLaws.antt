@@ -15,8 +15,8 @@ use Rattle.network.specs.Places.{SoundGate}
 use Rattle.network.specs.RecordLaws.{sound_net, count_gates, count_outputs, output_within, gate_number}
 use Rattle.network.specs.declared.Network.{Network}
 use Rattle.cut_theory.specs.Cut.{named, cut_by, cut_marks, cut_net}
-use Rattle.cut_theory.specs.RemoveLaws.{long_marks}
-use Rattle.cut_theory.specs.CutLaws.{named_has}
+use Rattle.cut_theory.proofs.RemoveLaws.{long_marks}
+use Rattle.cut_theory.proofs.CutLaws.{named_has}
 use Rattle.cut_marking.specs.Marking.{Needed}
 use Rattle.cut_marking.specs.RecordLaws.{needed_marks}
 use Rattle.cut_copying.specs.CopyingLaws.{marks_long}

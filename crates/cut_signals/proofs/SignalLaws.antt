@@ -12,7 +12,7 @@ use mir.Val.{bool_byte}
 use Rattle.network.specs.Places.{Pasted}
 use Rattle.network_places.specs.PasteLaws.{pasted_none, pasted_more, pasted_first}
 use Rattle.cut_theory.specs.Cut.{new_signal}
-use Rattle.cut_theory.specs.CopyLaws.{new_input, new_kept, new_gone, new_most, new_zero}
+use Rattle.cut_theory.proofs.CopyLaws.{new_input, new_kept, new_gone, new_most, new_zero}
 use Rattle.cut_signals.specs.Signals.{signal_stays, NewSignals}
 
 -- ---- new signals

@@ -28,7 +28,7 @@ use Rattle.network.specs.declared.Network.{Network}
 use Rattle.network.specs.declared.GateRecord.{GateRecord}
 use Rattle.fold_theory.specs.Merge.{Edge, edge_of, reads, merged, narrow}
 use Rattle.fold_theory.specs.Pair.{qualifies}
-use Rattle.fold_theory.specs.SoundLaws.{resized_sound}
+use Rattle.fold_theory.proofs.SoundLaws.{resized_sound}
 use Rattle.pair_theory.specs.Alignments.{alignment_of, merged_of, Mergeable}
 use Rattle.fold_reader_pairs.specs.declared.Pairs.{Pairs}
 use Rattle.fold_readers.specs.Arrays.{SoundArrays}

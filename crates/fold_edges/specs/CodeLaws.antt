@@ -2,7 +2,7 @@
 use Rattle.std.specs.Prelude.{◌≡◌, refl, true, false, List, [], ◌∷◌, ◌++◌, ℕ}
 use Rattle.std.proofs.Common.{sym, ap, ◌∙◌, append-nil}
 use Rattle.basics.specs.Refusals.{Answer, accepted, refused, Test, ◌else◌, checks, code_of, Passed}
-use Rattle.fold_theory.specs.RefusalLaws.{NoneSays}
+use Rattle.fold_theory.proofs.RefusalLaws.{NoneSays}
 use Rattle.fold_edges.specs.Codes.{first_failing}
 
 -- ---- tests and others after them

@@ -18,7 +18,7 @@ use Rattle.network.specs.declared.Board.{Board}
 use Rattle.network.specs.declared.Network.{Network}
 use Rattle.network.specs.declared.GateRecord.{GateRecord}
 use Rattle.fold_theory.specs.Merge.{edge, reads, edge_of}
-use Rattle.fold_theory.specs.AlignedLaws.{EdgeOk}
+use Rattle.fold_theory.proofs.AlignedLaws.{EdgeOk}
 use Rattle.pair_theory.specs.Alignments as alignments
 use Rattle.pair_theory.specs.Alignments.{Alignable}
 use Rattle.fold_readers.specs.Arrays.{SoundArrays}

@@ -12,7 +12,7 @@ use Rattle.network.specs.Limits.{sound, is_gate}
 use Rattle.network.specs.Changes.{gate_at}
 use Rattle.network.specs.declared.Network.{Network}
 use Rattle.fold_theory.specs.Merge.{edge, reads, distinct, narrow, feed_tests}
-use Rattle.fold_theory.specs.LimitLaws.{narrow_few}
+use Rattle.fold_theory.proofs.LimitLaws.{narrow_few}
 use Rattle.pmn_opening.specs.Places.{answer_of}
 use Rattle.pmn_opening.specs.Opening.{FileOpen}
 use Rattle.pmn_opening.specs.OpeningLaws.{open_on}

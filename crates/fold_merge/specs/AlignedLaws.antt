@@ -15,12 +15,12 @@ use Rattle.fold_theory.specs.Merge.{Edge, distinct, merged, agrees, merge_keeps,
 use Rattle.fold_theory.specs.Pair.{qualifies}
 use Rattle.fold_theory.specs.Aligned.{Aligned, aligned, edge_thresholds, mixed_threshold, mixed_weight, scale_fits}
 use Rattle.pair_agreement.specs.GateLaws.{feed_count}
-use Rattle.fold_theory.specs.AlignedLaws.{EdgeOk, scale_ok_fits, agrees_all_lem}
-use Rattle.fold_theory.specs.PairLaws.{qualified_of, dial_of}
-use Rattle.fold_theory.specs.LimitLaws.{narrow_few}
+use Rattle.fold_theory.proofs.AlignedLaws.{EdgeOk, scale_ok_fits, agrees_all_lem}
+use Rattle.fold_theory.proofs.PairLaws.{qualified_of, dial_of}
+use Rattle.fold_theory.proofs.LimitLaws.{narrow_few}
 use Rattle.pair_theory.specs.Alignments.{alignment_of, aligned_in, mixed_feed, merged_of, AlignmentOnScale, Searchable, Mergeable}
 use Rattle.pair_theory.specs.declared.Alignment.{Alignment}
-use Rattle.pair_theory.specs.AlignmentLaws.{aligned_in_lem, merged_is, mergeable}
+use Rattle.pair_theory.proofs.AlignmentLaws.{aligned_in_lem, merged_is, mergeable}
 use Rattle.fold_edges.specs.Codes.{first_failing}
 use Rattle.fold_edges.specs.CodeLaws.{code_passed}
 use Rattle.fold_merge.specs.Codes.{merge_tests, setting_tests, limit_tests_on, merge_tests_on}

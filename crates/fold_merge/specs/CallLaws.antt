@@ -15,12 +15,12 @@ use Rattle.network.specs.PlaceLaws.{gate_in_gate_record}
 use Rattle.network.specs.declared.Network.{Network}
 use Rattle.network.specs.declared.GateRecord.{GateRecord}
 use Rattle.fold_theory.specs.Merge.{Edge, edge, merged, agrees, merge_keeps, on_dial, feed_tests, limits, merge}
-use Rattle.fold_theory.specs.LimitLaws.{PairSearched, narrow_few}
-use Rattle.fold_theory.specs.PairLaws.{dial_of}
-use Rattle.fold_theory.specs.SoundLaws.{merged_ok}
-use Rattle.fold_theory.specs.AlignedLaws.{EdgeOk}
+use Rattle.fold_theory.proofs.LimitLaws.{PairSearched, narrow_few}
+use Rattle.fold_theory.proofs.PairLaws.{dial_of}
+use Rattle.fold_theory.proofs.SoundLaws.{merged_ok}
+use Rattle.fold_theory.proofs.AlignedLaws.{EdgeOk}
 use Rattle.pair_theory.specs.Alignments.{alignment_of, merged_of, Mergeable}
-use Rattle.pair_theory.specs.AlignmentLaws.{merged_is, mergeable}
+use Rattle.pair_theory.proofs.AlignmentLaws.{merged_is, mergeable}
 use Rattle.fold_edges.specs.Edges.{edge_in, GateReads}
 use Rattle.fold_edges.specs.Codes.{first_failing, edge_tests, edge_tests_in}
 use Rattle.fold_edges.specs.CodeLaws.{code_passed, code_refused, code_checks}

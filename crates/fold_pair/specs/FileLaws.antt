@@ -4,8 +4,8 @@ use Rattle.std.proofs.Common.{sym, ap, ◌∙◌}
 use Rattle.basics.specs.Refusals.{Answer, accepted, refused, bind}
 use Rattle.network.specs.declared.Network.{Network}
 use Rattle.fold_theory.specs.Pair.{Pair, pair}
-use Rattle.fold_theory.specs.RefusalLaws.{Numbered}
-use Rattle.fold_theory.specs.NumberLaws.{pair_numbered}
+use Rattle.fold_theory.proofs.RefusalLaws.{Numbered}
+use Rattle.fold_theory.proofs.NumberLaws.{pair_numbered}
 use Rattle.pmn_opening.specs.Places.{answer_of}
 use Rattle.pmn_opening.specs.Opening.{FileOpen}
 use Rattle.pmn_opening.specs.OpeningLaws.{open_on}

@@ -10,9 +10,9 @@ use Rattle.network.specs.declared.Network.{Network}
 use Rattle.fold_theory.specs.Merge.{Edge, distinct, narrow}
 use Rattle.fold_theory.specs.Pair.{pairs, qualifies, first, pair_tests, pair_of, pair}
 use Rattle.fold_theory.specs.Aligned.{Aligned, qualifies_on}
-use Rattle.fold_theory.specs.AlignedLaws.{EdgeOk, first_on}
+use Rattle.fold_theory.proofs.AlignedLaws.{EdgeOk, first_on}
 use Rattle.pair_theory.specs.Alignments.{alignment_of, aligned_in}
-use Rattle.pair_theory.specs.AlignmentLaws.{aligned_in_lem}
+use Rattle.pair_theory.proofs.AlignmentLaws.{aligned_in_lem}
 use Rattle.fold_edges.specs.Edges.{edge_in}
 use Rattle.fold_edges.specs.Codes.{first_failing, edge_tests_in}
 use Rattle.fold_merge.specs.CallLaws.{on_gates, call_broken, call_apart, call_joined}

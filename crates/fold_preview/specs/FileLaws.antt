@@ -7,8 +7,8 @@ use Rattle.network.specs.declared.Network.{Network}
 use Rattle.network_report.specs.Size.{sizes, report_of}
 use Rattle.network_report.specs.declared.SizeReport.{SizeReport}
 use Rattle.fold_theory.specs.Collapse.{collapse}
-use Rattle.fold_theory.specs.RefusalLaws.{Numbered}
-use Rattle.fold_theory.specs.NumberLaws.{collapse_numbered}
+use Rattle.fold_theory.proofs.RefusalLaws.{Numbered}
+use Rattle.fold_theory.proofs.NumberLaws.{collapse_numbered}
 use Rattle.fold_merge.specs.AnswerLaws.{on_layout}
 use Rattle.pmn_opening.specs.Places.{answer_of, size_places}
 use Rattle.pmn_opening.specs.Opening.{FileOpen}

@@ -12,9 +12,9 @@ use Rattle.network.specs.Record.{net_of, layout, sound_record}
 use Rattle.network.specs.RecordLaws.{sound_layout}
 use Rattle.network.specs.declared.Network.{Network}
 use Rattle.network_report.specs.Size.{report_of, reported}
-use Rattle.network_report.specs.ReportLaws.{report_layout}
+use Rattle.network_report.proofs.ReportLaws.{report_layout}
 use Rattle.fold_theory.specs.Collapse.{collapse}
-use Rattle.fold_theory.specs.StepLaws.{collapse_kept}
+use Rattle.fold_theory.proofs.StepLaws.{collapse_kept}
 use Rattle.fold_merge.specs.Answers.{on_record}
 use Rattle.fold_preview.specs.Preview.{previewed}
 

@@ -23,10 +23,10 @@ use Rattle.network.specs.declared.Network.{Network}
 use Rattle.fold_theory.specs.Merge.{Edge, edge_of, edge, silent, reads, merged, narrow, merge_keeps}
 use Rattle.fold_theory.specs.Pair.{Pair, qualifies, pair_of}
 use Rattle.fold_theory.specs.Collapse.{merged_reader, merged_readers, collapsed}
-use Rattle.fold_theory.specs.RefusalLaws.{Numbered}
-use Rattle.fold_theory.specs.NumberLaws.{pair_of_numbered}
-use Rattle.fold_theory.specs.SoundLaws.{merged_ok, reader_above}
-use Rattle.fold_theory.specs.PairLaws.{qualified_of, dial_of, pair_of_found}
+use Rattle.fold_theory.proofs.RefusalLaws.{Numbered}
+use Rattle.fold_theory.proofs.NumberLaws.{pair_of_numbered}
+use Rattle.fold_theory.proofs.SoundLaws.{merged_ok, reader_above}
+use Rattle.fold_theory.proofs.PairLaws.{qualified_of, dial_of, pair_of_found}
 use Rattle.fold_pair.specs.Answers.{as_pair}
 use Rattle.fold_reader_pairs.specs.Collapsing.{edge_to, no_pair, reader_pair, with_pair, all_merged, pair_at, AllPairs, ReaderPairs}
 use Rattle.fold_reader_pairs.specs.Collapsing.{gates_with_pairs, collapsed_by}

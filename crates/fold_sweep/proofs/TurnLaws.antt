@@ -20,7 +20,7 @@ use Rattle.fold_theory.specs.Sweep.{readers, or_else, sweep_from, sweep_once}
 use Rattle.fold_reader_pairs.specs.declared.Pairs.{Pairs}
 use Rattle.fold_readers.specs.Readers.{occurs}
 use Rattle.fold_unchanged.specs.Unchanged.{RefusedBy}
-use Rattle.fold_unchanged.specs.UnchangedLaws.{refused_collapse}
+use Rattle.fold_unchanged.proofs.UnchangedLaws.{refused_collapse}
 use Rattle.fold_reader_pairs.specs.Collapsing.{AllPairs, collapsed_by}
 use Rattle.fold_reader_pairs.specs.CollapsingLaws.{collapsed_pairs}
 use Rattle.fold_readers.specs.RecordLaws.{sound_gate}

@@ -18,10 +18,10 @@ use Rattle.network.specs.ChangeLaws.{raised_near, raised_other, lowered_raised, 
 use Rattle.network.specs.declared.Network.{Network}
 use Rattle.fold_theory.specs.Merge.{Edge, edge, silent, reads}
 use Rattle.fold_theory.specs.Pair.{pair_of}
-use Rattle.fold_theory.specs.LowerLaws.{DoesNotRead, silent_free}
-use Rattle.fold_theory.specs.StepLaws.{collapse_kept}
+use Rattle.fold_theory.proofs.LowerLaws.{DoesNotRead, silent_free}
+use Rattle.fold_theory.proofs.StepLaws.{collapse_kept}
 use Rattle.fold_unchanged.specs.Unchanged.{RefusedBy}
-use Rattle.fold_unchanged.specs.UnchangedLaws.{collapse_inputs, refusal_stands}
+use Rattle.fold_unchanged.proofs.UnchangedLaws.{collapse_inputs, refusal_stands}
 use Rattle.fold_reader_pairs.specs.Collapsing.{edge_to, pair_at, AllPairs, ReaderRefuses, collapsed_by}
 use Rattle.fold_reader_pairs.specs.CollapsingLaws.{pair_zero, pair_refused, edge_to_net}
 use Rattle.fold_reader_pairs.specs.declared.Pairs.{Pairs}

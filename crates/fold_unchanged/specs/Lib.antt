@@ -1,3 +1,1 @@
 pub mod Unchanged
-pub mod LoweredLaws
-pub mod UnchangedLaws

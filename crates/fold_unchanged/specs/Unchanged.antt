@@ -9,7 +9,7 @@ use Rattle.network.specs.Sound.{Has}
 use Rattle.fold_theory.specs.Merge.{Edge, edge_of, edge, reads}
 use Rattle.fold_theory.specs.Pair.{Pair, pairs, first, pair_of}
 use Rattle.fold_theory.specs.Aligned.{Aligned, qualifies_on}
-use Rattle.fold_theory.specs.LowerLaws.{DoesNotRead}
+use Rattle.fold_theory.proofs.LowerLaws.{DoesNotRead}
 
 -- the two gates of an edge after the gate with signal gone is gone
 unfoldable pub lowered_edge : ℕ → Edge → Edge

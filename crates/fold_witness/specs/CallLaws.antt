@@ -8,7 +8,7 @@ use Rattle.network.specs.Record.{net_of, sound_record}
 use Rattle.network.specs.SoundLaws.{sound_board}
 use Rattle.network.specs.declared.Network.{Network}
 use Rattle.fold_theory.specs.Merge.{Edge, edge, distinct, agrees_at}
-use Rattle.fold_theory.specs.AlignedLaws.{EdgeOk}
+use Rattle.fold_theory.proofs.AlignedLaws.{EdgeOk}
 use Rattle.pair_theory.specs.Alignments.{alignment_of}
 use Rattle.fold_readers.specs.ArrayLaws.{lent_of}
 use Rattle.fold_edges.specs.Edges.{edge_in}

@@ -11,7 +11,7 @@ use Rattle.basics.specs.TestLaws.{is_true, eqb_no}
 use Rattle.network.specs.Threshold.{Assignment}
 use Rattle.network.specs.Sound.{Rise}
 use Rattle.fold_theory.specs.Merge.{Edge, distinct, setting, agrees_at}
-use Rattle.fold_theory.specs.AlignedLaws.{EdgeOk, distinct_rise}
+use Rattle.fold_theory.proofs.AlignedLaws.{EdgeOk, distinct_rise}
 use Rattle.pair_witness.specs.Fewest.{Fewest}
 use Rattle.fold_witness.specs.Witness.{lit}
 

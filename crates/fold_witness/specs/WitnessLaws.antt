@@ -7,9 +7,9 @@ use Rattle.basics.specs.Refusals.{◌else◌}
 use Rattle.basics.specs.ListLaws.{below_no}
 use Rattle.fold_theory.specs.Merge.{Edge, distinct, agrees_at}
 use Rattle.fold_theory.specs.Aligned.{Aligned, agrees_on, clears_on}
-use Rattle.fold_theory.specs.AlignedLaws.{EdgeOk, agrees_at_on}
+use Rattle.fold_theory.proofs.AlignedLaws.{EdgeOk, agrees_at_on}
 use Rattle.pair_theory.specs.Alignments.{alignment_of, aligned_in, Searchable}
-use Rattle.pair_theory.specs.AlignmentLaws.{aligned_in_lem}
+use Rattle.pair_theory.proofs.AlignmentLaws.{aligned_in_lem}
 use Rattle.pair_theory.specs.declared.Alignment.{Alignment}
 use Rattle.pair_agreement.specs.Agreement.{plainly}
 use Rattle.pair_agreement.specs.GateLaws.{every_setting, plain_on, plain_all}

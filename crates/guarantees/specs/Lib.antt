@@ -8,15 +8,3 @@ pub mod Thirteen
 pub mod Witnesses
 pub mod Frames
 pub mod Cuts
-pub mod FileLaws
-pub mod QuestionLaws
-pub mod ListLaws
-pub mod AnswerLaws
-pub mod RecordLaws
-pub mod JournalLaws
-pub mod PairLaws
-pub mod PreviewLaws
-pub mod ThirteenLaws
-pub mod WitnessLaws
-pub mod FrameLaws
-pub mod CutLaws

@@ -3,8 +3,3 @@ pub mod Records
 pub mod Answers
 pub mod Parts
 pub mod StepPlaces
-pub mod ShiftLaws
-pub mod PartsLaws
-pub mod JournalLaws
-pub mod AnswerLaws
-pub mod CallLaws

@@ -8,7 +8,7 @@ use Rattle.network.specs.declared.GateRecord.{GateRecord}
 use Rattle.journal.specs.Journals.{with_step}
 use Rattle.journal.specs.Parts.{journal_parts}
 use Rattle.journal_entry.specs.Entering.{ShiftedUp, StepEntered}
-use Rattle.journal.specs.ShiftLaws.{join_low, join_high}
+use Rattle.journal.proofs.ShiftLaws.{join_low, join_high}
 
 -- nothing moved
 pub raised_none : {A : Type 0} (d : A) (gap : ℕ) (l : List A) → ShiftedUp d gap (length l) l l

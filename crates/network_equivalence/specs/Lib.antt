@@ -1,2 +1,1 @@
 pub mod Consistent
-pub mod ConsistentLaws

@@ -11,7 +11,7 @@ use Rattle.basics.specs.TestLaws.{is_true, and_true, and_false_right, eqb_no}
 use Rattle.basics.specs.ListLaws.{at_below, below_no}
 use Rattle.network.specs.Limits.{in_scale}
 use Rattle.fold_theory.specs.Aligned.{Aligned, mix, mixed_threshold, without_margins, agrees_on, agrees_all, clears_on, clears_all, mixed_weight, scale_fits}
-use Rattle.fold_theory.specs.MarginLaws.{plain_same}
+use Rattle.fold_theory.proofs.MarginLaws.{plain_same}
 use Rattle.pair_theory.specs.declared.Alignment.{Alignment}
 use Rattle.pair_theory.specs.Alignments.{aligned_in, Searchable}
 use Rattle.gate_sums.specs.Tables.{sum_at}

@@ -14,7 +14,7 @@ use Rattle.basics.specs.ListLaws.{length_keep, length_range, range_more, get_or_
 use Rattle.network.specs.Threshold.{Feed}
 use Rattle.network.specs.Limits.{is_zero}
 use Rattle.fold_theory.specs.Merge.{Edge, weight_of, among, distinct}
-use Rattle.fold_theory.specs.AlignedLaws.{EdgeOk, reads_weight, u_apart}
+use Rattle.fold_theory.proofs.AlignedLaws.{EdgeOk, reads_weight, u_apart}
 use Rattle.pair_theory.specs.Alignments.{weight_table, with_u}
 use Rattle.basics.specs.PlaceLaws.{set_tab, keep_last, places_none, places_last, places_full, placed_last, placed_full}
 use Rattle.pair_theory.specs.declared.Alignment.{Alignment}

@@ -15,7 +15,7 @@ use Rattle.network.specs.Record.{gate_record}
 use Rattle.network.specs.declared.GateRecord.{GateRecord}
 use Rattle.fold_theory.specs.Aligned.{mix, mixed_threshold, mixed_weight}
 use Rattle.pair_theory.specs.Alignments.{aligned_in, mixed_feed, merged_of, Mergeable}
-use Rattle.pair_theory.specs.AlignmentLaws.{gate_places_lem}
+use Rattle.pair_theory.proofs.AlignmentLaws.{gate_places_lem}
 use Rattle.pair_mixing.specs.Mixing.{Mixable}
 use Rattle.basics.specs.PlaceLaws.{keep_last, map_last, places_none, placed_last}
 use Rattle.pair_theory.specs.declared.Alignment.{Alignment}

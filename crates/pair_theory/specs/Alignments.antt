@@ -9,7 +9,7 @@ use Rattle.network.specs.declared.Board.{Board}
 use Rattle.network.specs.declared.GateRecord.{GateRecord}
 use Rattle.fold_theory.specs.Merge.{Edge, edge_of, weight_of, distinct}
 use Rattle.fold_theory.specs.Aligned.{Aligned, aligned, fed_by, mixed_threshold, mixed_weight}
-use Rattle.fold_theory.specs.AlignedLaws.{EdgeOk}
+use Rattle.fold_theory.proofs.AlignedLaws.{EdgeOk}
 use Rattle.fold_theory.specs.declared.Thresholds.{Thresholds}
 use Rattle.pair_theory.specs.declared.Alignment.{Alignment}
 

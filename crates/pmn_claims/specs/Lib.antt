@@ -4,9 +4,3 @@ pub mod Runs
 pub mod Margins
 pub mod Converter
 pub mod Cuts
-pub mod ReadLaws
-pub mod AnswerLaws
-pub mod RunLaws
-pub mod MarginLaws
-pub mod ConverterLaws
-pub mod CutLaws

@@ -9,11 +9,11 @@ use Rattle.basics.specs.TestLaws.{is_true}
 use Rattle.network.specs.Threshold.{Net}
 use Rattle.network.specs.Sound.{Sound}
 use Rattle.pmn_format.specs.Format.{Read, done, file_bytes, parse_file}
-use Rattle.pmn_format.specs.WriteReadLaws.{file_read}
-use Rattle.pmn_format.specs.ReadWriteLaws.{file_of_lem}
+use Rattle.pmn_format.proofs.WriteReadLaws.{file_read}
+use Rattle.pmn_format.proofs.ReadWriteLaws.{file_of_lem}
 use Rattle.pmn_opening.specs.Files.{as_answer, read_net}
 use Rattle.pmn_versions.specs.Versions.{convertible, converted}
-use Rattle.pmn_versions.specs.VersionLaws.{other_back, converted_sound, converted_twice}
+use Rattle.pmn_versions.proofs.VersionLaws.{other_back, converted_sound, converted_twice}
 use Rattle.pmn_converter.specs.Conversion.{conversion, conversion_of}
 use Rattle.pmn_converter.specs.Claims.{ThereAndBack}
 use Rattle.pmn_converter.specs.ConversionLaws.{conversion_on}

@@ -14,7 +14,7 @@ use Rattle.pmn_writer.specs.declared.Written.{Written}
 use Rattle.pmn_files.specs.Files.{file_in}
 use Rattle.pmn_versions.specs.Versions.{convertible, converted}
 use Rattle.pmn_versions.specs.OtherRecord.{other_record}
-use Rattle.pmn_versions.specs.VersionLaws.{other_sound}
+use Rattle.pmn_versions.proofs.VersionLaws.{other_sound}
 use Rattle.pmn_converter.specs.Conversion.{conversion, as_converted}
 use Rattle.pmn_converter.specs.declared.Converted.{Converted}
 

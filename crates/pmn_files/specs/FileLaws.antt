@@ -7,7 +7,7 @@ use Rattle.network.specs.Threshold.{Net}
 use Rattle.network.specs.Record.{net_of, sound_record}
 use Rattle.network.specs.declared.Network.{Network}
 use Rattle.network_report.specs.Size.{sizes, report_of, reported}
-use Rattle.network_report.specs.ReportLaws.{report_layout}
+use Rattle.network_report.proofs.ReportLaws.{report_layout}
 use Rattle.network_report.specs.declared.SizeReport.{SizeReport}
 use Rattle.pmn_format.specs.Format.{file_bytes}
 use Rattle.pmn_writer.specs.Answers.{write_answer, as_written, written, bytes_after}

@@ -14,8 +14,8 @@ use Rattle.network.specs.Changes.{gate_at}
 use Rattle.network.specs.declared.Network.{Network}
 use Rattle.pmn_format.specs.Format.{Read}
 use Rattle.pmn_format.specs.Part.{part_in, part_of_read, part_answer, as_part}
-use Rattle.pmn_format.specs.PartLaws.{part_stray, part_found}
-use Rattle.pmn_format.specs.LengthLaws.{gate_bytes_length}
+use Rattle.pmn_format.proofs.PartLaws.{part_stray, part_found}
+use Rattle.pmn_format.proofs.LengthLaws.{gate_bytes_length}
 use Rattle.pmn_opening.specs.Files.{room, length_of}
 use Rattle.pmn_opening.specs.Places.{answer_of}
 use Rattle.pmn_opening.specs.Opening.{FileOpen}

@@ -2,15 +2,3 @@ pub mod Format
 pub mod Lengths
 pub mod Part
 pub mod Answered
-pub mod AtLaws
-pub mod TurnLaws
-pub mod HeadLaws
-pub mod ScaleLaws
-pub mod StepLaws
-pub mod AnsweredLaws
-pub mod BoardLaws
-pub mod WriteReadLaws
-pub mod ReadWriteLaws
-pub mod CodeLaws
-pub mod LengthLaws
-pub mod PartLaws

@@ -10,7 +10,7 @@ use Rattle.basics.specs.ListLaws.{tab_replicate}
 use Rattle.network.specs.Threshold.{Feed}
 use Rattle.network.specs.Record.{no_feed, gate_record}
 use Rattle.pmn_format.specs.Format.{refused, done, parse_feeds}
-use Rattle.pmn_format.specs.TurnLaws.{feeds_refused, feeds_more, feeds_ended}
+use Rattle.pmn_format.proofs.TurnLaws.{feeds_refused, feeds_more, feeds_ended}
 use Rattle.pmn_gate.specs.declared.FeedRead.TheVariants.{Bad, Got}
 use Rattle.pmn_format.specs.Answered.{ReadAnswered, mapped}
 use Rattle.pmn_gate.specs.GateAnswers.{FeedAnswered, gate_places}

@@ -18,12 +18,12 @@ use Rattle.network.specs.MarginLaws.{keeps_plain, on_scale_lem}
 use Rattle.network.specs.declared.Board.{Board}
 use Rattle.network.specs.declared.GateRecord.{GateRecord}
 use Rattle.pmn_format.specs.Format.{Read, refused, done, check, and_then, parse_feeds, Bytes}
-use Rattle.pmn_format.specs.AtLaws.{gate_kept, parse_kept}
-use Rattle.pmn_format.specs.ScaleLaws.{of_scales}
-use Rattle.pmn_format.specs.ReadWriteLaws.{FeedsOf, feeds_of_lem}
+use Rattle.pmn_format.proofs.AtLaws.{gate_kept, parse_kept}
+use Rattle.pmn_format.proofs.ScaleLaws.{of_scales}
+use Rattle.pmn_format.proofs.ReadWriteLaws.{FeedsOf, feeds_of_lem}
 use Rattle.pmn_format.specs.Answered.{ReadAnswered, read_or_refusal, mapped}
 use Rattle.pmn_gate.specs.GateAnswers.{gate_places}
-use Rattle.pmn_format.specs.AnsweredLaws.{found, seen_through}
+use Rattle.pmn_format.proofs.AnsweredLaws.{found, seen_through}
 
 -- ---- the margins of version 1: every gate keeps them
 module _ (b : Board) (own count : ℕ) (t : ℤ) (l : List ℕ) (on : b.on ≡ 0) (off : b.off ≡ 1) where

@@ -3,7 +3,7 @@ ghost use Rattle.std.specs.Prelude.{◌≡◌, [], ◌≤◌, T, length, drop};
 ghost use Rattle.network.specs.Limits.{in_scale};
 ghost use Rattle.network.specs.Record.{gate_record};
 ghost use Rattle.pmn_format.specs.Format.{parse_feeds, parse_gate};
-ghost use Rattle.pmn_format.specs.AtLaws.{parse_kept};
+ghost use Rattle.pmn_format.proofs.AtLaws.{parse_kept};
 ghost use Rattle.pmn_format.specs.Answered.{ReadAnswered};
 ghost use Rattle.pmn_gate.specs.GateAnswers.{FeedAnswered, gate_places};
 

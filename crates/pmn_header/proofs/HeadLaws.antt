@@ -5,7 +5,7 @@ use Prim.Native.Nat.{ℕ, ◌<◌}
 use native.Mathlib.Omega.{arith}
 use Rattle.network.specs.Threshold.{Net}
 use Rattle.pmn_format.specs.Format.{Read, refused}
-use Rattle.pmn_format.specs.AnsweredLaws.{by_refusal}
+use Rattle.pmn_format.proofs.AnsweredLaws.{by_refusal}
 use Rattle.pmn_header.specs.declared.HeadRead.{HeadRead}
 use Rattle.pmn_header.specs.HeadAnswers.{body_after, HeadAnswered}
 

@@ -1,7 +1,7 @@
 // Reading the parts of a header: the mark and the version, the board, then the counts. They serve the reader.
 ghost use Rattle.std.specs.Prelude.{◌≡◌, ◌≤◌, length, drop};
 ghost use Rattle.pmn_format.specs.Format.{parse_counts, parse_file};
-ghost use Rattle.pmn_format.specs.HeadLaws.{read_board, parse_count};
+ghost use Rattle.pmn_format.proofs.HeadLaws.{read_board, parse_count};
 ghost use Rattle.pmn_format.specs.Answered.{ReadAnswered, itself};
 ghost use Rattle.pmn_header.specs.HeadAnswers.{HeadAnswered};
 

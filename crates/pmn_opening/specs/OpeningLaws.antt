@@ -12,7 +12,7 @@ use Rattle.network.specs.Record.{net_of, sound_record}
 use Rattle.network.specs.RecordLaws.{net_of_layout, sound_layout}
 use Rattle.network.specs.declared.Network.{Network}
 use Rattle.pmn_format.specs.Format.{Read, done, parse_file}
-use Rattle.pmn_format.specs.LengthLaws.{bytes_of}
+use Rattle.pmn_format.proofs.LengthLaws.{bytes_of}
 use Rattle.pmn_reader.specs.Answers.{as_loaded, loaded}
 use Rattle.pmn_reader.specs.OpenLaws.{read_opened, loaded_net, opened_sound}
 use Rattle.pmn_reader.specs.declared.Loaded.{Loaded}

@@ -1,6 +1,6 @@
 // The bytes of one gate in its file, found by the file's own count bytes.
 ghost use Rattle.std.specs.Prelude.{◌≡◌};
-ghost use Rattle.pmn_format.specs.PartLaws.{start_by, GateFile};
+ghost use Rattle.pmn_format.proofs.PartLaws.{start_by, GateFile};
 ghost use Rattle.pmn_part.specs.Parts.{part_by};
 
 use basics::wide;

@@ -7,11 +7,11 @@ use Rattle.network.specs.Record.{layout}
 use Rattle.network.specs.declared.Board.{Board}
 use Rattle.network.specs.declared.Network.{Network}
 use Rattle.pmn_format.specs.Format.{refused, parse_gates, parse_outputs, parse_body}
-use Rattle.pmn_format.specs.HeadLaws.{body_gates_refused, body_outputs_refused, body_tail, body_done}
+use Rattle.pmn_format.proofs.HeadLaws.{body_gates_refused, body_outputs_refused, body_tail, body_done}
 use Rattle.pmn_reader.specs.Answers.{as_loaded}
 use Rattle.pmn_format.specs.Answered.{ReadAnswered}
 use Rattle.pmn_reader.specs.ReadAnswers.{gates_record, output_places}
-use Rattle.pmn_format.specs.AnsweredLaws.{found, failed}
+use Rattle.pmn_format.proofs.AnsweredLaws.{found, failed}
 
 -- a record with outputs
 abbrev pub with_outputs : Network → ℕ → List ℕ → Network

@@ -14,10 +14,10 @@ use Rattle.network.specs.Places.{GateStored, ArraysOf}
 use Rattle.network.specs.PlaceLaws.{changed_end, no_arrays, no_drivers}
 use Rattle.network_places.specs.StoreLaws.{stored_gates}
 use Rattle.pmn_format.specs.Format.{refused, done, parse_gate, parse_gates}
-use Rattle.pmn_format.specs.TurnLaws.{gates_refused, gates_more, gates_ended}
+use Rattle.pmn_format.proofs.TurnLaws.{gates_refused, gates_more, gates_ended}
 use Rattle.pmn_format.specs.Answered.{ReadAnswered, mapped}
 use Rattle.pmn_reader.specs.ReadAnswers.{gates_record}
-use Rattle.pmn_format.specs.AnsweredLaws.{Found}
+use Rattle.pmn_format.proofs.AnsweredLaws.{Found}
 
 -- after g of count gates: the arrays hold them, and what is left to read stands at a place
 pub record GatesSoFar (s : List ℕ) (board : Board) (start inputs count : ℕ) (fanins signals : List ℕ) (weights thresholds : List ℤ)

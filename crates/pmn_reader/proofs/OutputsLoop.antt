@@ -10,7 +10,7 @@ use Rattle.network.specs.Limits.{gate_signal}
 use Rattle.network.specs.Record.{drivers_of}
 use Rattle.network.specs.PlaceLaws.{drivers_end, no_drivers}
 use Rattle.pmn_format.specs.Format.{refused, done, parse_outputs}
-use Rattle.pmn_format.specs.TurnLaws.{outputs_short, outputs_more, outputs_ended}
+use Rattle.pmn_format.proofs.TurnLaws.{outputs_short, outputs_more, outputs_ended}
 use Rattle.pmn_format.specs.Answered.{ReadAnswered, mapped}
 use Rattle.pmn_reader.specs.ReadAnswers.{output_places}
 

@@ -17,11 +17,11 @@ use Rattle.network.specs.Record.{layout}
 use Rattle.network.specs.Changes.{gate_at}
 use Rattle.pmn_format.specs.Format.{Read, refused, done, gate_bytes, file_bytes, parse_file, Bytes}
 use Rattle.pmn_format.specs.Part.{part_answer, as_part}
-use Rattle.pmn_format.specs.CodeLaws.{refused_positive}
-use Rattle.pmn_format.specs.ReadWriteLaws.{file_of_lem}
-use Rattle.pmn_format.specs.BoardLaws.{header_long}
-use Rattle.pmn_format.specs.LengthLaws.{file_bytes_length, file_long}
-use Rattle.pmn_format.specs.PartLaws.{first_start, first_start_is, inputs_at, GateFile, part_refused, part_stray, part_found, part_by_lem}
+use Rattle.pmn_format.proofs.CodeLaws.{refused_positive}
+use Rattle.pmn_format.proofs.ReadWriteLaws.{file_of_lem}
+use Rattle.pmn_format.proofs.BoardLaws.{header_long}
+use Rattle.pmn_format.proofs.LengthLaws.{file_bytes_length, file_long}
+use Rattle.pmn_format.proofs.PartLaws.{first_start, first_start_is, inputs_at, GateFile, part_refused, part_stray, part_found, part_by_lem}
 use Rattle.pmn_part.specs.Parts.{part_by}
 use Rattle.pmn_reader.specs.declared.Loaded.{Loaded}
 use Rattle.pmn_reader.specs.Answers.{as_loaded, loaded}

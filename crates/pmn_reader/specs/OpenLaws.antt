@@ -5,8 +5,8 @@ use Rattle.network.specs.Threshold.{Net}
 use Rattle.network.specs.Record.{layout}
 use Rattle.network.specs.Sound.{Sound}
 use Rattle.pmn_format.specs.Format.{Read, refused, done, Bytes, file_bytes, parse_file}
-use Rattle.pmn_format.specs.CodeLaws.{refused_positive}
-use Rattle.pmn_format.specs.ReadWriteLaws.{file_of_lem}
+use Rattle.pmn_format.proofs.CodeLaws.{refused_positive}
+use Rattle.pmn_format.proofs.ReadWriteLaws.{file_of_lem}
 use Rattle.pmn_reader.specs.Answers.{as_loaded, loaded}
 
 -- an accepted file has a network

@@ -1,3 +1,2 @@
 pub mod Versions
 pub mod OtherRecord
-pub mod VersionLaws

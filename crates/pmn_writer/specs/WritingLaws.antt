@@ -15,7 +15,7 @@ use Rattle.network.specs.PlaceLaws.{length_gate_from}
 use Rattle.network.specs.RecordLaws.{count_outputs}
 use Rattle.pmn_format.specs.Format.{gate_bytes, gates_bytes, counted_header, file_bytes}
 use Rattle.pmn_format.specs.Lengths.{header_length}
-use Rattle.pmn_format.specs.LengthLaws.{gate_bytes_length, gates_bytes_append, file_bytes_length}
+use Rattle.pmn_format.proofs.LengthLaws.{gate_bytes_length, gates_bytes_append, file_bytes_length}
 use Rattle.pmn_writing.specs.Parts.{first_outputs}
 use Rattle.pmn_writing.specs.PartLaws.{tab_more}
 use Rattle.pmn_writer.specs.Writing.{first_gates, gates_length}

@@ -12,7 +12,7 @@ use Rattle.network.specs.declared.GateRecord.{GateRecord}
 use Rattle.network.specs.Record.{feed_at, feeds_from, gate_in}
 use Rattle.network.specs.PlaceLaws.{length_feeds}
 use Rattle.pmn_format.specs.Format.{feed_bytes, feeds_bytes, gate_bytes, mark_bytes}
-use Rattle.pmn_format.specs.LengthLaws.{feeds_bytes_length, feeds_bytes_append}
+use Rattle.pmn_format.proofs.LengthLaws.{feeds_bytes_length, feeds_bytes_append}
 use Rattle.pmn_writing.specs.Parts.{first_feeds, first_outputs}
 
 -- a table with one member more

@@ -2,12 +2,3 @@ pub mod Sum
 pub mod Counting
 pub mod Claims
 pub mod Example
-pub mod SumLaws
-pub mod BitLaws
-pub mod ChoiceLaws
-pub mod GateLaws
-pub mod SettingLaws
-pub mod CountLaws
-pub mod OnceLaws
-pub mod ClaimLaws
-pub mod ExampleLaws

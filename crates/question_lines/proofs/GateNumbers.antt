@@ -10,7 +10,7 @@ use Rattle.basics.specs.SizeLaws.{size_add, size_sub, size_fits}
 use Rattle.network.specs.Record.{gate_in}
 use Rattle.network.specs.declared.GateRecord.{GateRecord}
 use Rattle.question_theory.specs.Question.{most, least}
-use Rattle.question_theory.specs.SizeLaws.{most_size, least_size}
+use Rattle.question_theory.proofs.SizeLaws.{most_size, least_size}
 use Rattle.question_terms.specs.Terms.{InLimits}
 use Rattle.network.specs.PlaceLaws.{length_gate_in}
 use Rattle.question_terms.specs.SumLaws.{small_back}

@@ -18,10 +18,10 @@ use Rattle.network.specs.SoundLaws.{sized_of}
 use Rattle.network.specs.declared.GateRecord.{GateRecord}
 use Rattle.network.specs.declared.Network.{Network}
 use Rattle.question_theory.specs.Question.{first_difference, question, variables, alike}
-use Rattle.question_theory.specs.AlikeLaws.{alike_inputs, alike_outputs}
+use Rattle.question_theory.proofs.AlikeLaws.{alike_inputs, alike_outputs}
 use Rattle.question_theory.specs.Text.{line_text, no_line, header_text, question_text}
-use Rattle.question_theory.specs.LineLaws.{question_length}
-use Rattle.question_theory.specs.SizeLaws.{ShortLine, question_narrow, line_short}
+use Rattle.question_theory.proofs.LineLaws.{question_length}
+use Rattle.question_theory.proofs.SizeLaws.{ShortLine, question_narrow, line_short}
 use Rattle.question_terms.specs.Terms.{InLimits}
 use Rattle.question_lines.specs.Lines.{Comparable, lines_of}
 

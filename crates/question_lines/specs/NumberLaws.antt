@@ -10,7 +10,7 @@ use Rattle.network.specs.declared.Network.{Network}
 use Rattle.question_theory.specs.Question.{Line, upper, lower, second_variable, over_gate, some_line, not_both_line, last_line, first_difference, question}
 use Rattle.question_theory.specs.Text.{no_line}
 use Rattle.question_theory.specs.Question.{second_of}
-use Rattle.question_theory.specs.LineLaws.{last_line_lem}
+use Rattle.question_theory.proofs.LineLaws.{last_line_lem}
 use Rattle.question_terms.specs.Terms.{three_terms}
 use Rattle.question_lines.specs.Lines.{gate_line, output_line, Comparable, lines_of}
 use Rattle.question_lines.specs.LineLaws.{some_is, not_both_is}

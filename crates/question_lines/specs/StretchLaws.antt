@@ -10,7 +10,7 @@ use Rattle.network.specs.Threshold.{Feed, Gate, Net}
 use Rattle.network.specs.Record.{nth_gate}
 use Rattle.question_theory.specs.Question.{Line, term, upper, lower, second_variable, over_gate, question}
 use Rattle.question_theory.specs.Text.{no_line}
-use Rattle.question_theory.specs.LineLaws.{first_upper, first_lower, second_upper, second_lower, output_some, output_not_both}
+use Rattle.question_theory.proofs.LineLaws.{first_upper, first_lower, second_upper, second_lower, output_some, output_not_both}
 use Rattle.question_lines.specs.Lines.{gate_line, output_line}
 
 -- a value at an even and at an odd number

@@ -2,13 +2,3 @@ pub mod Question
 pub mod Text
 pub mod Meaning
 pub mod Demand
-pub mod MemberLaws
-pub mod LineLaws
-pub mod FrameLaws
-pub mod AlikeLaws
-pub mod SolutionLawsGates
-pub mod SolutionLawsOutputs
-pub mod SolutionLaws
-pub mod TextLaws
-pub mod SizeLaws
-pub mod MeaningLaws

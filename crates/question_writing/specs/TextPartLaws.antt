@@ -8,7 +8,7 @@ use Rattle.network.specs.Record.{feed_at, feeds_from}
 use Rattle.question_theory.specs.Question.{Line, term}
 use Rattle.question_theory.specs.Text.{coefficient, right_side, variable_name, term_text, terms_text, relation_text, line_text, variable_word}
 use Rattle.question_theory.specs.Text.{constraint_word, header_text}
-use Rattle.question_theory.specs.TextLaws.{terms_append}
+use Rattle.question_theory.proofs.TextLaws.{terms_append}
 use Rattle.question_terms.specs.FeedLaws.{feeds_more, feeds_split}
 
 -- ---- signed numbers

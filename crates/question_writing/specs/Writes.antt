@@ -3,8 +3,8 @@ use Rattle.std.specs.Prelude.{List, ℕ, ◌≤◌, length}
 use Rattle.basics.specs.Lists.{Each}
 use Rattle.network.specs.Threshold.{Feed}
 use Rattle.question_theory.specs.Text.{terms_text}
-use Rattle.question_theory.specs.TextLaws.{TermDigits}
-use Rattle.question_theory.specs.SizeLaws.{ShortLine}
+use Rattle.question_theory.proofs.TextLaws.{TermDigits}
+use Rattle.question_theory.proofs.SizeLaws.{ShortLine}
 use Rattle.question_terms.specs.declared.LineRecord.{LineRecord}
 use Rattle.question_terms.specs.Terms.{line_in}
 

@@ -6,7 +6,7 @@ use Rattle.basics.specs.RefusalLaws.{checks_next, checks_none}
 use Rattle.network.specs.Threshold.{Net}
 use Rattle.network.specs.Record.{sound_record}
 use Rattle.network.specs.declared.Network.{Network}
-use Rattle.fold_theory.specs.RefusalLaws.{Numbered, checks_never, bind_never}
+use Rattle.fold_theory.proofs.RefusalLaws.{Numbered, checks_never, bind_never}
 use Rattle.pmn_opening.specs.Places.{answer_of}
 use Rattle.pmn_opening.specs.Opening.{FileOpen}
 use Rattle.pmn_opening.specs.OpeningLaws.{file_sound, open_record, open_on}

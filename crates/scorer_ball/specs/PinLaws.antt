@@ -8,7 +8,7 @@ use Rattle.basics.specs.TestLaws.{T_is, test_same, T_and, and_T}
 use Rattle.network.specs.Threshold.{digit, word_of, ones_of}
 use Rattle.network.specs.WordLaws.{digit_below, ones_word}
 use Rattle.scorer_theory.specs.Rules.{pins_of, fresh_rack, has_raised_pin, felled_by}
-use Rattle.scorer_theory.specs.RuleLaws.{felled_ones}
+use Rattle.scorer_theory.proofs.RuleLaws.{felled_ones}
 use Rattle.scorer_ball.specs.Words.{bits_of, pins_in}
 
 -- ---- words and lists

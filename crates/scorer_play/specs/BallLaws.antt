@@ -5,7 +5,7 @@ use Rattle.basics.specs.Refusals.{Answer, accepted, refused, code_of, bind}
 use Rattle.basics.specs.RefusalLaws.{accepted≢refused, bind_accepted}
 use Rattle.basics.specs.TestLaws.{is_false, cond_case, or_false}
 use Rattle.scorer_theory.specs.Rules.{Pins, felled_by, Game, finished, with_ball, next_game, ball, felled_from}
-use Rattle.scorer_theory.specs.RuleLaws.{BallAccepted, ball_played}
+use Rattle.scorer_theory.proofs.RuleLaws.{BallAccepted, ball_played}
 use Rattle.scorer_ball.specs.Words.{pins_in}
 use Rattle.scorer_play.specs.Play.{word_pins, joined}
 

@@ -10,7 +10,7 @@ use Rattle.basics.specs.PlaceLaws.{places_none, places_last, take_places}
 use Rattle.basics.specs.Refusals.{Answer, accepted, refused, code_of, checks, bind}
 use Rattle.basics.specs.RefusalLaws.{checks_first, checks_next}
 use Rattle.scorer_theory.specs.Rules.{Pins, felled_by, Game, first_frame, next_game, ball, felled_from}
-use Rattle.scorer_theory.specs.RuleLaws.{BallAccepted}
+use Rattle.scorer_theory.proofs.RuleLaws.{BallAccepted}
 use Rattle.scorer_ball.specs.Words.{pins_in, game_of, SameRack, BallThrown}
 use Rattle.scorer_ball.specs.PinLaws.{fresh_word}
 use Rattle.scorer_ball.specs.declared.Lane.{Lane}

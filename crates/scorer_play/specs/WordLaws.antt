@@ -24,7 +24,7 @@ use Rattle.frame_batch.specs.Frames.{room_for, frame_words, frames_answer}
 use Rattle.scorer_theory.specs.Rules.{Pins, felled_by, Game, first_frame, next_game, felled_from}
 use Rattle.scorer_theory.specs.NetworkGames.{pins_on, game}
 use Rattle.scorer_theory.specs.Frames.{after_ball, game_after}
-use Rattle.scorer_theory.specs.RuleLaws.{bits_many}
+use Rattle.scorer_theory.proofs.RuleLaws.{bits_many}
 use Rattle.scorer_tally.specs.Sheets.{as_sheet}
 use Rattle.scorer_ball.specs.Words.{pins_in}
 use Rattle.scorer_ball.specs.PinLaws.{pins_word}

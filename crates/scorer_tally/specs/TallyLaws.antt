@@ -3,7 +3,7 @@ use Rattle.std.specs.Prelude.{◌≡◌, refl, List, [], ◌∷◌, ◌++◌, �
 use Rattle.std.proofs.Common.{sym, ap, ◌∙◌, append_assoc, append-nil, arith, length-append, length-drop, drop-drop}
 use Rattle.basics.specs.PlaceLaws.{places_none, places_last}
 use Rattle.scorer_theory.specs.Scores.{own_balls, counted_balls, total, frame_score, scores_from, running_scores}
-use Rattle.scorer_theory.specs.ScoreLaws.{FrameTakes, takes_strike, takes_spare, takes_open, scores_known, scores_unknown}
+use Rattle.scorer_theory.proofs.ScoreLaws.{FrameTakes, takes_strike, takes_spare, takes_open, scores_known, scores_unknown}
 use Rattle.scorer_tally.specs.Tally.{as_scored, FrameCounted, Scoring}
 use Rattle.scorer_tally.specs.declared.FrameCount.{FrameCount}
 

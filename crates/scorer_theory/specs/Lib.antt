@@ -4,9 +4,3 @@ pub mod NetworkGames
 pub mod Frames
 pub mod Games
 pub mod Highest
-pub mod RuleLaws
-pub mod ScoreLaws
-pub mod FrameLaws
-pub mod GrammarLaws
-pub mod GameLaws
-pub mod HighestLaws

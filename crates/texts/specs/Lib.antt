@@ -1,4 +1,2 @@
 pub mod Texts
 pub mod Writes
-pub mod DecimalLaws
-pub mod PutLaws

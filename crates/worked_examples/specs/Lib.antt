@@ -5,9 +5,3 @@ pub mod Games
 pub mod Networks
 pub mod Folds
 pub mod Runs
-pub mod FileLaws
-pub mod AlleyLaws
-pub mod GameLaws
-pub mod NetworkLaws
-pub mod FoldLaws
-pub mod RunLaws

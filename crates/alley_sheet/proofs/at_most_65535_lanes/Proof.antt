@@ -1,5 +1,5 @@
 -- By the law of the same matter. Assumes nothing.
-use Rattle.alley_theory.specs.LaneLaws.{lanes_claim}
+use Rattle.alley_theory.proofs.LaneLaws.{lanes_claim}
 use Rattle.alley_sheet.proofs.at_most_65535_lanes.Statement.{statement}
 use Rattle.alley_sheet.proofs.at_most_65535_lanes.Tie as tie
 

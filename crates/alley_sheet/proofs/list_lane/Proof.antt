@@ -7,7 +7,7 @@ use lib.ListN.{length}
 use Rattle.basics.specs.Refusals.{Answer, stored}
 use Rattle.alley_theory.specs.Alley.{Size}
 use Rattle.alley_theory.specs.Answers.{LaneStep, sound_totals, listed, room_tested, as_listed, text_of}
-use Rattle.alley_theory.specs.AnswerLaws.{refused_gives, idle_gives, unsound, shut, none_found, lane_found}
+use Rattle.alley_theory.proofs.AnswerLaws.{refused_gives, idle_gives, unsound, shut, none_found, lane_found}
 use Rattle.alley_sheet.proofs.list_lane.Statement.{statement}
 use Rattle.alley_sheet.proofs.list_lane.Tie as tie
 

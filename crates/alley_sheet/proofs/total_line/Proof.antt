@@ -6,10 +6,10 @@ use native.Mathlib.Omega.{arith}
 use lib.ListN.{length, take, drop}
 use lib.Seq.{take_at}
 use borrow.Author.Rules.{rules}
-use Rattle.texts.specs.PutLaws.{put_text, put_length}
+use Rattle.texts.proofs.PutLaws.{put_text, put_length}
 use Rattle.alley_theory.specs.Alley.{total_text}
 use Rattle.alley_theory.specs.Answers.{sums, as_sheet_line}
-use Rattle.alley_theory.specs.AnswerLaws.{total_long, total_given}
+use Rattle.alley_theory.proofs.AnswerLaws.{total_long, total_given}
 use Rattle.alley_sheet.proofs.total_line.Statement.{statement}
 use Rattle.alley_sheet.proofs.total_line.Tie as tie
 

@@ -5,7 +5,7 @@ use mathlib.Core.Path.{sym, ◌∙◌}
 use Rattle.network.specs.RecordLaws.{ArrayLengths}
 use Rattle.network_places.specs.PartsLaws.{lengths}
 use Rattle.call_theory.specs.Calls.{no_figures}
-use Rattle.journal.specs.AnswerLaws.{applied_broken}
+use Rattle.journal.proofs.AnswerLaws.{applied_broken}
 use Rattle.call_apply.proofs.apply.Statement.{statement}
 use Rattle.call_apply.proofs.apply.Tie as tie
 

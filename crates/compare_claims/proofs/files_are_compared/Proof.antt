@@ -1,5 +1,5 @@
 -- The claim is a law. Assumes nothing.
-use Rattle.compare_claims.specs.FileLaws.{files_claim}
+use Rattle.compare_claims.proofs.FileLaws.{files_claim}
 use Rattle.compare_claims.proofs.files_are_compared.Statement.{statement}
 use Rattle.compare_claims.proofs.files_are_compared.Tie as tie
 

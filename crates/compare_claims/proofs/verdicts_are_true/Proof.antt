@@ -1,5 +1,5 @@
 -- The claim is a law. Assumes nothing.
-use Rattle.compare_claims.specs.ClaimLaws.{compare_claim}
+use Rattle.compare_claims.proofs.ClaimLaws.{compare_claim}
 use Rattle.compare_claims.proofs.verdicts_are_true.Statement.{statement}
 use Rattle.compare_claims.proofs.verdicts_are_true.Tie as tie
 

@@ -1,5 +1,5 @@
 -- By computing. Assumes nothing.
-use Rattle.compare_claims.specs.ExampleLaws.{example_verdicts}
+use Rattle.compare_claims.proofs.ExampleLaws.{example_verdicts}
 use Rattle.compare_claims.proofs.verdicts_of_networks.Statement.{statement}
 use Rattle.compare_claims.proofs.verdicts_of_networks.Tie as tie
 

@@ -4,8 +4,8 @@ use borrow.Author.Tests.{not-true, not-false}
 use mathlib.Core.Path.{◌≡◌, sym, ap, ◌∙◌}
 use mathlib.Core.Bool.{true}
 use Rattle.journal.specs.Records.{sound_whole, just_read}
-use Rattle.journal.specs.AnswerLaws.{whole_network}
-use Rattle.cut_output.specs.AnswerLaws.{record_broken, record_stray, record_done}
+use Rattle.journal.proofs.AnswerLaws.{whole_network}
+use Rattle.cut_output.proofs.AnswerLaws.{record_broken, record_stray, record_done}
 use Rattle.cut_output.proofs.cut.Statement.{statement}
 use Rattle.cut_output.proofs.cut.Tie as tie
 

@@ -5,9 +5,9 @@ use borrow.Author.Tests.{not-true, not-false}
 use Rattle.basics.specs.TestLaws.{T_is}
 use Rattle.network.specs.Record.{sound_record}
 use Rattle.fold_theory.specs.Merge.{Edge}
-use Rattle.fold_theory.specs.AlignedLaws.{EdgeOk}
+use Rattle.fold_theory.proofs.AlignedLaws.{EdgeOk}
 use Rattle.pair_theory.specs.Alignments.{AlignmentOnScale}
-use Rattle.pair_theory.specs.AlignmentLaws.{aligned_fair}
+use Rattle.pair_theory.proofs.AlignmentLaws.{aligned_fair}
 use Rattle.pair_theory.specs.declared.Alignment.{Alignment}
 use Rattle.network.specs.SoundLaws.{sound_board}
 use Rattle.fold_readers.specs.Arrays.{SoundArrays}

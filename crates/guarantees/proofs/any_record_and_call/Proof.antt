@@ -1,5 +1,5 @@
 -- By the law of the same matter. Assumes nothing.
-use Rattle.guarantees.specs.RecordLaws.{record_claim}
+use Rattle.guarantees.proofs.RecordLaws.{record_claim}
 use Rattle.guarantees.proofs.any_record_and_call.Statement.{statement}
 use Rattle.guarantees.proofs.any_record_and_call.Tie as tie
 

@@ -1,5 +1,5 @@
 -- By the bench table. Assumes nothing.
-use Rattle.fold_theory.specs.BenchLaws.{bench_holds}
+use Rattle.fold_theory.proofs.BenchLaws.{bench_holds}
 use Rattle.guarantees.proofs.bench_gates.Statement.{statement}
 use Rattle.guarantees.proofs.bench_gates.Tie as tie
 

@@ -1,5 +1,5 @@
 -- By the law of the same matter. Assumes nothing.
-use Rattle.guarantees.specs.FrameLaws.{frames_claim}
+use Rattle.guarantees.proofs.FrameLaws.{frames_claim}
 use Rattle.guarantees.proofs.frames_in_one_pass.Statement.{statement}
 use Rattle.guarantees.proofs.frames_in_one_pass.Tie as tie
 

@@ -1,5 +1,5 @@
 -- By the law of lists of calls on records. Assumes nothing.
-use Rattle.guarantees.specs.ListLaws.{accepted_claim}
+use Rattle.guarantees.proofs.ListLaws.{accepted_claim}
 use Rattle.guarantees.proofs.lists_of_calls.Statement.{statement}
 use Rattle.guarantees.proofs.lists_of_calls.Tie as tie
 

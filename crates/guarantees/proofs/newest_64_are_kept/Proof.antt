@@ -1,5 +1,5 @@
 -- By the law of the same matter. Assumes nothing.
-use Rattle.guarantees.specs.JournalLaws.{newest_64}
+use Rattle.guarantees.proofs.JournalLaws.{newest_64}
 use Rattle.guarantees.proofs.newest_64_are_kept.Statement.{statement}
 use Rattle.guarantees.proofs.newest_64_are_kept.Tie as tie
 

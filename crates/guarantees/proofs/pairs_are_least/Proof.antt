@@ -1,5 +1,5 @@
 -- By the law of the same matter. Assumes nothing.
-use Rattle.guarantees.specs.PairLaws.{pair_on_lem}
+use Rattle.guarantees.proofs.PairLaws.{pair_on_lem}
 use Rattle.guarantees.proofs.pairs_are_least.Statement.{statement}
 use Rattle.guarantees.proofs.pairs_are_least.Tie as tie
 

@@ -1,7 +1,7 @@
 -- By the law of the same matter; a record's arrays have their lengths. Assumes nothing.
 use borrow.Author.Rules.{rules}
 use Rattle.network.specs.RecordLaws.{ArrayLengths}
-use Rattle.guarantees.specs.PreviewLaws.{preview_claim}
+use Rattle.guarantees.proofs.PreviewLaws.{preview_claim}
 use Rattle.guarantees.proofs.previews_are_reports.Statement.{statement}
 use Rattle.guarantees.proofs.previews_are_reports.Tie as tie
 

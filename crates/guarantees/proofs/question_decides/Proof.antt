@@ -1,5 +1,5 @@
 -- By the laws of the question. Assumes nothing.
-use Rattle.guarantees.specs.QuestionLaws.{questions}
+use Rattle.guarantees.proofs.QuestionLaws.{questions}
 use Rattle.guarantees.proofs.question_decides.Statement.{statement}
 use Rattle.guarantees.proofs.question_decides.Tie as tie
 

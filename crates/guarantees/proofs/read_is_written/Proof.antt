@@ -1,5 +1,5 @@
 -- By the law of the same name. Assumes nothing.
-use Rattle.guarantees.specs.FileLaws.{read_is_written}
+use Rattle.guarantees.proofs.FileLaws.{read_is_written}
 use Rattle.guarantees.proofs.read_is_written.Statement.{statement}
 use Rattle.guarantees.proofs.read_is_written.Tie as tie
 

@@ -3,7 +3,7 @@ use mathlib.Core.Path.{◌≡◌}
 use lib.ListN.{length}
 use borrow.Author.Rules.{rules}
 use Rattle.network.specs.RecordLaws.{ArrayLengths}
-use Rattle.guarantees.specs.FileLaws.{sound_is_described}
+use Rattle.guarantees.proofs.FileLaws.{sound_is_described}
 use Rattle.guarantees.proofs.sound_is_described.Statement.{statement}
 use Rattle.guarantees.proofs.sound_is_described.Tie as tie
 

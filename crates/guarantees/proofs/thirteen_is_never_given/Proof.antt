@@ -1,5 +1,5 @@
 -- By the law of the calls' numbers. Assumes nothing.
-use Rattle.guarantees.specs.ThirteenLaws.{never_thirteen}
+use Rattle.guarantees.proofs.ThirteenLaws.{never_thirteen}
 use Rattle.guarantees.proofs.thirteen_is_never_given.Statement.{statement}
 use Rattle.guarantees.proofs.thirteen_is_never_given.Tie as tie
 

@@ -1,5 +1,5 @@
 -- By the law of the same matter. Assumes nothing.
-use Rattle.guarantees.specs.WitnessLaws.{lights_fewest}
+use Rattle.guarantees.proofs.WitnessLaws.{lights_fewest}
 use Rattle.guarantees.proofs.witnesses_light_fewest.Statement.{statement}
 use Rattle.guarantees.proofs.witnesses_light_fewest.Tie as tie
 

@@ -3,7 +3,7 @@ use mathlib.Core.Path.{◌≡◌}
 use lib.ListN.{length}
 use borrow.Author.Rules.{rules}
 use Rattle.network.specs.RecordLaws.{ArrayLengths}
-use Rattle.guarantees.specs.FileLaws.{written_is_read}
+use Rattle.guarantees.proofs.FileLaws.{written_is_read}
 use Rattle.guarantees.proofs.written_is_read.Statement.{statement}
 use Rattle.guarantees.proofs.written_is_read.Tie as tie
 

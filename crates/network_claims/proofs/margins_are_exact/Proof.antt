@@ -1,5 +1,5 @@
 -- By the law of the same matter. Assumes nothing.
-use Rattle.network_claims.specs.MarginLaws.{margins_exact}
+use Rattle.network_claims.proofs.MarginLaws.{margins_exact}
 use Rattle.network_claims.proofs.margins_are_exact.Statement.{statement}
 use Rattle.network_claims.proofs.margins_are_exact.Tie as tie
 

@@ -1,5 +1,5 @@
 -- By the law of the same matter. Assumes nothing.
-use Rattle.network_claims.specs.FoldLaws.{all_merged_lem}
+use Rattle.network_claims.proofs.FoldLaws.{all_merged_lem}
 use Rattle.network_claims.proofs.readers_get_their_pairs.Statement.{statement}
 use Rattle.network_claims.proofs.readers_get_their_pairs.Tie as tie
 

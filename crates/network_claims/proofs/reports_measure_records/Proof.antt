@@ -1,7 +1,7 @@
 -- By the law of reports; a record's arrays have their lengths. Assumes nothing.
 use borrow.Author.Rules.{rules}
 use Rattle.network.specs.RecordLaws.{ArrayLengths}
-use Rattle.network_claims.specs.SizeLaws.{report_meant}
+use Rattle.network_claims.proofs.SizeLaws.{report_meant}
 use Rattle.network_claims.proofs.reports_measure_records.Statement.{statement}
 use Rattle.network_claims.proofs.reports_measure_records.Tie as tie
 

@@ -1,5 +1,5 @@
 -- By the law of the same matter. Assumes nothing.
-use Rattle.network_claims.specs.FoldLaws.{sweep_claim}
+use Rattle.network_claims.proofs.FoldLaws.{sweep_claim}
 use Rattle.network_claims.proofs.sweeps_take_the_lowest.Statement.{statement}
 use Rattle.network_claims.proofs.sweeps_take_the_lowest.Tie as tie
 

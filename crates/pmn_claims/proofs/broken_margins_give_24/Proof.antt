@@ -1,5 +1,5 @@
 -- By the law of the same matter. Assumes nothing.
-use Rattle.pmn_claims.specs.MarginLaws.{margins_of_file}
+use Rattle.pmn_claims.proofs.MarginLaws.{margins_of_file}
 use Rattle.pmn_claims.proofs.broken_margins_give_24.Statement.{statement}
 use Rattle.pmn_claims.proofs.broken_margins_give_24.Tie as tie
 

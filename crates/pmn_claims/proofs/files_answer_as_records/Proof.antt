@@ -1,5 +1,5 @@
 -- By the law of the same matter. Assumes nothing.
-use Rattle.pmn_claims.specs.AnswerLaws.{files_as_records}
+use Rattle.pmn_claims.proofs.AnswerLaws.{files_as_records}
 use Rattle.pmn_claims.proofs.files_answer_as_records.Statement.{statement}
 use Rattle.pmn_claims.proofs.files_answer_as_records.Tie as tie
 

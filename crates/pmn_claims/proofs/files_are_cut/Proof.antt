@@ -1,5 +1,5 @@
 -- By the law of the same matter. Assumes nothing.
-use Rattle.pmn_claims.specs.CutLaws.{cut_claim}
+use Rattle.pmn_claims.proofs.CutLaws.{cut_claim}
 use Rattle.pmn_claims.proofs.files_are_cut.Statement.{statement}
 use Rattle.pmn_claims.proofs.files_are_cut.Tie as tie
 

@@ -1,5 +1,5 @@
 -- By the law of the same matter. Assumes nothing.
-use Rattle.pmn_claims.specs.ReadLaws.{read_alike}
+use Rattle.pmn_claims.proofs.ReadLaws.{read_alike}
 use Rattle.pmn_claims.proofs.files_are_records.Statement.{statement}
 use Rattle.pmn_claims.proofs.files_are_records.Tie as tie
 

@@ -1,5 +1,5 @@
 -- By the law of the same matter. Assumes nothing.
-use Rattle.pmn_claims.specs.RunLaws.{run_claim}
+use Rattle.pmn_claims.proofs.RunLaws.{run_claim}
 use Rattle.pmn_claims.proofs.runs_are_lists_of_calls.Statement.{statement}
 use Rattle.pmn_claims.proofs.runs_are_lists_of_calls.Tie as tie
 

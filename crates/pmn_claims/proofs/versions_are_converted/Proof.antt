@@ -1,5 +1,5 @@
 -- By the law of the same matter. Assumes nothing.
-use Rattle.pmn_claims.specs.ConverterLaws.{converter_claim}
+use Rattle.pmn_claims.proofs.ConverterLaws.{converter_claim}
 use Rattle.pmn_claims.proofs.versions_are_converted.Statement.{statement}
 use Rattle.pmn_claims.proofs.versions_are_converted.Tie as tie
 

@@ -5,8 +5,8 @@ use mathlib.Core.Path.{◌≡◌, sym, ap, ◌∙◌}
 use Prim.Native.Nat.{ℕ, ◌-◌}
 use lib.ListN.{get_or}
 use Rattle.pmn_format.specs.Part.{part_answer}
-use Rattle.pmn_format.specs.LengthLaws.{bytes_of}
-use Rattle.pmn_format.specs.PartLaws.{first_start}
+use Rattle.pmn_format.proofs.LengthLaws.{bytes_of}
+use Rattle.pmn_format.proofs.PartLaws.{first_start}
 use Rattle.pmn_reader.proofs.PartFiles.{PartFile, no_part, part_file, inputs_there, long, starts, gate_file, part_is}
 use Rattle.pmn_reader.proofs.gate_part.Statement.{statement}
 use Rattle.pmn_reader.proofs.gate_part.Tie as tie

@@ -6,8 +6,8 @@ use Rattle.basics.specs.Refusals.{code_of}
 use Rattle.basics.specs.TestLaws.{is_true}
 use Rattle.network.specs.Limits.{is_gate}
 use Rattle.network.specs.LimitLaws.{of_has}
-use Rattle.pmn_format.specs.PartLaws.{part_refused, part_stray, part_found}
-use Rattle.pmn_format.specs.LengthLaws.{bytes_of}
+use Rattle.pmn_format.proofs.PartLaws.{part_refused, part_stray, part_found}
+use Rattle.pmn_format.proofs.LengthLaws.{bytes_of}
 use Rattle.pmn_reader.proofs.PartFiles.{Opened, opened, closed, not_gate}
 use Rattle.pmn_reader.proofs.gate_part_code.Statement.{statement}
 use Rattle.pmn_reader.proofs.gate_part_code.Tie as tie

@@ -2,7 +2,7 @@
 use borrow.Author.Rules.{rules}
 use mathlib.Core.Path.{sym, ap, ◌∙◌}
 use Rattle.pmn_reader.specs.Answers.{as_loaded, loaded}
-use Rattle.pmn_format.specs.AnsweredLaws.{by_refusal}
+use Rattle.pmn_format.proofs.AnsweredLaws.{by_refusal}
 use Rattle.pmn_reader.proofs.read.Statement.{statement}
 use Rattle.pmn_reader.proofs.read.Tie as tie
 

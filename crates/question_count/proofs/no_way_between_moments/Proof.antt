@@ -1,5 +1,5 @@
 -- By the law of moments. Assumes nothing.
-use Rattle.question_count.specs.ClaimLaws.{moment_claim}
+use Rattle.question_count.proofs.ClaimLaws.{moment_claim}
 use Rattle.question_count.proofs.no_way_between_moments.Statement.{statement}
 use Rattle.question_count.proofs.no_way_between_moments.Tie as tie
 

@@ -1,5 +1,5 @@
 -- By the law of counts on records. Assumes nothing.
-use Rattle.question_count.specs.ClaimLaws.{counts}
+use Rattle.question_count.proofs.ClaimLaws.{counts}
 use Rattle.question_count.proofs.solutions_are_counted.Statement.{statement}
 use Rattle.question_count.proofs.solutions_are_counted.Tie as tie
 

@@ -1,5 +1,5 @@
 -- By computing. Assumes nothing.
-use Rattle.question_count.specs.ExampleLaws.{three_ways}
+use Rattle.question_count.proofs.ExampleLaws.{three_ways}
 use Rattle.question_count.proofs.three_ways.Statement.{statement}
 use Rattle.question_count.proofs.three_ways.Tie as tie
 

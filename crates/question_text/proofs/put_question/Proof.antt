@@ -8,11 +8,11 @@ use borrow.Author.Rules.{rules}
 use Rattle.network.specs.Record.{net_of}
 use Rattle.question_theory.specs.Question.{Line}
 use Rattle.question_theory.specs.Text.{line_text}
-use Rattle.question_theory.specs.SizeLaws.{ShortLine}
+use Rattle.question_theory.proofs.SizeLaws.{ShortLine}
 use Rattle.question_lines.specs.Lines.{lines_of}
 use Rattle.question_terms.specs.TermLaws.{stands_line, stands_count}
 use Rattle.question_lines.specs.ComparableLaws.{small_counts, line_narrow, text_short, header_is, line_is}
-use Rattle.texts.specs.PutLaws.{put_text}
+use Rattle.texts.proofs.PutLaws.{put_text}
 use Rattle.question_text.proofs.put_question.Statement.{statement}
 use Rattle.question_text.proofs.put_question.Tie as tie
 

@@ -10,7 +10,7 @@ use Rattle.network.specs.Record.{net_of}
 use Rattle.question_theory.specs.Text.{question_text}
 use Rattle.question_text.specs.AnswerLaws.{refused_gives, accepted_gives, too_long, given}
 use Rattle.question_lines.specs.ComparableLaws.{text_short}
-use Rattle.texts.specs.PutLaws.{put_text, put_length}
+use Rattle.texts.proofs.PutLaws.{put_text, put_length}
 use Rattle.question_text.proofs.write_line.Statement.{statement}
 use Rattle.question_text.proofs.write_line.Tie as tie
 

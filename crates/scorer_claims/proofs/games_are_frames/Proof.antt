@@ -1,5 +1,5 @@
 -- By the law of games made of frames. Assumes nothing.
-use Rattle.scorer_theory.specs.GrammarLaws.{made_of_frames}
+use Rattle.scorer_theory.proofs.GrammarLaws.{made_of_frames}
 use Rattle.scorer_claims.proofs.games_are_frames.Statement.{statement}
 use Rattle.scorer_claims.proofs.games_are_frames.Tie as tie
 

@@ -1,5 +1,5 @@
 -- By the law of the highest score. Assumes nothing.
-use Rattle.scorer_theory.specs.HighestLaws.{highest_score}
+use Rattle.scorer_theory.proofs.HighestLaws.{highest_score}
 use Rattle.scorer_claims.proofs.highest_is_300.Statement.{statement}
 use Rattle.scorer_claims.proofs.highest_is_300.Tie as tie
 

@@ -1,5 +1,5 @@
 -- By the law of the same name. Assumes nothing.
-use Rattle.scorer_claims.specs.FoldingLaws.{scores_kept}
+use Rattle.scorer_claims.proofs.FoldingLaws.{scores_kept}
 use Rattle.scorer_claims.proofs.scores_kept.Statement.{statement}
 use Rattle.scorer_claims.proofs.scores_kept.Tie as tie
 

@@ -1,5 +1,5 @@
 -- By the law of the same matter. Assumes nothing.
-use Rattle.worked_examples.specs.AlleyLaws.{alleys_listed}
+use Rattle.worked_examples.proofs.AlleyLaws.{alleys_listed}
 use Rattle.worked_examples.proofs.alleys_by_their_bytes.Statement.{statement}
 use Rattle.worked_examples.proofs.alleys_by_their_bytes.Tie as tie
 

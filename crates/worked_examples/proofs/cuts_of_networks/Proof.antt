@@ -1,5 +1,5 @@
 -- By the law of the same matter. Assumes nothing.
-use Rattle.worked_examples.specs.NetworkLaws.{cuts_are}
+use Rattle.worked_examples.proofs.NetworkLaws.{cuts_are}
 use Rattle.worked_examples.proofs.cuts_of_networks.Statement.{statement}
 use Rattle.worked_examples.proofs.cuts_of_networks.Tie as tie
 

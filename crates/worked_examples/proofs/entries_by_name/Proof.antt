@@ -1,5 +1,5 @@
 -- By the law of the same matter. Assumes nothing.
-use Rattle.worked_examples.specs.NetworkLaws.{entries_are}
+use Rattle.worked_examples.proofs.NetworkLaws.{entries_are}
 use Rattle.worked_examples.proofs.entries_by_name.Statement.{statement}
 use Rattle.worked_examples.proofs.entries_by_name.Tie as tie
 

@@ -1,5 +1,5 @@
 -- By the law of the same matter. Assumes nothing.
-use Rattle.worked_examples.specs.FileLaws.{files_read}
+use Rattle.worked_examples.proofs.FileLaws.{files_read}
 use Rattle.worked_examples.proofs.files_by_their_bytes.Statement.{statement}
 use Rattle.worked_examples.proofs.files_by_their_bytes.Tie as tie
 

@@ -1,5 +1,5 @@
 -- By the law of the same matter. Assumes nothing.
-use Rattle.worked_examples.specs.FoldLaws.{folded}
+use Rattle.worked_examples.proofs.FoldLaws.{folded}
 use Rattle.worked_examples.proofs.folds_of_networks.Statement.{statement}
 use Rattle.worked_examples.proofs.folds_of_networks.Tie as tie
 

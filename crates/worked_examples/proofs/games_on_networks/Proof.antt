@@ -1,5 +1,5 @@
 -- By the law of the same matter. Assumes nothing.
-use Rattle.worked_examples.specs.GameLaws.{games_played}
+use Rattle.worked_examples.proofs.GameLaws.{games_played}
 use Rattle.worked_examples.proofs.games_on_networks.Statement.{statement}
 use Rattle.worked_examples.proofs.games_on_networks.Tie as tie
 

@@ -1,5 +1,5 @@
 -- By the law of the same matter. Assumes nothing.
-use Rattle.worked_examples.specs.RunLaws.{calls_read}
+use Rattle.worked_examples.proofs.RunLaws.{calls_read}
 use Rattle.worked_examples.proofs.lists_by_their_numbers.Statement.{statement}
 use Rattle.worked_examples.proofs.lists_by_their_numbers.Tie as tie
 

@@ -1,5 +1,5 @@
 -- By the law of the same matter. Assumes nothing.
-use Rattle.worked_examples.specs.RunLaws.{runs_are}
+use Rattle.worked_examples.proofs.RunLaws.{runs_are}
 use Rattle.worked_examples.proofs.runs_by_their_bytes.Statement.{statement}
 use Rattle.worked_examples.proofs.runs_by_their_bytes.Tie as tie
 

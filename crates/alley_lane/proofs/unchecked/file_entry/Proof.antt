@@ -1,12 +1,12 @@
 -- The read's refusal, or the size of the network read. Assumes nothing.
 use mathlib.Core.Path.{◌≡◌, ◌∙◌}
 use borrow.Author.Rules.{rules}
-use Rattle.pmn_format.specs.LengthLaws.{bytes_of}
+use Rattle.pmn_format.proofs.LengthLaws.{bytes_of}
 use Rattle.pmn_opening.specs.OpeningLaws.{file_sound}
 use Rattle.alley_theory.specs.Alley.{whole, lane_entry}
 use Rattle.alley_theory.specs.Answers.{as_entry}
 use Rattle.alley_theory.specs.Writes.{EntryFor}
-use Rattle.alley_theory.specs.EntryLaws.{entry_made, refused_file, read_file}
+use Rattle.alley_theory.proofs.EntryLaws.{entry_made, refused_file, read_file}
 use Rattle.alley_theory.specs.declared.Entry.{Entry}
 use Rattle.alley_lane.proofs.unchecked.file_entry.Statement.{statement}
 use Rattle.alley_lane.proofs.unchecked.file_entry.Tie as tie

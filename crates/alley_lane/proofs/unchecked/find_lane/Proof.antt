@@ -3,7 +3,7 @@ use mathlib.Core.Path.{◌≡◌}
 use Prim.Native.Nat.{◌+◌, ◌*◌}
 use native.Mathlib.Omega.{arith}
 use borrow.Author.Rules.{rules}
-use Rattle.alley_theory.specs.FoundLaws.{length_said, found_cut, found_whole}
+use Rattle.alley_theory.proofs.FoundLaws.{length_said, found_cut, found_whole}
 use Rattle.alley_lane.proofs.unchecked.find_lane.Statement.{statement}
 use Rattle.alley_lane.proofs.unchecked.find_lane.Tie as tie
 

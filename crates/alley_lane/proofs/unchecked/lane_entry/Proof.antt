@@ -5,7 +5,7 @@ use native.Mathlib.Omega.{arith}
 use borrow.Author.Rules.{rules}
 use borrow.Author.Tests.{not-true, not-false}
 use Rattle.alley_theory.specs.Alley.{cut_short, lane_entry}
-use Rattle.alley_theory.specs.EntryLaws.{entry_made}
+use Rattle.alley_theory.proofs.EntryLaws.{entry_made}
 use Rattle.alley_lane.proofs.unchecked.lane_entry.Statement.{statement}
 use Rattle.alley_lane.proofs.unchecked.lane_entry.Tie as tie
 

@@ -7,12 +7,12 @@ use borrow.Author.Rules.{rules}
 use Rattle.basics.specs.Refusals.{Answer, accepted, refused}
 use Rattle.basics.specs.WriteLaws.{tail_length}
 use Rattle.texts.specs.Texts.{decimal}
-use Rattle.texts.specs.DecimalLaws.{decimal_short}
-use Rattle.texts.specs.PutLaws.{put_text, put_part, put_length}
+use Rattle.texts.proofs.DecimalLaws.{decimal_short}
+use Rattle.texts.proofs.PutLaws.{put_text, put_part, put_length}
 use Rattle.alley_theory.specs.Alley.{Size, size_text, lane_text, refused_word}
 use Rattle.alley_theory.specs.Writes.{entry_in, size_with}
-use Rattle.alley_theory.specs.EntryLaws.{in_refused, in_size, listable_fair}
-use Rattle.alley_theory.specs.TextLaws.{lane_parts, refused_parts, lane_length_lem, refused_length, lane_short}
+use Rattle.alley_theory.proofs.EntryLaws.{in_refused, in_size, listable_fair}
+use Rattle.alley_theory.proofs.TextLaws.{lane_parts, refused_parts, lane_length_lem, refused_length, lane_short}
 use Rattle.alley_line.proofs.unchecked.put_lane.Statement.{statement}
 use Rattle.alley_line.proofs.unchecked.put_lane.Tie as tie
 

@@ -4,7 +4,7 @@ use native.Mathlib.Omega.{arith}
 use lib.ListN.{length, length-append}
 use borrow.Author.Rules.{rules}
 use Rattle.texts.specs.Texts.{decimal}
-use Rattle.texts.specs.PutLaws.{put_byte, put_length}
+use Rattle.texts.proofs.PutLaws.{put_byte, put_length}
 use Rattle.alley_line.proofs.unchecked.put_last.Statement.{statement}
 use Rattle.alley_line.proofs.unchecked.put_last.Tie as tie
 

@@ -6,8 +6,8 @@ use lib.ListN.{length, length-append}
 use borrow.Author.Rules.{rules}
 use Rattle.basics.specs.WriteLaws.{tail_length}
 use Rattle.texts.specs.Texts.{decimal}
-use Rattle.texts.specs.PutLaws.{put_text, put_part, put_length}
-use Rattle.alley_theory.specs.TextLaws.{size_parts, size_length}
+use Rattle.texts.proofs.PutLaws.{put_text, put_part, put_length}
+use Rattle.alley_theory.proofs.TextLaws.{size_parts, size_length}
 use Rattle.alley_line.proofs.unchecked.put_size.Statement.{statement}
 use Rattle.alley_line.proofs.unchecked.put_size.Tie as tie
 

@@ -5,7 +5,7 @@ use lib.ListN.{length}
 use borrow.Author.Rules.{rules}
 use Rattle.alley_theory.specs.Alley.{size_text, total_text, total_word}
 use Rattle.alley_theory.specs.Writes.{size_with}
-use Rattle.alley_theory.specs.TextLaws.{size_short}
+use Rattle.alley_theory.proofs.TextLaws.{size_short}
 use Rattle.alley_line.proofs.unchecked.put_total.Statement.{statement}
 use Rattle.alley_line.proofs.unchecked.put_total.Tie as tie
 

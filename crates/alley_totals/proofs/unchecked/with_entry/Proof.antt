@@ -1,8 +1,8 @@
 -- A refused lane adds nothing, and sums of an alley's totals fit 64 bits.
 use native.Mathlib.Omega.{arith}
 use borrow.Author.Rules.{rules}
-use Rattle.alley_theory.specs.EntryLaws.{with_refused, with_size}
-use Rattle.alley_theory.specs.StepLaws.{sound_bounds}
+use Rattle.alley_theory.proofs.EntryLaws.{with_refused, with_size}
+use Rattle.alley_theory.proofs.StepLaws.{sound_bounds}
 use Rattle.alley_totals.proofs.unchecked.with_entry.Statement.{statement}
 use Rattle.alley_totals.proofs.unchecked.with_entry.Tie as tie
 

@@ -7,13 +7,13 @@ use lib.ListN.{length, take, drop}
 use lib.Seq.{take_at}
 use borrow.Author.Rules.{rules}
 use Rattle.basics.specs.Refusals.{accepted}
-use Rattle.texts.specs.PutLaws.{put_text, put_length}
+use Rattle.texts.proofs.PutLaws.{put_text, put_length}
 use Rattle.alley_theory.specs.Alley.{lane_text}
 use Rattle.alley_theory.specs.Answers.{LaneStep, as_entry, with_entry, listed, as_listed}
 use Rattle.alley_theory.specs.Writes.{entry_in}
-use Rattle.alley_theory.specs.AnswerLaws.{refused_gives, accepted_gives, too_long, has_room}
-use Rattle.alley_theory.specs.EntryLaws.{listable_fair}
-use Rattle.alley_theory.specs.TextLaws.{lane_short}
+use Rattle.alley_theory.proofs.AnswerLaws.{refused_gives, accepted_gives, too_long, has_room}
+use Rattle.alley_theory.proofs.EntryLaws.{listable_fair}
+use Rattle.alley_theory.proofs.TextLaws.{lane_short}
 use Rattle.alley_theory.specs.declared.Entry.{Entry}
 use Rattle.alley_theory.specs.declared.Totals.{Totals}
 use Rattle.alley_totals.proofs.unchecked.write_lane.Statement.{statement}

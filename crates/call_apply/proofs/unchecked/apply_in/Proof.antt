@@ -3,7 +3,7 @@ use borrow.Author.Rules.{rules}
 use mathlib.Core.Path.{sym, ap, ◌∙◌}
 use Rattle.network_places.specs.PartsLaws.{shaped_parts}
 use Rattle.journal.specs.Answers.{applied}
-use Rattle.journal.specs.AnswerLaws.{whole_network}
+use Rattle.journal.proofs.AnswerLaws.{whole_network}
 use Rattle.journal.specs.Parts.{record_parts, answer_parts}
 use Rattle.journal.specs.declared.CallAnswer.{CallAnswer}
 use Rattle.journal.specs.declared.CallLeft.{CallLeft}

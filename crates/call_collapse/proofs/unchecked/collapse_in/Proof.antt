@@ -6,10 +6,10 @@ use native.Mathlib.Omega.{arith}
 use Rattle.network.specs.RecordLaws.{gate_number}
 use Rattle.fold_reader_pairs.specs.Collapsing.{CollapsesBy}
 use Rattle.journal.specs.Parts.{record_parts}
-use Rattle.journal.specs.AnswerLaws.{whole_network}
+use Rattle.journal.proofs.AnswerLaws.{whole_network}
 use Rattle.journal.specs.declared.Record.{Record}
 use Rattle.call_collapse.proofs.CallLaws.{collapse_refused, collapse_entered}
-use Rattle.journal.specs.PartsLaws.{refused_parts, answered_parts}
+use Rattle.journal.proofs.PartsLaws.{refused_parts, answered_parts}
 use Rattle.call_collapse.proofs.unchecked.collapse_in.Statement.{statement}
 use Rattle.call_collapse.proofs.unchecked.collapse_in.Tie as tie
 

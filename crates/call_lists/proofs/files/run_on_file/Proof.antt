@@ -11,7 +11,7 @@ use Rattle.pmn_opening.specs.OpeningLaws.{read_refused}
 use Rattle.call_numbers.specs.Numbers.{well_formed, calls_in}
 use Rattle.call_runs.specs.Runs.{ListRan}
 use Rattle.call_runs.specs.Files.{run_answer, ran_file, ran_numbers}
-use Rattle.call_runs.specs.FileLaws.{RunLeft, run_refused, read_holds, run_unformed, enough, run_few, run_long, after_list_sound, run_left}
+use Rattle.call_runs.proofs.FileLaws.{RunLeft, run_refused, read_holds, run_unformed, enough, run_few, run_long, after_list_sound, run_left}
 use Rattle.call_lists.proofs.files.run_on_file.Statement.{statement}
 use Rattle.call_lists.proofs.files.run_on_file.Tie as tie
 

@@ -1,6 +1,6 @@
 -- The longest file has room, so the writing gives the file's length.
 use borrow.Author.Rules.{rules}
-use Rattle.call_runs.specs.RunLaws.{length_written}
+use Rattle.call_runs.proofs.RunLaws.{length_written}
 use Rattle.call_lists.proofs.unchecked.file_length.Statement.{statement}
 use Rattle.call_lists.proofs.unchecked.file_length.Tie as tie
 

@@ -12,10 +12,10 @@ use Rattle.network.specs.RecordLaws.{net_of_layout, holds_layout}
 use Rattle.network.specs.Places.{HoldsSound}
 use Rattle.network.specs.declared.Network.{Network}
 use Rattle.pmn_format.specs.Format.{file_bytes}
-use Rattle.pmn_format.specs.LengthLaws.{longest}
+use Rattle.pmn_format.proofs.LengthLaws.{longest}
 use Rattle.call_numbers.specs.Numbers.{calls_in}
 use Rattle.call_runs.specs.Runs.{net_after}
-use Rattle.call_runs.specs.RunLaws.{after_sound}
+use Rattle.call_runs.proofs.RunLaws.{after_sound}
 use Rattle.call_lists.proofs.unchecked.has_room.Statement.{statement}
 use Rattle.call_lists.proofs.unchecked.has_room.Tie as tie
 

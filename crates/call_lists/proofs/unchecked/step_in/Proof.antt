@@ -5,7 +5,7 @@ use Rattle.network_places.specs.PartsLaws.{lengths}
 use Rattle.journal.specs.Answers.{applied}
 use Rattle.journal.specs.Parts.{record_parts}
 use Rattle.journal.specs.declared.Record.{Record}
-use Rattle.call_runs.specs.RunLaws.{came_whole, came_shaped, step_done}
+use Rattle.call_runs.proofs.RunLaws.{came_whole, came_shaped, step_done}
 use Rattle.call_lists.proofs.unchecked.step_in.Statement.{statement}
 use Rattle.call_lists.proofs.unchecked.step_in.Tie as tie
 

@@ -14,10 +14,10 @@ use Rattle.network.specs.declared.GateRecord.{GateRecord}
 use Rattle.network_places.specs.PartsLaws.{shaped_parts, removed_parts}
 use Rattle.journal.specs.Journals.{with_step}
 use Rattle.journal.specs.Parts.{record_parts}
-use Rattle.journal.specs.AnswerLaws.{whole_network}
+use Rattle.journal.proofs.AnswerLaws.{whole_network}
 use Rattle.journal_entry.specs.EnteringLaws.{entered_parts}
 use Rattle.journal.specs.declared.Record.{Record}
-use Rattle.journal.specs.PartsLaws.{refused_parts, answered_parts}
+use Rattle.journal.proofs.PartsLaws.{refused_parts, answered_parts}
 use Rattle.call_single.proofs.CallLaws.{drop_refused, drop_entered}
 use Rattle.call_single.proofs.unchecked.drop_in.Statement.{statement}
 use Rattle.call_single.proofs.unchecked.drop_in.Tie as tie

@@ -14,10 +14,10 @@ use Rattle.network.specs.declared.GateRecord.{GateRecord}
 use Rattle.network_places.specs.PartsLaws.{shaped_parts, stored_parts}
 use Rattle.journal.specs.Journals.{with_step}
 use Rattle.journal.specs.Parts.{record_parts}
-use Rattle.journal.specs.AnswerLaws.{whole_network}
+use Rattle.journal.proofs.AnswerLaws.{whole_network}
 use Rattle.journal_entry.specs.EnteringLaws.{entered_parts}
 use Rattle.journal.specs.declared.Record.{Record}
-use Rattle.journal.specs.PartsLaws.{refused_parts, answered_parts}
+use Rattle.journal.proofs.PartsLaws.{refused_parts, answered_parts}
 use Rattle.call_single.proofs.CallLaws.{merge_refused, merge_entered}
 use Rattle.call_single.proofs.unchecked.merge_in.Statement.{statement}
 use Rattle.call_single.proofs.unchecked.merge_in.Tie as tie

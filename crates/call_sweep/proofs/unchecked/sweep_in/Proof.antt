@@ -13,10 +13,10 @@ use Rattle.network_places.specs.declared.Head.{Head}
 use Rattle.network_places.specs.PartsLaws.{shaped_parts, lengths}
 use Rattle.fold_sweep.specs.Sweeping.{Chosen, NextCollapse}
 use Rattle.journal.specs.Parts.{journal_parts, record_parts}
-use Rattle.journal.specs.AnswerLaws.{whole_network}
+use Rattle.journal.proofs.AnswerLaws.{whole_network}
 use Rattle.journal.specs.declared.Record.{Record}
 use Rattle.call_sweep.proofs.CallLaws.{sweep_off, sweep_done}
-use Rattle.journal.specs.PartsLaws.{refused_parts, answered_parts}
+use Rattle.journal.proofs.PartsLaws.{refused_parts, answered_parts}
 use Rattle.call_sweep.proofs.TurnLaws.{Reached, reached_none, remembered_next, reached_more, reached_settled, reached_last}
 use Rattle.call_sweep.proofs.unchecked.sweep_in.Statement.{statement}
 use Rattle.call_sweep.proofs.unchecked.sweep_in.Tie as tie

@@ -6,8 +6,8 @@ use native.Mathlib.Omega.{arith}
 use Rattle.call_theory.specs.Calls.{no_figures}
 use Rattle.journal.specs.Journals.{step_at}
 use Rattle.journal.specs.Parts.{record_parts}
-use Rattle.journal.specs.PartsLaws.{refused_parts, answered_parts}
-use Rattle.journal.specs.AnswerLaws.{whole_network}
+use Rattle.journal.proofs.PartsLaws.{refused_parts, answered_parts}
+use Rattle.journal.proofs.AnswerLaws.{whole_network}
 use Rattle.journal.specs.declared.Record.{Record}
 use Rattle.call_restoring.specs.declared.Back.{Back}
 use Rattle.call_restoring.specs.BackLaws.{back_ok, back_network}

@@ -2,7 +2,7 @@
 use borrow.Author.Rules.{rules}
 use mathlib.Core.Bool.{false≢true}
 use native.Mathlib.Omega.{arith}
-use Rattle.compare_theory.specs.WiringLaws.{kept_then}
+use Rattle.compare_theory.proofs.WiringLaws.{kept_then}
 use Rattle.compare_merging.proofs.unchecked.match_outputs.Statement.{statement}
 use Rattle.compare_merging.proofs.unchecked.match_outputs.Tie as tie
 

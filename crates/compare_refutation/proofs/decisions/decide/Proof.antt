@@ -1,6 +1,6 @@
 -- What rests on the level is open first; then the decision is put in. Assumes nothing.
 use borrow.Author.Rules.{rules}
-use Rattle.compare_theory.specs.DecisionLaws.{decision}
+use Rattle.compare_theory.proofs.DecisionLaws.{decision}
 use Rattle.compare_refutation.proofs.decisions.decide.Statement.{statement}
 use Rattle.compare_refutation.proofs.decisions.decide.Tie as tie
 

@@ -4,7 +4,7 @@ use mathlib.Core.Path.{ap}
 use Prim.Native.Nat.{ℕ, ◌%◌}
 use native.Mathlib.Omega.{arith}
 use lib.Pow.{pow_pos}
-use Rattle.compare_theory.specs.DecisionLaws.{jumped_back, not_jumped}
+use Rattle.compare_theory.proofs.DecisionLaws.{jumped_back, not_jumped}
 use Rattle.compare_refutation.proofs.decisions.jump_back.Statement.{statement}
 use Rattle.compare_refutation.proofs.decisions.jump_back.Tie as tie
 

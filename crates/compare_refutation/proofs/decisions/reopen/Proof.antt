@@ -1,7 +1,7 @@
 -- Each signal looked at stays, resting on nothing at the level or above, or is open. Assumes nothing.
 use borrow.Author.Rules.{rules}
 use Prim.Native.Nat.{◌-◌}
-use Rattle.compare_theory.specs.DecisionLaws.{Reopening, reopening_none, reopening_next, reopening_all}
+use Rattle.compare_theory.proofs.DecisionLaws.{Reopening, reopening_none, reopening_next, reopening_all}
 use Rattle.compare_refutation.proofs.decisions.reopen.Statement.{statement}
 use Rattle.compare_refutation.proofs.decisions.reopen.Tie as tie
 

@@ -1,7 +1,7 @@
 -- The rule of the gate's rows is one of the joint. Assumes nothing.
 use borrow.Author.Rules.{rules}
 use native.Mathlib.Omega.{arith}
-use Rattle.compare_theory.specs.ReasonLaws.{of_gate}
+use Rattle.compare_theory.proofs.ReasonLaws.{of_gate}
 use Rattle.compare_refutation.proofs.rules.apply_listed.Statement.{statement}
 use Rattle.compare_refutation.proofs.rules.apply_listed.Tie as tie
 

@@ -13,7 +13,7 @@ use mir.Facts.{to_z-of_z}
 use Rattle.basics.specs.SizeLaws.{size_fits, read_back}
 use Rattle.compare_theory.specs.Spans.{least_sum, most_sum, forced, forced_bit, room_of, room_at}
 use Rattle.compare_theory.specs.Reasons.{EndsOf, FitsRows, Propagated}
-use Rattle.compare_theory.specs.ReasonLaws.{own_clash, own_put, feeds_put}
+use Rattle.compare_theory.proofs.ReasonLaws.{own_clash, own_put, feeds_put}
 use Rattle.compare_refutation.proofs.rules.apply_rule.Statement.{statement}
 use Rattle.compare_refutation.proofs.rules.apply_rule.Tie as tie
 

@@ -13,8 +13,8 @@ use Rattle.basics.specs.SizeLaws.{read_back}
 use Rattle.compare_theory.specs.Joint.{fanin}
 use Rattle.compare_theory.specs.Spans.{least, most, least_at, most_at}
 use Rattle.compare_theory.specs.Reasons.{HoldsUp, HoldsDown}
-use Rattle.compare_theory.specs.SpanLaws.{least_small, most_small, Added, added_none, added_next, added_all, added_small, added_fits}
-use Rattle.compare_theory.specs.ReasonLaws.{up_none, up_next, down_none, down_next}
+use Rattle.compare_theory.proofs.SpanLaws.{least_small, most_small, Added, added_none, added_next, added_all, added_small, added_fits}
+use Rattle.compare_theory.proofs.ReasonLaws.{up_none, up_next, down_none, down_next}
 use Rattle.compare_refutation.proofs.rules.ends_of.Statement.{statement}
 use Rattle.compare_refutation.proofs.rules.ends_of.Tie as tie
 

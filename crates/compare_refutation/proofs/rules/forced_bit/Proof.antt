@@ -3,7 +3,7 @@ use mathlib.Core.Path.{◌≡◌, sym, ap, ◌∙◌}
 use mathlib.Core.Bool.{true, false, cond}
 use lib.Signed.{le_z}
 use mir.Facts.{to_z-of_z}
-use Rattle.compare_theory.specs.SpanLaws.{forced_lit, forced_not}
+use Rattle.compare_theory.proofs.SpanLaws.{forced_lit, forced_not}
 use Rattle.compare_refutation.proofs.rules.forced_bit.Statement.{statement}
 use Rattle.compare_refutation.proofs.rules.forced_bit.Tie as tie
 

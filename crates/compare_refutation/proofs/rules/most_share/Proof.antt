@@ -5,7 +5,7 @@ use lib.IntN.{pos}
 use lib.Signed.{le_z}
 use mir.Facts.{to_z-of_z}
 use Rattle.compare_theory.specs.Spans.{most}
-use Rattle.compare_theory.specs.SpanLaws.{most_open}
+use Rattle.compare_theory.proofs.SpanLaws.{most_open}
 use Rattle.compare_refutation.proofs.rules.most_share.Statement.{statement}
 use Rattle.compare_refutation.proofs.rules.most_share.Tie as tie
 

@@ -4,7 +4,7 @@ use Prim.Native.Nat.{◌-◌}
 use native.Mathlib.Omega.{arith}
 use Rattle.compare_theory.specs.Joint.{joint, FitsJoint}
 use Rattle.compare_theory.specs.Reasons.{Propagated}
-use Rattle.compare_theory.specs.ReasonLaws.{unmoved, then, unclaimed}
+use Rattle.compare_theory.proofs.ReasonLaws.{unmoved, then, unclaimed}
 use Rattle.compare_refutation.proofs.rules.propagate.Statement.{statement}
 use Rattle.compare_refutation.proofs.rules.propagate.Tie as tie
 

@@ -7,7 +7,7 @@ use mir.Syntax.{w32}
 use mir.Val.{SFits}
 use mir.Facts.{to_z-of_z}
 use Rattle.basics.specs.SizeLaws.{size_sub, size_fits}
-use Rattle.compare_theory.specs.SpanLaws.{room_of_lit, room_of_dark}
+use Rattle.compare_theory.proofs.SpanLaws.{room_of_lit, room_of_dark}
 use Rattle.compare_refutation.proofs.rules.room_of.Statement.{statement}
 use Rattle.compare_refutation.proofs.rules.room_of.Tie as tie
 

@@ -12,7 +12,7 @@ use mir.Val.{Fits, SFits, to_z, of_z}
 use mir.Facts.{to_z-of_z}
 use Rattle.compare_theory.specs.Joint.{fanin}
 use Rattle.compare_theory.specs.Spans.{settled}
-use Rattle.compare_theory.specs.ReasonLaws.{Settling, settling_none, settling_next}
+use Rattle.compare_theory.proofs.ReasonLaws.{Settling, settling_none, settling_next}
 use Rattle.compare_refutation.proofs.rules.settle_feeds.Statement.{statement}
 use Rattle.compare_refutation.proofs.rules.settle_feeds.Tie as tie
 

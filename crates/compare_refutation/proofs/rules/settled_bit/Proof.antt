@@ -10,7 +10,7 @@ use mir.Syntax.{w32}
 use mir.Val.{SFits}
 use mir.Facts.{to_z-of_z}
 use Rattle.basics.specs.SizeLaws.{size_minus, size_fits}
-use Rattle.compare_theory.specs.SpanLaws.{settled_set, settled_heavy, settled_light}
+use Rattle.compare_theory.proofs.SpanLaws.{settled_set, settled_heavy, settled_light}
 use Rattle.compare_refutation.proofs.rules.settled_bit.Statement.{statement}
 use Rattle.compare_refutation.proofs.rules.settled_bit.Tie as tie
 

@@ -3,7 +3,7 @@ use borrow.Author.Rules.{rules}
 use mathlib.Core.Path.{subst}
 use native.Mathlib.Omega.{arith}
 use Rattle.compare_theory.specs.Joint.{Refuted}
-use Rattle.compare_theory.specs.DecisionLaws.{never_apart}
+use Rattle.compare_theory.proofs.DecisionLaws.{never_apart}
 use Rattle.compare_refutation.proofs.unchecked.differ.Statement.{statement}
 use Rattle.compare_refutation.proofs.unchecked.differ.Tie as tie
 

@@ -6,7 +6,7 @@ use Prim.Native.Nat.{ℕ, ◌-◌, ◌≤◌}
 use native.Mathlib.Omega.{arith}
 use Rattle.compare_theory.specs.Joint.{joint}
 use Rattle.compare_theory.specs.Decisions.{Decided}
-use Rattle.compare_theory.specs.DecisionLaws.{decided_none, decided_after, decided_clash, decided_refuted}
+use Rattle.compare_theory.proofs.DecisionLaws.{decided_none, decided_after, decided_clash, decided_refuted}
 use Rattle.compare_refutation.proofs.unchecked.refute.Statement.{statement}
 use Rattle.compare_refutation.proofs.unchecked.refute.Tie as tie
 

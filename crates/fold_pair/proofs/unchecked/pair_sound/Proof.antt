@@ -3,9 +3,9 @@ use mathlib.Core.Path.{◌≡◌, sym, ap, ◌∙◌, subst}
 use Rattle.basics.specs.TestLaws.{T_is}
 use Rattle.network.specs.SoundLaws.{sound_board}
 use Rattle.fold_theory.specs.Merge.{Edge}
-use Rattle.fold_theory.specs.AlignedLaws.{EdgeOk}
+use Rattle.fold_theory.proofs.AlignedLaws.{EdgeOk}
 use Rattle.pair_theory.specs.Alignments.{AlignmentOnScale}
-use Rattle.pair_theory.specs.AlignmentLaws.{aligned_fair}
+use Rattle.pair_theory.proofs.AlignmentLaws.{aligned_fair}
 use Rattle.fold_pair.specs.Answers.{as_pair}
 use Rattle.fold_pair.specs.Parts.{pair_of_alignment}
 use Rattle.fold_readers.specs.Arrays.{SoundArrays}

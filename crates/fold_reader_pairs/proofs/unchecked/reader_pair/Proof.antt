@@ -8,7 +8,7 @@ use Rattle.network.specs.Record.{gate_from}
 use Rattle.fold_theory.specs.Merge.{reads}
 use Rattle.fold_theory.specs.Pair.{pair_of}
 use Rattle.pair_theory.specs.Alignments.{AlignmentOnScale}
-use Rattle.pair_theory.specs.AlignmentLaws.{aligned_fair}
+use Rattle.pair_theory.proofs.AlignmentLaws.{aligned_fair}
 use Rattle.fold_pair.specs.Answers.{as_pair}
 use Rattle.fold_pair.specs.Parts.{pair_of_alignment}
 use Rattle.fold_readers.specs.ArrayLaws.{lent_counted}

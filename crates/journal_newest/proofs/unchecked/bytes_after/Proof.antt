@@ -6,7 +6,7 @@ use native.Mathlib.Omega.{arith}
 use lib.ListN.{get_or, length}
 use Rattle.network.specs.Places.{Pasted}
 use Rattle.network_places.specs.PasteLaws.{pasted_none, pasted_more, pasted_tab}
-use Rattle.journal.specs.ShiftLaws.{tab_drop}
+use Rattle.journal.proofs.ShiftLaws.{tab_drop}
 use Rattle.journal_newest.proofs.unchecked.bytes_after.Statement.{statement}
 use Rattle.journal_newest.proofs.unchecked.bytes_after.Tie as tie
 

@@ -9,7 +9,7 @@ use mir.Syntax.{w32}
 use Rattle.basics.specs.SizeLaws.{read_back}
 use Rattle.network.specs.Places.{Pasted}
 use Rattle.network_places.specs.PasteLaws.{pasted_none, pasted_more, pasted_tab}
-use Rattle.journal.specs.ShiftLaws.{tab_drop}
+use Rattle.journal.proofs.ShiftLaws.{tab_drop}
 use Rattle.journal_newest.proofs.unchecked.integers_after.Statement.{statement}
 use Rattle.journal_newest.proofs.unchecked.integers_after.Tie as tie
 

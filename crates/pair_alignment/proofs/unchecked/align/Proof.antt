@@ -5,7 +5,7 @@ use mir.Syntax.{w32}
 use mir.Val.{to_z, of_z}
 use Rattle.fold_theory.specs.Merge.{Edge, votes_for}
 use Rattle.pair_theory.specs.Alignments.{edge_between, complement_in, AlignmentOnScale}
-use Rattle.pair_theory.specs.AlignmentLaws.{for_u, against_u, sign_is, with_u_fair}
+use Rattle.pair_theory.proofs.AlignmentLaws.{for_u, against_u, sign_is, with_u_fair}
 use Rattle.pair_theory.specs.declared.Alignment.{Alignment}
 use borrow.Author.Rules.{rules}
 use Rattle.pair_alignment.proofs.unchecked.align.Statement.{statement}

@@ -11,7 +11,7 @@ use mir.Facts.{to_z-of_z}
 use Rattle.basics.specs.SizeLaws.{size_fits, read_back}
 use Rattle.network.specs.Record.{gate_in}
 use Rattle.fold_theory.specs.Merge.{Edge, feed_weight, among}
-use Rattle.fold_theory.specs.AlignedLaws.{fed_small, edge_rises}
+use Rattle.fold_theory.proofs.AlignedLaws.{fed_small, edge_rises}
 use Rattle.pair_theory.specs.Alignments.{edge_between, with_u}
 use Rattle.network.specs.PlaceLaws.{length_gate_in}
 use Rattle.pair_alignment.proofs.Gather.{in_u, in_other, table_at, other_at, among_is, other_is, Listed, listed_none, listed_few, listed_skip}

@@ -9,7 +9,7 @@ use Rattle.pmn_opening.specs.Opening.{FileOpen}
 use Rattle.pmn_opening.specs.AnswerLaws.{refused_two, same_two}
 use Rattle.pmn_opening.specs.OpeningLaws.{file_sound, open_refused}
 use Rattle.pmn_versions.specs.Versions.{convertible}
-use Rattle.pmn_versions.specs.VersionLaws.{with_sound}
+use Rattle.pmn_versions.proofs.VersionLaws.{with_sound}
 use Rattle.pmn_converter.specs.Conversion.{conversion_places}
 use Rattle.pmn_converter.specs.ConversionLaws.{conversion_refused, with_file}
 use Rattle.pmn_converter.specs.FileLaws.{converted_open}

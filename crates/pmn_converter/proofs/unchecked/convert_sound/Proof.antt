@@ -9,7 +9,7 @@ use lib.ListN.{length}
 use Rattle.basics.specs.Refusals.{Answer, stored}
 use Rattle.network.specs.Record.{net_of}
 use Rattle.pmn_versions.specs.Versions.{convertible}
-use Rattle.pmn_versions.specs.VersionLaws.{with_sound}
+use Rattle.pmn_versions.proofs.VersionLaws.{with_sound}
 use Rattle.pmn_converter.specs.Conversion.{as_converted}
 use Rattle.pmn_converter.specs.ConversionLaws.{conversion_refused, with_written, with_bytes}
 use Rattle.pmn_converter.proofs.unchecked.convert_sound.Statement.{statement}

@@ -14,7 +14,7 @@ use mir.Facts.{to_z-of_z}
 use Rattle.network.specs.Limits.{in_scale, is_zero, weight_ok}
 use Rattle.basics.specs.WordLaws.{int_at}
 use Rattle.pmn_format.specs.Format.{done, check, parse_feed}
-use Rattle.pmn_format.specs.AtLaws.{feed_at_place, feed_end, feed_crossed, feed_short, feed_whole}
+use Rattle.pmn_format.proofs.AtLaws.{feed_at_place, feed_end, feed_crossed, feed_short, feed_whole}
 use Rattle.pmn_gate.proofs.unchecked.read_feed.Statement.{statement}
 use Rattle.pmn_gate.proofs.unchecked.read_feed.Tie as tie
 

@@ -6,7 +6,7 @@ use Prim.Native.Nat.{◌-◌}
 use mir.Syntax.{w32}
 use mir.Facts.{to_z-of_z}
 use Rattle.pmn_gate.specs.GateAnswers.{FeedAnswered}
-use Rattle.pmn_format.specs.AnsweredLaws.{seen_refused}
+use Rattle.pmn_format.proofs.AnsweredLaws.{seen_refused}
 use Rattle.pmn_gate.proofs.FeedsLoop.{FeedsSoFar, feeds_start, feeds_bad, feeds_got, feeds_end}
 use Rattle.pmn_gate.proofs.unchecked.read_feeds.Statement.{statement}
 use Rattle.pmn_gate.proofs.unchecked.read_feeds.Tie as tie

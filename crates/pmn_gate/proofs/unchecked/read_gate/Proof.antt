@@ -16,9 +16,9 @@ use Rattle.network.specs.Threshold.{Gate}
 use Rattle.network.specs.Limits.{in_scale}
 use Rattle.network.specs.Record.{gate_record}
 use Rattle.pmn_format.specs.Format.{Read, check, parse_gate}
-use Rattle.pmn_format.specs.AtLaws.{parse_kept, gate_end, gate_wide, gate_short, gate_whole}
+use Rattle.pmn_format.proofs.AtLaws.{parse_kept, gate_end, gate_wide, gate_short, gate_whole}
 use Rattle.pmn_format.specs.Answered.{ReadAnswered}
-use Rattle.pmn_format.specs.AnsweredLaws.{seen_refused, seen_same}
+use Rattle.pmn_format.proofs.AnsweredLaws.{seen_refused, seen_same}
 use Rattle.pmn_gate.proofs.unchecked.read_gate.Statement.{statement}
 use Rattle.pmn_gate.proofs.unchecked.read_gate.Tie as tie
 

@@ -9,7 +9,7 @@ use mir.Facts.{to_z-of_z}
 use Rattle.basics.specs.TestLaws.{T_is, T_and}
 use Rattle.network.specs.Record.{gate_record}
 use Rattle.pmn_format.specs.Format.{parse_feeds}
-use Rattle.pmn_format.specs.AtLaws.{parse_kept}
+use Rattle.pmn_format.proofs.AtLaws.{parse_kept}
 use Rattle.pmn_format.specs.Answered.{ReadAnswered}
 use Rattle.pmn_gate.specs.GateAnswers.{gate_places}
 use Rattle.pmn_gate.proofs.Kept.{margins_plain}

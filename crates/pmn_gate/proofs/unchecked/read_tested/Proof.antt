@@ -9,11 +9,11 @@ use lib.ListN.{drop}
 use mir.Facts.{to_z-of_z}
 use Rattle.network.specs.Threshold.{Feed}
 use Rattle.pmn_format.specs.Format.{Read, Bytes, and_then, parse_feeds}
-use Rattle.pmn_format.specs.AtLaws.{gate_kept}
-use Rattle.pmn_format.specs.LengthLaws.{bytes_of, bytes_drop}
+use Rattle.pmn_format.proofs.AtLaws.{gate_kept}
+use Rattle.pmn_format.proofs.LengthLaws.{bytes_of, bytes_drop}
 use Rattle.pmn_format.specs.Answered.{ReadAnswered}
 use Rattle.pmn_gate.specs.GateAnswers.{gate_places}
-use Rattle.pmn_format.specs.AnsweredLaws.{seen_refused, failed}
+use Rattle.pmn_format.proofs.AnsweredLaws.{seen_refused, failed}
 use Rattle.pmn_gate.proofs.Kept.{row_scale, margins_broken, margins_kept}
 use Rattle.pmn_gate.proofs.unchecked.read_tested.Statement.{statement}
 use Rattle.pmn_gate.proofs.unchecked.read_tested.Tie as tie

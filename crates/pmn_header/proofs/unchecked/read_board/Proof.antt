@@ -4,8 +4,8 @@ use borrow.Author.Tests.{eq-eqb, ne_eqb, le-leb, lt-leb}
 use native.Mathlib.Omega.{arith}
 use mathlib.Core.Path.{refl}
 use lib.ListN.{get_or}
-use Rattle.pmn_format.specs.HeadLaws.{board_first, board_second}
-use Rattle.pmn_format.specs.AnsweredLaws.{seen_refused, seen_done}
+use Rattle.pmn_format.proofs.HeadLaws.{board_first, board_second}
+use Rattle.pmn_format.proofs.AnsweredLaws.{seen_refused, seen_done}
 use Rattle.pmn_header.proofs.unchecked.read_board.Statement.{statement}
 use Rattle.pmn_header.proofs.unchecked.read_board.Tie as tie
 

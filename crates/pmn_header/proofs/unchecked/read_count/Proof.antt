@@ -7,8 +7,8 @@ use mathlib.Core.Bool.{Bool, ◌&&◌}
 use lib.Dec.{leb}
 use lib.ListN.{get_or}
 use Rattle.basics.specs.Lists.{between}
-use Rattle.pmn_format.specs.HeadLaws.{count_end, count_whole}
-use Rattle.pmn_format.specs.AnsweredLaws.{seen_refused, seen_done}
+use Rattle.pmn_format.proofs.HeadLaws.{count_end, count_whole}
+use Rattle.pmn_format.proofs.AnsweredLaws.{seen_refused, seen_done}
 use Rattle.pmn_header.proofs.unchecked.read_count.Statement.{statement}
 use Rattle.pmn_header.proofs.unchecked.read_count.Tie as tie
 

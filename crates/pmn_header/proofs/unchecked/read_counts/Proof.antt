@@ -2,8 +2,8 @@
 use borrow.Author.Rules.{rules}
 use native.Mathlib.Omega.{arith}
 use lib.ListN.{drop}
-use Rattle.pmn_format.specs.HeadLaws.{inputs_refused, gates_number_refused, outputs_number_refused, counts_done, count_few}
-use Rattle.pmn_format.specs.AnsweredLaws.{read_as, failed}
+use Rattle.pmn_format.proofs.HeadLaws.{inputs_refused, gates_number_refused, outputs_number_refused, counts_done, count_few}
+use Rattle.pmn_format.proofs.AnsweredLaws.{read_as, failed}
 use Rattle.pmn_header.proofs.HeadLaws.{head_refused}
 use Rattle.pmn_header.proofs.unchecked.read_counts.Statement.{statement}
 use Rattle.pmn_header.proofs.unchecked.read_counts.Tie as tie

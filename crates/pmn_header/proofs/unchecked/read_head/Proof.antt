@@ -6,8 +6,8 @@ use mathlib.Core.Path.{◌≡◌, ap, ◌∙◌}
 use Rattle.basics.specs.Lists.{between}
 use Rattle.network.specs.declared.Board.{Board}
 use Rattle.pmn_format.specs.Format.{Read, and_then, parse_counts, parse_file}
-use Rattle.pmn_format.specs.HeadLaws.{read_board, head_short, head_mark, head_version, head_known}
-use Rattle.pmn_format.specs.AnsweredLaws.{read_as, failed}
+use Rattle.pmn_format.proofs.HeadLaws.{read_board, head_short, head_mark, head_version, head_known}
+use Rattle.pmn_format.proofs.AnsweredLaws.{read_as, failed}
 use Rattle.pmn_header.proofs.HeadLaws.{head_refused, head_same}
 use Rattle.pmn_header.proofs.unchecked.read_head.Statement.{statement}
 use Rattle.pmn_header.proofs.unchecked.read_head.Tie as tie

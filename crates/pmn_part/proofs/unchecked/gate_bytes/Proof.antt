@@ -5,7 +5,7 @@ use native.Mathlib.Omega.{arith}
 use mathlib.Core.Path.{◌≡◌, ap, ◌∙◌}
 use Prim.Native.Nat.{ℕ, ◌+◌, ◌*◌, ◌-◌, ◌≤◌}
 use lib.ListN.{length, get_or, take, drop}
-use Rattle.pmn_format.specs.PartLaws.{start_within}
+use Rattle.pmn_format.proofs.PartLaws.{start_within}
 use Rattle.pmn_part.proofs.unchecked.gate_bytes.Statement.{statement}
 use Rattle.pmn_part.proofs.unchecked.gate_bytes.Tie as tie
 

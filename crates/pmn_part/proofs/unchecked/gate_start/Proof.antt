@@ -4,8 +4,8 @@ use native.Mathlib.Omega.{arith}
 use mathlib.Core.Path.{◌≡◌, sym, ap, ◌∙◌}
 use Prim.Native.Nat.{◌+◌, ◌*◌, ◌-◌, ◌≤◌, zero-le}
 use lib.ListN.{length, get_or}
-use Rattle.pmn_format.specs.LengthLaws.{file_long}
-use Rattle.pmn_format.specs.PartLaws.{start_by, start_by_none, start_by_more, start_within}
+use Rattle.pmn_format.proofs.LengthLaws.{file_long}
+use Rattle.pmn_format.proofs.PartLaws.{start_by, start_by_none, start_by_more, start_within}
 use Rattle.pmn_part.proofs.unchecked.gate_start.Statement.{statement}
 use Rattle.pmn_part.proofs.unchecked.gate_start.Tie as tie
 

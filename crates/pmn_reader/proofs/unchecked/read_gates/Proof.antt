@@ -2,7 +2,7 @@
 use borrow.Author.Rules.{rules}
 use native.Mathlib.Omega.{arith}
 use Prim.Native.Nat.{◌-◌}
-use Rattle.pmn_format.specs.AnsweredLaws.{seen_refused, found, failed}
+use Rattle.pmn_format.proofs.AnsweredLaws.{seen_refused, found, failed}
 use Rattle.pmn_reader.proofs.GatesLoop.{GatesSoFar, gates_start, gates_bad, gates_got, gates_end}
 use Rattle.pmn_reader.proofs.unchecked.read_gates.Statement.{statement}
 use Rattle.pmn_reader.proofs.unchecked.read_gates.Tie as tie

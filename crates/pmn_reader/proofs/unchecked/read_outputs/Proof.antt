@@ -6,7 +6,7 @@ use mathlib.Core.Path.{◌≡◌, sym, ap, ◌∙◌}
 use Prim.Native.Nat.{◌-◌}
 use lib.ListN.{get_or}
 use Rattle.network.specs.Limits.{gate_signal}
-use Rattle.pmn_format.specs.AnsweredLaws.{seen_refused}
+use Rattle.pmn_format.proofs.AnsweredLaws.{seen_refused}
 use Rattle.pmn_reader.proofs.OutputsLoop.{OutputsSoFar, outputs_start, outputs_cut, outputs_stray, outputs_got, outputs_end}
 use Rattle.pmn_reader.proofs.unchecked.read_outputs.Statement.{statement}
 use Rattle.pmn_reader.proofs.unchecked.read_outputs.Tie as tie

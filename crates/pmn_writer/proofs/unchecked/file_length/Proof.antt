@@ -4,7 +4,7 @@ use Prim.Native.Nat.{◌+◌, ◌*◌, ◌-◌, ◌≤◌, zero-le}
 use native.Mathlib.Omega.{arith}
 use borrow.Author.Rules.{rules}
 use Rattle.pmn_format.specs.Lengths.{header_length}
-use Rattle.pmn_format.specs.BoardLaws.{header_long}
+use Rattle.pmn_format.proofs.BoardLaws.{header_long}
 use Rattle.pmn_writer.specs.Writing.{gates_length}
 use Rattle.pmn_writer.specs.WritingLaws.{gates_length_none, gates_length_more}
 use Rattle.pmn_writer.proofs.unchecked.file_length.Statement.{statement}

@@ -12,7 +12,7 @@ use Rattle.network.specs.Record.{net_of}
 use Rattle.network.specs.SoundLaws.{CountsInArrays, sized_of, counted_of}
 use Rattle.pmn_format.specs.Format.{counted_header, file_bytes}
 use Rattle.pmn_format.specs.Lengths.{header_length}
-use Rattle.pmn_format.specs.LengthLaws.{counted_header_length}
+use Rattle.pmn_format.proofs.LengthLaws.{counted_header_length}
 use Rattle.pmn_writing.specs.Parts.{first_outputs}
 use Rattle.pmn_writing.specs.PartLaws.{first_outputs_length}
 use Rattle.pmn_writer.specs.Writing.{first_gates, gates_length}

@@ -6,7 +6,7 @@ use lib.ListN.{length}
 use native.Mathlib.Omega.{arith}
 use borrow.Author.Rules.{rules}
 use Rattle.basics.specs.WriteLaws.{tail_length, write_on}
-use Rattle.pmn_format.specs.BoardLaws.{mark_bytes_length, header_long}
+use Rattle.pmn_format.proofs.BoardLaws.{mark_bytes_length, header_long}
 use Rattle.pmn_format.specs.Format.{mark_bytes}
 use Rattle.pmn_writing.proofs.unchecked.put_header.Statement.{statement}
 use Rattle.pmn_writing.proofs.unchecked.put_header.Tie as tie

@@ -1,7 +1,7 @@
 -- The test is the definition's.
 use native.Mathlib.Omega.{arith}
 use mathlib.Core.Path.{sym}
-use Rattle.question_theory.specs.LineLaws.{second_input, second_gate}
+use Rattle.question_theory.proofs.LineLaws.{second_input, second_gate}
 use Rattle.question_terms.proofs.unchecked.variable_of.Statement.{statement}
 use Rattle.question_terms.proofs.unchecked.variable_of.Tie as tie
 

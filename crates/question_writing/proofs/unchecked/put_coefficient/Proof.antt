@@ -10,7 +10,7 @@ use borrow.Author.Rules.{rules}
 use Rattle.texts.specs.Texts.{decimal}
 use Rattle.question_theory.specs.Text.{coefficient}
 use Rattle.question_writing.specs.TextPartLaws.{coefficient_below, coefficient_above}
-use Rattle.texts.specs.PutLaws.{put_text}
+use Rattle.texts.proofs.PutLaws.{put_text}
 use Rattle.basics.specs.SignLaws.{below_sign, above_sign}
 use Rattle.question_writing.proofs.unchecked.put_coefficient.Statement.{statement}
 use Rattle.question_writing.proofs.unchecked.put_coefficient.Tie as tie

@@ -11,7 +11,7 @@ use Rattle.texts.specs.Texts.{decimal}
 use Rattle.question_theory.specs.Text.{variable_word, constraint_word}
 use Rattle.texts.specs.Writes.{TextPut}
 use Rattle.question_writing.specs.TextPartLaws.{header_parts, header_text_length}
-use Rattle.texts.specs.PutLaws.{put_text, put_byte, put_part, put_length}
+use Rattle.texts.proofs.PutLaws.{put_text, put_byte, put_part, put_length}
 use Rattle.question_writing.proofs.unchecked.put_header.Statement.{statement}
 use Rattle.question_writing.proofs.unchecked.put_header.Tie as tie
 

@@ -13,7 +13,7 @@ use Rattle.network.specs.Record.{feeds_from}
 use Rattle.question_theory.specs.Text.{terms_text, relation_text}
 use Rattle.question_terms.specs.Terms.{line_in}
 use Rattle.question_writing.specs.TextPartLaws.{line_parts}
-use Rattle.texts.specs.PutLaws.{put_text, put_part, put_length}
+use Rattle.texts.proofs.PutLaws.{put_text, put_part, put_length}
 use Rattle.question_writing.proofs.unchecked.put_line.Statement.{statement}
 use Rattle.question_writing.proofs.unchecked.put_line.Tie as tie
 

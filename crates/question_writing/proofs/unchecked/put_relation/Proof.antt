@@ -13,7 +13,7 @@ use Rattle.basics.specs.WriteLaws.{tail_length}
 use Rattle.question_theory.specs.Text.{right_side}
 use Rattle.texts.specs.Writes.{TextPut}
 use Rattle.question_writing.specs.TextPartLaws.{relation_parts, relation_length}
-use Rattle.texts.specs.PutLaws.{put_text, put_part, put_length}
+use Rattle.texts.proofs.PutLaws.{put_text, put_part, put_length}
 use Rattle.question_writing.proofs.unchecked.put_relation.Statement.{statement}
 use Rattle.question_writing.proofs.unchecked.put_relation.Tie as tie
 

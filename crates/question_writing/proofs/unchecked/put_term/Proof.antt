@@ -12,7 +12,7 @@ use Rattle.texts.specs.Texts.{decimal}
 use Rattle.question_theory.specs.Text.{coefficient}
 use Rattle.texts.specs.Writes.{TextPut}
 use Rattle.question_writing.specs.TextPartLaws.{term_parts, term_length}
-use Rattle.texts.specs.PutLaws.{put_text, put_byte, put_part, put_length}
+use Rattle.texts.proofs.PutLaws.{put_text, put_byte, put_part, put_length}
 use Rattle.question_writing.proofs.unchecked.put_term.Statement.{statement}
 use Rattle.question_writing.proofs.unchecked.put_term.Tie as tie
 

@@ -16,11 +16,11 @@ use Rattle.network.specs.Record.{feed_at, feeds_from, no_feed}
 use Rattle.network.specs.PlaceLaws.{length_feeds, feeds_at}
 use Rattle.question_theory.specs.Question.{term}
 use Rattle.question_theory.specs.Text.{term_text, terms_text}
-use Rattle.question_theory.specs.TextLaws.{TermDigits}
+use Rattle.question_theory.proofs.TextLaws.{TermDigits}
 use Rattle.texts.specs.Writes.{TextPut}
 use Rattle.question_terms.specs.FeedLaws.{feeds_none}
 use Rattle.question_writing.specs.TextPartLaws.{terms_more, terms_room}
-use Rattle.texts.specs.PutLaws.{put_none, put_text, put_part, put_length}
+use Rattle.texts.proofs.PutLaws.{put_none, put_text, put_part, put_length}
 use Rattle.question_writing.proofs.unchecked.put_terms.Statement.{statement}
 use Rattle.question_writing.proofs.unchecked.put_terms.Tie as tie
 

@@ -5,7 +5,7 @@ use native.Mathlib.Omega.{arith}
 use borrow.Author.Rules.{rules}
 use lib.ListN.{length}
 use Rattle.basics.specs.Refusals.{accepted}
-use Rattle.scorer_theory.specs.RuleLaws.{ball_played}
+use Rattle.scorer_theory.proofs.RuleLaws.{ball_played}
 use Rattle.scorer_tally.specs.Sheets.{as_sheet}
 use Rattle.scorer_ball.specs.Words.{game_of}
 use Rattle.scorer_play.specs.Play.{Playing}

@@ -4,7 +4,7 @@ use native.Mathlib.Omega.{arith}
 use lib.ListN.{length}
 use borrow.Author.Rules.{rules}
 use Rattle.basics.specs.WriteLaws.{tail_length}
-use Rattle.texts.specs.PutLaws.{put_part, put_length}
+use Rattle.texts.proofs.PutLaws.{put_part, put_length}
 use Rattle.texts.proofs.unchecked.put_number.Statement.{statement}
 use Rattle.texts.proofs.unchecked.put_number.Tie as tie
 

@@ -3,7 +3,7 @@ use borrow.Author.Rules.{rules}
 use mathlib.Core.Path.{ap, ◌∙◌}
 use native.Mathlib.Omega.{arith}
 use Rattle.question_theory.specs.Question.{second_variable}
-use Rattle.compare_theory.specs.SideBySideLaws.{second_most}
+use Rattle.compare_theory.proofs.SideBySideLaws.{second_most}
 use Rattle.compare_joint.proofs.unchecked.rows.joint_signal.Statement.{statement}
 use Rattle.compare_joint.proofs.unchecked.rows.joint_signal.Tie as tie
 

@@ -7,7 +7,7 @@ use Prim.Native.Nat.{◌-◌, ◌≤◌, ◌<◌}
 use native.Mathlib.Omega.{arith}
 use Rattle.compare_theory.specs.Joint.{joint}
 use Rattle.compare_theory.specs.Wiring.{Matched}
-use Rattle.compare_theory.specs.WiringLaws.{matched_more}
+use Rattle.compare_theory.proofs.WiringLaws.{matched_more}
 use Rattle.compare_merging.specs.TwinLaws.{alike_of}
 use Rattle.compare_merging.proofs.unchecked.outputs.compare_outputs.Statement.{statement}
 use Rattle.compare_merging.proofs.unchecked.outputs.compare_outputs.Tie as tie

@@ -2,7 +2,7 @@
 use borrow.Author.Rules.{rules}
 use native.Mathlib.Omega.{arith}
 use Rattle.compare_theory.specs.Joint.{joint}
-use Rattle.compare_theory.specs.WiringLaws.{kept_same, kept_rewired}
+use Rattle.compare_theory.proofs.WiringLaws.{kept_same, kept_rewired}
 use Rattle.compare_merging.specs.TwinLaws.{alike_of}
 use Rattle.compare_merging.proofs.unchecked.pairs.merge.Statement.{statement}
 use Rattle.compare_merging.proofs.unchecked.pairs.merge.Tie as tie

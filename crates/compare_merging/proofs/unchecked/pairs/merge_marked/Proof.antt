@@ -2,7 +2,7 @@
 use borrow.Author.Rules.{rules}
 use borrow.Author.Tests.{not-false}
 use native.Mathlib.Omega.{arith}
-use Rattle.compare_theory.specs.WiringLaws.{kept_same}
+use Rattle.compare_theory.proofs.WiringLaws.{kept_same}
 use Rattle.compare_merging.proofs.unchecked.pairs.merge_marked.Statement.{statement}
 use Rattle.compare_merging.proofs.unchecked.pairs.merge_marked.Tie as tie
 

@@ -4,7 +4,7 @@ use Prim.Native.Nat.{◌-◌, ◌≤◌}
 use native.Mathlib.Omega.{arith}
 use Rattle.compare_theory.specs.Joint.{joint}
 use Rattle.compare_theory.specs.Wiring.{Kept}
-use Rattle.compare_theory.specs.WiringLaws.{kept_same, kept_then}
+use Rattle.compare_theory.proofs.WiringLaws.{kept_same, kept_then}
 use Rattle.compare_merging.proofs.unchecked.pairs.merge_one.Statement.{statement}
 use Rattle.compare_merging.proofs.unchecked.pairs.merge_one.Tie as tie
 

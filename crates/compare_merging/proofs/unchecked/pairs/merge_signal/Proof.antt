@@ -1,7 +1,7 @@
 -- The second try goes on from the first. Assumes nothing.
 use borrow.Author.Rules.{rules}
 use native.Mathlib.Omega.{arith}
-use Rattle.compare_theory.specs.WiringLaws.{kept_then}
+use Rattle.compare_theory.proofs.WiringLaws.{kept_then}
 use Rattle.compare_merging.proofs.unchecked.pairs.merge_signal.Statement.{statement}
 use Rattle.compare_merging.proofs.unchecked.pairs.merge_signal.Tie as tie
 

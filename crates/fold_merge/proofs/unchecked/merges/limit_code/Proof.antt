@@ -6,7 +6,7 @@ use Rattle.basics.specs.TestLaws.{T_is, T_and}
 use Rattle.fold_theory.specs.Aligned.{scale_fits}
 use Rattle.pair_theory.specs.Alignments.{aligned_in, DialLimits}
 use Rattle.fold_theory.specs.Merge.{on_dial}
-use Rattle.fold_theory.specs.PairLaws.{dial_of}
+use Rattle.fold_theory.proofs.PairLaws.{dial_of}
 use Rattle.fold_edges.specs.Codes.{first_failing}
 use Rattle.fold_merge.specs.Codes.{limit_tests_on}
 use borrow.Author.Rules.{rules}

@@ -8,9 +8,9 @@ use Rattle.network.specs.SoundLaws.{sound_board}
 use Rattle.network.specs.declared.Network.{Network}
 use Rattle.network_places.specs.Parts.{from_parts}
 use Rattle.fold_theory.specs.Merge.{Edge}
-use Rattle.fold_theory.specs.AlignedLaws.{EdgeOk}
+use Rattle.fold_theory.proofs.AlignedLaws.{EdgeOk}
 use Rattle.pair_theory.specs.Alignments.{merged_of, AlignmentOnScale, Mergeable}
-use Rattle.pair_theory.specs.AlignmentLaws.{aligned_fair}
+use Rattle.pair_theory.proofs.AlignmentLaws.{aligned_fair}
 use Rattle.pair_theory.specs.declared.Alignment.{Alignment}
 use Rattle.fold_readers.specs.Arrays.{SoundArrays}
 use Rattle.fold_readers.specs.ArrayLaws.{lent_of}

@@ -1,0 +1,16 @@
+pub mod AgreeLaws
+pub mod AlignedLaws
+pub mod BenchLaws
+pub mod CollapseLaws
+pub mod GuaranteeLaws
+pub mod LimitLaws
+pub mod LowerLaws
+pub mod MarginLaws
+pub mod MemberLaws
+pub mod NumberLaws
+pub mod PairLaws
+pub mod RefusalLaws
+pub mod SoundLaws
+pub mod StepLaws
+pub mod SweepLaws
+pub mod WeightLaws

@@ -1,0 +1,2 @@
+pub mod LoweredLaws
+pub mod UnchangedLaws

@@ -1,0 +1,12 @@
+pub mod AnswerLaws
+pub mod CutLaws
+pub mod FileLaws
+pub mod FrameLaws
+pub mod JournalLaws
+pub mod ListLaws
+pub mod PairLaws
+pub mod PreviewLaws
+pub mod QuestionLaws
+pub mod RecordLaws
+pub mod ThirteenLaws
+pub mod WitnessLaws

@@ -1,0 +1,12 @@
+pub mod AnsweredLaws
+pub mod AtLaws
+pub mod BoardLaws
+pub mod CodeLaws
+pub mod HeadLaws
+pub mod LengthLaws
+pub mod PartLaws
+pub mod ReadWriteLaws
+pub mod ScaleLaws
+pub mod StepLaws
+pub mod TurnLaws
+pub mod WriteReadLaws

@@ -1,0 +1,9 @@
+pub mod BitLaws
+pub mod ChoiceLaws
+pub mod ClaimLaws
+pub mod CountLaws
+pub mod ExampleLaws
+pub mod GateLaws
+pub mod OnceLaws
+pub mod SettingLaws
+pub mod SumLaws

@@ -1,0 +1,10 @@
+pub mod AlikeLaws
+pub mod FrameLaws
+pub mod LineLaws
+pub mod MeaningLaws
+pub mod MemberLaws
+pub mod SizeLaws
+pub mod SolutionLaws
+pub mod SolutionLawsGates
+pub mod SolutionLawsOutputs
+pub mod TextLaws
