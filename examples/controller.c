@@ -1,16 +1,12 @@
 /* A controller at the pin deck, as small as it can be: it takes the mask of its head, then reads the frames of its camera and shows the pins.
  *
  *     cc -std=c99 -Iinclude examples/controller.c target/staticlib/libcapi.a -o controller
- *     controller MASK [OLD] < FRAMES
- *
- * Where the OLD mask is given, the new one is taken only if the library's comparison says that it reads every frame as the old one does. A
- * fold that went wrong is refused here, before it reads a frame.
+ *     controller MASK < FRAMES
  *
  * FRAMES has a number for each camera frame, bit i for patch i, decimal or 0x. For each one the controller prints the output bits, output 0
  * first, and how many outputs are 1. After the last frame it prints the sheet, where the mask shows ten pins and the frames are a game: one
  * for each ball. What the library refuses is shown by its number, as on the head's display, and the controller goes on.
- * Exit status: 0 done; 1 a mask is refused or can't be read, or the new one does not read as the old one; 2 wrong use or a frame that is no
- * number; 3 undecided whether the new one reads as the old one. */
+ * Exit status: 0 done, 1 the mask is refused or can't be read, 2 wrong use or a frame that is no number. */
 #include <errno.h>
 #include <inttypes.h>
 #include <stdio.h>
@@ -18,13 +14,7 @@
 
 #include "pmn.h"
 
-/* How many steps the comparison may take. A mask and its fold seldom need so many. */
-#ifndef STEPS
-#define STEPS 1000000
-#endif
-
 enum { LONGEST_FILE = 10906, BALLS = 21, SHEET_PLACES = 33 };
-enum { ALIKE, APART };
 
 /* A mask, and how many outputs it has. One byte more than the longest file, so that a longer one is seen. */
 struct mask {
@@ -34,7 +24,7 @@ struct mask {
 };
 
 /* Reads a mask; 0, or the number of the library's refusal, or -1 where the file can't be read. */
-static int read_mask(struct mask *mask, const char *path)
+static int take_mask(struct mask *mask, const char *path)
 {
     FILE *source = fopen(path, "rb");
     int code;
@@ -47,35 +37,6 @@ static int read_mask(struct mask *mask, const char *path)
     if (code == 0)
         mask->outputs = mask->file[mask->file[3] == 2 ? 9 : 7];
     return code;
-}
-
-/* Takes a mask: 0, or the exit status where it can't be taken, and why is said. */
-static int take_mask(struct mask *mask, const char *path)
-{
-    int code = read_mask(mask, path);
-    if (code == 0)
-        return 0;
-    fprintf(stderr, code < 0 ? "%s: can't be read\n" : "%s: refused %d\n", path, code);
-    return 1;
-}
-
-/* Whether a new mask reads every frame as the old one: 0, or the exit status where it does not, and why is said. */
-static int test_alike(const struct mask *mask, const struct mask *old, const char *path)
-{
-    uint64_t answer[3];
-    uint8_t code = pmn_compare(old->file, old->length, mask->file, mask->length, STEPS, answer, 3);
-    if (code != 0) {
-        fprintf(stderr, "%s: refused %u beside the old mask\n", path, code);
-        return 1;
-    }
-    if (answer[0] == ALIKE)
-        return 0;
-    if (answer[0] == APART) {
-        fprintf(stderr, "%s: apart from the old mask on frame 0x%" PRIx64 "\n", path, answer[1]);
-        return 1;
-    }
-    fprintf(stderr, "%s: undecided whether it reads as the old mask\n", path);
-    return 3;
 }
 
 /* The next frame of the camera: 1; 0 where there is none, -1 where a word is no number. */
@@ -125,21 +86,19 @@ static void show_sheet(const struct mask *mask, const uint64_t *frames, size_t c
 
 int main(int count, char **words)
 {
-    static struct mask mask, old;
+    static struct mask mask;
     uint64_t frames[BALLS + 1], frame;
     size_t balls = 0;
     int code;
-    if (count != 2 && count != 3) {
-        fprintf(stderr, "use: controller MASK [OLD] < FRAMES\n");
+    if (count != 2) {
+        fprintf(stderr, "use: controller MASK < FRAMES\n");
         return 2;
     }
     code = take_mask(&mask, words[1]);
-    if (code == 0 && count == 3)
-        code = take_mask(&old, words[2]);
-    if (code == 0 && count == 3)
-        code = test_alike(&mask, &old, words[1]);
-    if (code != 0)
-        return code;
+    if (code != 0) {
+        fprintf(stderr, code < 0 ? "%s: can't be read\n" : "%s: refused %d\n", words[1], code);
+        return 1;
+    }
     while ((code = next_frame(&frame)) > 0) {
         show_frame(&mask, frame);
         if (balls <= BALLS)

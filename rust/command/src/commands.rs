@@ -14,35 +14,34 @@ use crate::help;
 use crate::output::{say, Output};
 use std::ffi::OsString;
 
-/// A command: what it takes, what it does, and whether it compares two masks.
+/// A command: what it takes, and what it does.
 pub struct Command {
     /// what it takes
     pub form: &'static Form,
     work: fn(&Arguments, &mut Output) -> Result<Status, Failure>,
-    compares: fn(&Arguments) -> bool,
 }
 
 /// Every command, in the order of the help.
 pub static COMMANDS: [Command; 19] = [
-    Command { form: &look::CHECK, work: look::check, compares: never },
-    Command { form: &look::SHOW, work: look::show, compares: never },
-    Command { form: &look::REPORT, work: look::report, compares: never },
-    Command { form: &readings::FRAME, work: readings::frame, compares: never },
-    Command { form: &readings::SCORE, work: readings::score, compares: never },
-    Command { form: &fold::FOLD, work: fold::fold, compares: fold::compares },
-    Command { form: &calls::RUN, work: calls::run, compares: never },
-    Command { form: &calls::PREVIEW, work: calls::preview, compares: never },
-    Command { form: &calls::PAIR, work: calls::pair, compares: never },
-    Command { form: &calls::WITNESS, work: calls::witness, compares: never },
-    Command { form: &pieces::CUT, work: pieces::cut, compares: never },
-    Command { form: &pieces::CONVERT, work: pieces::convert, compares: never },
-    Command { form: &pieces::PART, work: pieces::part, compares: never },
-    Command { form: &compare::COMPARE, work: compare::compare, compares: always },
-    Command { form: &compare::QUESTION, work: compare::question, compares: never },
-    Command { form: &lanes::ALLEY, work: lanes::alley, compares: never },
-    Command { form: &papers::SHEET, work: papers::sheet, compares: always },
-    Command { form: &papers::PICTURE, work: papers::picture, compares: never },
-    Command { form: &HELP, work: show_help, compares: never },
+    Command { form: &look::CHECK, work: look::check },
+    Command { form: &look::SHOW, work: look::show },
+    Command { form: &look::REPORT, work: look::report },
+    Command { form: &readings::FRAME, work: readings::frame },
+    Command { form: &readings::SCORE, work: readings::score },
+    Command { form: &fold::FOLD, work: fold::fold },
+    Command { form: &calls::RUN, work: calls::run },
+    Command { form: &calls::PREVIEW, work: calls::preview },
+    Command { form: &calls::PAIR, work: calls::pair },
+    Command { form: &calls::WITNESS, work: calls::witness },
+    Command { form: &pieces::CUT, work: pieces::cut },
+    Command { form: &pieces::CONVERT, work: pieces::convert },
+    Command { form: &pieces::PART, work: pieces::part },
+    Command { form: &compare::COMPARE, work: compare::compare },
+    Command { form: &compare::QUESTION, work: compare::question },
+    Command { form: &lanes::ALLEY, work: lanes::alley },
+    Command { form: &papers::SHEET, work: papers::sheet },
+    Command { form: &papers::PICTURE, work: papers::picture },
+    Command { form: &HELP, work: show_help },
 ];
 
 /// `help [COMMAND]`
@@ -86,19 +85,7 @@ fn work(command: &Command, arguments: &Arguments, out: &mut Output) -> Result<St
     if arguments.writes_standard_output() {
         out.put_lines_aside();
     }
-    let worked = (command.work)(arguments, out).and_then(|status| out.flush().map(|()| status));
-    if !(command.compares)(arguments) {
-        return worked;
-    }
-    worked.map_err(Failure::in_a_comparison)
-}
-
-fn never(_: &Arguments) -> bool {
-    false
-}
-
-fn always(_: &Arguments) -> bool {
-    true
+    (command.work)(arguments, out)
 }
 
 fn named(name: &OsString) -> Result<&'static Command, Failure> {
@@ -122,7 +109,6 @@ fn overview() -> String {
 
 fn print(out: &mut Output, text: &str) -> Result<Status, Failure> {
     out.text(text)?;
-    out.flush()?;
     Ok(Status::Done)
 }
 

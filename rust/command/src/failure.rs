@@ -8,28 +8,19 @@ use std::io;
 pub enum Status {
     /// the work is done
     Done,
-    /// refused, or not to be read or written
+    /// refused, unlike, or not to be read or written
     Refused,
     /// the arguments are not what the command takes
     WrongUse,
-    /// two masks read alike, and this is proved
-    Alike,
-    /// two masks part on some frame
-    Apart,
-    /// two masks were not compared: a file that is refused or can't be read or written
-    Trouble,
-    /// two masks were compared, and neither is known
-    Undecided,
 }
 
 impl Status {
-    /// The number for the shell; those of a comparison are as `cmp` and `diff` have them.
+    /// The number for the shell.
     pub fn number(self) -> u8 {
         match self {
-            Status::Done | Status::Alike => 0,
-            Status::Refused | Status::Apart => 1,
-            Status::WrongUse | Status::Trouble => 2,
-            Status::Undecided => 3,
+            Status::Done => 0,
+            Status::Refused => 1,
+            Status::WrongUse => 2,
         }
     }
 }
@@ -47,8 +38,6 @@ pub enum Failure {
     ClosedPipe,
     /// several failures, each of which is said already
     Said,
-    /// any of these in a command that compares two masks
-    InAComparison(Box<Failure>),
 }
 
 impl Failure {
@@ -67,30 +56,17 @@ impl Failure {
         Failure::file(name, system_words(error))
     }
 
-    /// The same in a command that compares two masks, where the status 1 would say that they are apart. Wrong use is wrong use everywhere.
-    pub fn in_a_comparison(self) -> Failure {
-        match self {
-            Failure::WrongUse(_) => self,
-            _ => Failure::InAComparison(Box::new(self)),
-        }
-    }
-
     /// What the shell is told.
     pub fn status(&self) -> Status {
         match self {
             Failure::WrongUse(_) => Status::WrongUse,
-            Failure::InAComparison(_) => Status::Trouble,
             _ => Status::Refused,
         }
     }
 
     /// Whether there is nothing to say any more.
     pub fn is_silent(&self) -> bool {
-        match self {
-            Failure::ClosedPipe | Failure::Said => true,
-            Failure::InAComparison(failure) => failure.is_silent(),
-            _ => false,
-        }
+        matches!(self, Failure::ClosedPipe | Failure::Said)
     }
 }
 
@@ -101,7 +77,6 @@ impl fmt::Display for Failure {
             Failure::Refused { name, refusal } => write!(f, "{name}: refused {refusal}"),
             Failure::File { name, words } => write!(f, "{name}: {words}"),
             Failure::ClosedPipe | Failure::Said => Ok(()),
-            Failure::InAComparison(failure) => write!(f, "{failure}"),
         }
     }
 }

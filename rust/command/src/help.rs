@@ -13,8 +13,7 @@ pub fn overview(forms: &[&Form]) -> String {
     text.push_str(
         "\nThe file - is standard input, and -o - is standard output. Numbers are decimal, or 0x and hexadecimal, or 0b and binary.\n\
          A file that is there already is written over only with --force.\n\
-         Status: 0 done, 1 refused (or a file that can't be read or written), 2 wrong use.\n\
-         Of compare, sheet and fold --solve: 0 alike, which is proved, 1 apart, 3 undecided, 2 trouble or wrong use.\n",
+         Status: 0 done, 1 refused or unlike (or a file that can't be read or written), 2 wrong use.\n",
     );
     text
 }

@@ -34,7 +34,7 @@ pub struct Closing<'a> {
 pub fn page(closing: &Closing) -> String {
     let list = closing.list.map_or_else(Printed::nothing, |list| Printed::of(list, closing.before.name, closing.after.name));
     let parts = [
-        verdict(closing.comparison),
+        verdict(&closing.comparison.verdict),
         figures::table(&closing.before, &closing.after),
         pictures::both(&closing.before, &closing.after),
         list.on_sheet,
@@ -50,27 +50,26 @@ pub fn page(closing: &Closing) -> String {
     )
 }
 
-/// The verdict, and who vouches for it.
-fn verdict(comparison: &Comparison) -> String {
-    let class = match comparison.verdict {
+fn verdict(verdict: &Verdict) -> String {
+    let class = match verdict {
         Verdict::Alike => "alike",
         Verdict::Apart { .. } => "apart",
-        Verdict::Undecided => "open",
+        Verdict::NotSeenApart => "open",
     };
-    format!("<h1 class=\"{class}\">{}</h1>\n", escaped(&words::head(comparison)))
+    format!("<h1 class=\"{class}\">{}</h1>\n", escaped(&words::verdict(verdict)))
 }
 
 fn compared(closing: &Closing) -> String {
-    let text = words::how(closing.comparison);
+    let inputs = closing.before.mask.network().inputs;
+    let text = words::how(closing.comparison, inputs);
     format!("<section>\n<h2>How the two were compared</h2>\n<p>{}</p>\n</section>\n", escaped(&text))
 }
 
 fn proved() -> String {
     "<section>\n<h2>What is proved, and what is tested</h2>\n\
-     <p><b>Proved:</b> every call of the library: a list of its calls changes no output on any frame, and its comparison says alike only \
-     where the outputs are the same on every frame. \
-     <b>Tested:</b> that this command hands files and numbers on to the library unchanged, prints its answers, sees whether two files are \
-     equal, and makes checksums and pictures of the files as they are.</p>\n</section>\n"
+     <p><b>Proved:</b> every call of the library, so that a list of its calls changes no output on any frame. \
+     <b>Tested:</b> that this command hands files and numbers on to the library unchanged, prints its answers, compares as said here, \
+     and makes checksums and pictures of the files as they are.</p>\n</section>\n"
         .to_string()
 }
 

@@ -1,4 +1,4 @@
-//! Questions handed to a pseudo-Boolean solver that is asked by its name, such as clasp or minisat+.
+//! Questions handed to a pseudo-Boolean solver, clasp or minisat+, where there is one.
 use crate::failure::Failure;
 use crate::progress::Progress;
 use crate::temporary::Directory;
@@ -10,13 +10,16 @@ use std::process::{Child, Command, Stdio};
 use std::thread;
 use std::time::{Duration, Instant};
 
+/// The solvers that are looked for, in this order.
+const SOLVERS: [&str; 2] = ["clasp", "minisat+"];
+
 /// The least time between two looks at a solver that works.
 const PAUSE: Duration = Duration::from_millis(5);
 
 /// A solver that is there.
 #[derive(Clone, Debug, PartialEq, Eq)]
 pub struct Solver {
-    /// as it was named
+    /// as it was found or named
     pub name: String,
     program: PathBuf,
 }
@@ -33,6 +36,11 @@ pub enum Verdict {
 }
 
 impl Solver {
+    /// The first solver on the PATH.
+    pub fn any() -> Option<Solver> {
+        SOLVERS.iter().find_map(|name| Solver::on_the_path(name))
+    }
+
     /// A solver by its name on the PATH, or by the path of its program.
     pub fn named(word: &OsStr) -> Result<Solver, Failure> {
         let name = word.to_string_lossy().into_owned();

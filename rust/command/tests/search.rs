@@ -55,12 +55,12 @@ fn test_found(mask: &Mask, found: &Found) {
     assert!(found.size <= swept, "{:?} {swept:?}", found.size);
 }
 
-/// The two read alike, by the proved comparison where they are not equal.
+/// The two read alike, decided by frames.
 fn test_alike(before: &Mask, after: &Mask) {
     let named = |name: &str, mask: &Mask| Named { name: name.to_string(), mask: mask.clone() };
     let compared = compare(&named("before", before), &named("after", after), &Options::default(), &mut Progress::new()).unwrap();
     assert_eq!(compared.verdict, Verdict::Alike);
-    assert!(matches!(compared.how, How::Steps(_) | How::EqualBytes));
+    assert!(matches!(compared.how, How::EveryFrame(_) | How::EachOutput(_)));
 }
 
 #[test]

@@ -48,7 +48,7 @@ fn folded(mask: &Mask) -> Mask {
 }
 
 fn alike() -> Comparison {
-    Comparison { verdict: Verdict::Alike, how: How::List, word: None }
+    Comparison { verdict: Verdict::Alike, how: How::List }
 }
 
 /// The list with a sweep alone.
@@ -121,8 +121,7 @@ fn the_page_has_every_part() {
     // as the programs crc32 and sha256sum print them of samples/shadow_rack.pmn
     assert_has(&text, &["4bcb5a53", "48946cece8778478a77f099f2c20bffd883a195365e488be439dd0db3ace0064"]);
     assert_has(&page, &["<b>sweep 128</b> folded 20", "How the two were compared", "the theorem over lists of calls covers every frame"]);
-    assert_has(&page, &["<b>Proved:</b> every call of the library", "its comparison says alike only where the outputs are the same"]);
-    assert_has(&page, &["<b>Tested:</b> that this command hands files and numbers on"]);
+    assert_has(&page, &["<b>Proved:</b> every call of the library", "<b>Tested:</b> that this command hands files and numbers on"]);
     assert_has(&page, &["<span>date</span><b>2026-01-31</b>", "<span>name</span>"]);
     assert_eq!(page.matches("<svg ").count(), 2);
     assert!(page.ends_with("<span class=\"tick\"></span> masks folded, old and new read alike</p>\n</footer>\n</main>\n</body>\n</html>\n"));
@@ -135,12 +134,12 @@ fn without_a_list_and_a_date_their_places_are_empty() {
         before: Named { name: "f.pmn", mask: &mask },
         after: Named { name: "f.pmn", mask: &mask },
         list,
-        comparison: &Comparison { verdict: Verdict::Alike, how: How::EqualBytes, word: None },
+        comparison: &Comparison { verdict: Verdict::Alike, how: How::EveryFrame(8) },
         date: None,
     };
     let page = page(&closing(None));
     assert!(!page.contains("<ol"));
-    assert_has(&page, &["<span>date</span><b></b>", "compared byte by byte: they are equal", "<td>none</td>"]);
+    assert_has(&page, &["<span>date</span><b></b>", "read on every frame, 8 in all", "<td>none</td>"]);
     assert_closed(&page);
 }
 
@@ -157,72 +156,39 @@ fn names_and_calls_are_escaped() {
     let mask = sample("f");
     let name = "a & b <i> \"c\" 'd'\n.pmn";
     let list = [("drop <3>".to_string(), "\"&".to_string())];
-    let comparison = Comparison { verdict: Verdict::Undecided, how: How::Steps(1), word: Some("<clasp>: it says &".to_string()) };
+    let comparison = Comparison { verdict: Verdict::Alike, how: How::Solver("<clasp>".to_string()) };
     let named = || Named { name, mask: &mask };
     let page = page(&Closing { before: named(), after: named(), list: Some(&list), comparison: &comparison, date: Some("<&>") });
     assert_closed(&page);
     assert_has(&page, &["<b>a &amp; b &lt;i&gt; &quot;c&quot; &#39;d&#39;\u{fffd}.pmn</b>", "drop &lt;3&gt;</b> &quot;&amp;"]);
-    assert_has(&page, &["A solver was asked too: &lt;clasp&gt;: it says &amp;.", "<b>&lt;&amp;&gt;</b>"]);
+    assert_has(&page, &["the solver &lt;clasp&gt;", "<b>&lt;&amp;&gt;</b>"]);
     assert!(!page.contains("<i>&quot;") && !page.contains("<clasp>"));
 }
 
-/// The page for a rack and its fold with this verdict.
-fn rack_page(verdict: Verdict, how: How, word: Option<&str>) -> String {
-    page_of("full_rack", &sample("full_rack"), None, &Comparison { verdict, how, word: word.map(str::to_string) })
-}
-
 #[test]
-fn the_head_says_who_vouches() {
-    for (how, head, text) in [
-        (How::EqualBytes, "Alike: old and new are equal, byte for byte.", "The two files were compared byte by byte"),
-        (How::List, "Alike: the theorem over lists of calls vouches for it.", "The library ran the list of calls on the old mask"),
-        (
-            How::Steps(12_345),
-            "Alike: the proved comparison vouches for it (12,345 steps).",
-            "The library's comparison, which is proved, took 12,345 steps and says that the outputs are the same on every frame.",
-        ),
-        (How::Steps(1), "Alike: the proved comparison vouches for it (1 step).", "took 1 step and says"),
-    ] {
-        let page = rack_page(Verdict::Alike, how, None);
-        let text = text.replace('\'', "&#39;");
-        assert_has(&page, &[&format!("<h1 class=\"alike\">{head}</h1>"), &text]);
-        assert_has(&page, &["class=\"tick\"", "</span> masks folded, old and new read alike</p>"]);
-        assert_closed(&page);
-    }
-}
+fn three_verdicts() {
+    let mask = sample("full_rack");
+    let of = |verdict, how| page_of("full_rack", &mask, None, &Comparison { verdict, how });
+    let some = How::SomeFrames { random: 300_000, near_edge: 100_000 };
 
-#[test]
-fn what_nobody_vouches_for_has_no_box_to_tick() {
-    let difference = || Verdict::Apart { frame: 0x8009, first: 0b11, second: 0b100 };
-    let apart = rack_page(difference(), How::Steps(900), None);
+    let alike = of(Verdict::Alike, How::Solver("clasp".to_string()));
+    assert_has(&alike, &["<h1 class=\"alike\">Alike: old and new read alike on every frame.</h1>", "there is no solution"]);
+    assert_has(&alike, &["class=\"tick\"", "</span> masks folded, old and new read alike</p>"]);
+
+    let apart = of(Verdict::Apart { frame: 0x8009, first: 0b11, second: 0b100 }, some.clone());
     assert_has(&apart, &["<h1 class=\"apart\">Not alike on frame 32777 (0x8009): light patches 0, 3 and 15 only.</h1>"]);
-    assert_has(&apart, &["which is proved, took 900 steps and gave a frame on which the two part. On frame 32777 outputs 0 and 1 are"]);
-    assert_has(&apart, &["outputs 0 and 1 are 1 in the old mask alone, and output 2 is 1 in the new mask alone. With any one of the lit"]);
+    assert_has(&apart, &["On frame 32777 outputs 0 and 1 are 1 in the old mask alone, and output 2 is 1 in the new mask alone"]);
+    assert_has(&apart, &["<p class=\"last\">old and new do not read alike</p>"]);
 
-    let by_solver = rack_page(difference(), How::Steps(900), Some("clasp gave a frame, and both masks were read on it"));
-    assert_has(
-        &by_solver,
-        &["<h1 class=\"apart\">Not alike on frame 32777", "took 900 steps and stayed undecided. A solver was asked too: clasp"],
-    );
+    let open = of(Verdict::NotSeenApart, some);
+    assert_has(&open, &["<h1 class=\"open\">No difference seen, which is no proof: not every frame was read.</h1>"]);
+    assert_has(&open, &["Of 1,099,511,627,776 frames both masks were read on 300,000 at random and 100,000 near the edge"]);
+    assert_has(&open, &["<p class=\"last\">not shown that old and new read alike</p>"]);
 
-    let dark = rack_page(Verdict::Apart { frame: 0, first: 1, second: 0 }, How::Steps(2), None);
-    assert_has(&dark, &["<h1 class=\"apart\">Not alike on frame 0 (0x0): light no patch.</h1>"]);
-    assert!(!dark.contains("other frames may light fewer"));
+    let each = of(Verdict::Alike, How::EachOutput(160));
+    assert_has(&each, &["every frame of the patches that it depends on, 160 in all", "masks folded, old and new read alike</p>"]);
 
-    let open = rack_page(Verdict::Undecided, How::Steps(1_000_000), None);
-    assert_has(&open, &["<h1 class=\"open\">Undecided: nobody vouches for it yet.</h1>", "took 1,000,000 steps and stayed undecided.</p>"]);
-
-    let word = "clasp finds no frame on which the two part; nobody has proved it";
-    let asked = rack_page(Verdict::Undecided, How::Steps(1_000_000), Some(word));
-    assert_has(&asked, &["<h1 class=\"open\">Undecided: nobody vouches for it yet.</h1>", &format!("A solver was asked too: {word}.</p>")]);
-
-    for page in [&apart, &by_solver, &dark] {
-        assert_has(page, &["<p class=\"last\">old and new do not read alike</p>"]);
-    }
-    for page in [&open, &asked] {
-        assert_has(page, &["<p class=\"last\">not shown that old and new read alike</p>"]);
-    }
-    for page in [apart, by_solver, dark, open, asked] {
+    for page in [apart, open] {
         assert!(!page.contains("class=\"tick\"") && !page.contains("masks folded"));
         assert_closed(&page);
     }
@@ -307,11 +273,10 @@ fn bound(pages: &[String]) -> String {
 fn the_samples_print_on_one_sheet_each() {
     let rack = sample("shadow_rack");
     let every_patch = Verdict::Apart { frame: (1 << 40) - 1, first: 1, second: 2 };
-    let word = "minisat+ finds no frame on which the two part; nobody has proved it".to_string();
+    let some = How::SomeFrames { random: 200_000, near_edge: 200_000 };
     let mut pages: Vec<String> = SAMPLES.iter().map(|name| sample_page(name)).collect();
-    pages.push(page_of("every_patch", &rack, None, &Comparison { verdict: every_patch, how: How::Steps(1_000_000), word: None }));
-    let open = Comparison { verdict: Verdict::Undecided, how: How::Steps(1_000_000), word: Some(word) };
-    pages.push(page_of("open", &rack, Some(&calls(40)), &open));
+    pages.push(page_of("every_patch", &rack, None, &Comparison { verdict: every_patch, how: some.clone() }));
+    pages.push(page_of("open", &rack, Some(&calls(40)), &Comparison { verdict: Verdict::NotSeenApart, how: some }));
     pages.push(page_of(&"a_long_name_".repeat(20), &rack, Some(&swept(&rack)), &alike()));
     let one_sheet = pages.len();
     pages.push(page_of("two_hundred_calls", &rack, Some(&calls(200)), &alike()));

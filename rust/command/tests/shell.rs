@@ -36,14 +36,6 @@ fn room() -> Room {
 
 const FILES: [&str; 4] = ["cut.pmn", "f.pmn", "rack.pmn", "script"];
 
-/// The status of a file that is refused or can't be read or written: where masks are compared, 1 says that they are apart.
-fn trouble(command: &str) -> i32 {
-    if ["compare", "sheet"].contains(&command) {
-        return 2;
-    }
-    1
-}
-
 /// The same words with another file in place of the first mask.
 fn with_file(words: &str, file: &str) -> String {
     words.replacen("f.pmn", file, 1).replacen("rack.pmn", file, 1)
@@ -63,7 +55,7 @@ fn a_refused_file_is_named_with_its_number_and_nothing_is_written() {
     for (command, words) in GOOD {
         let room = room();
         let ran = room.pmn(&format!("{command} {}", with_file(words, "cut.pmn")));
-        assert_eq!((ran.status, ran.err.as_str()), (trouble(command), "cut.pmn: refused 4 cut short\n"), "{command}");
+        assert_eq!((ran.status, ran.err.as_str()), (1, "cut.pmn: refused 4 cut short\n"), "{command}");
         assert!(ran.out.is_empty() || command == "report", "{command}: {}", ran.out);
         assert_eq!(room.names(), FILES, "{command}");
     }
@@ -75,7 +67,7 @@ fn a_missing_file_and_a_directory_are_named() {
         let room = room();
         for (file, why) in [("none.pmn", "none.pmn: No such file or directory\n"), ("bin", "bin: Is a directory\n")] {
             let ran = room.pmn(&format!("{command} {}", with_file(words, file)));
-            assert_eq!((ran.status, ran.err.as_str()), (trouble(command), why), "{command}");
+            assert_eq!((ran.status, ran.err.as_str()), (1, why), "{command}");
         }
         assert_eq!(room.names(), FILES, "{command}");
     }
@@ -106,8 +98,6 @@ fn wrong_use_says_where_to_look() {
         ("fold f.pmn -o a --search soon", "pmn fold: --search needs a number of seconds, up to 1000000\n"),
         ("fold f.pmn -o a --search -1", "pmn fold: --search needs a number of seconds, up to 1000000\n"),
         ("fold f.pmn -o - --list -", "pmn fold: only one file can go to standard output (-)\n"),
-        ("compare f.pmn f.pmn --steps few", "pmn compare: --steps: `few` is no number\n"),
-        ("compare f.pmn f.pmn --solver-seconds 1", "pmn compare: --solver-seconds is for --solver\n"),
         ("compare - -", "pmn compare: standard input (-) can be read only once\n"),
         ("compare f.pmn - --list -", "pmn compare: standard input (-) can be read only once\n"),
         ("frame - -", "pmn frame: standard input (-) can be read only once\n"),
@@ -148,15 +138,18 @@ fn help_names_every_command_and_every_option() {
         assert!(overview.contains(&format!("\n    {command} ")), "{command}");
     }
     let written = ["-o ", "--force"];
-    let deciding = ["--solve", "--steps N", "--solver NAME", "--solver-seconds N", "3 "];
-    let compared = ["--list SCRIPT", "--steps N", "--solver NAME", "--solver-seconds N", "3 "];
+    let compared = ["--list SCRIPT", "--exhaustive", "--solver NAME", "--solver-seconds N", "--frames N", "--seed N"];
     for (command, options) in [
         ("check", vec![]),
         ("show", vec!["p0", "[signal weight, ..; T]"]),
         ("report", vec![]),
         ("frame", vec!["0x", "0b", "standard input"]),
         ("score", vec!["strike"]),
-        ("fold", [&written[..], &["-b B", "--search SECONDS", "--seed N", "--list LIST", "--question QUESTION"], &deciding].concat()),
+        (
+            "fold",
+            [&written[..], &["-b B", "--search SECONDS", "--seed N", "--list LIST", "--question QUESTION", "--solve", "--solver NAME"]]
+                .concat(),
+        ),
         ("run", [&written[..], &["--strict", "merge U V K L", "drop S", "collapse S", "sweep B", "preview S", "undo"]].concat()),
         ("preview", vec![]),
         ("pair", vec![]),
@@ -195,11 +188,11 @@ fn a_file_that_is_there_is_kept_unless_forced() {
     for (command, words) in GOOD.iter().filter(|(_, words)| words.contains("OUT")) {
         let room = room();
         room.put("OUT", "old");
-        let err = room.pmn(&format!("{command} {words}")).failed(trouble(command));
+        let err = room.pmn(&format!("{command} {words}")).failed(1);
         assert_eq!(err, "OUT: is there already; give --force to write over it\n", "{command}");
         assert_eq!(room.get("OUT"), b"old", "{command}");
         let over_input = words.replace("OUT", "f.pmn");
-        let err = room.pmn(&format!("{command} {over_input}")).failed(trouble(command));
+        let err = room.pmn(&format!("{command} {over_input}")).failed(1);
         assert_eq!(err, "f.pmn: is there already; give --force to write over it\n", "{command}");
         assert_eq!(room.get("f.pmn"), sample("f.pmn"), "{command}");
         room.pmn(&format!("{command} {words} --force")).well();
@@ -220,7 +213,7 @@ fn places_that_can_not_be_written_are_named() {
             ("f.pmn/OUT", "Not a directory"),
         ] {
             for force in ["", "--force"] {
-                let err = room.pmn(&format!("{command} {} {force}", words.replace("OUT", place))).failed(trouble(command));
+                let err = room.pmn(&format!("{command} {} {force}", words.replace("OUT", place))).failed(1);
                 assert_eq!(err, format!("{place}: {why}\n"), "{command}");
             }
         }
@@ -289,7 +282,7 @@ fn standard_input_and_output() {
     assert_eq!(room.pmn_with("frame f.pmn -", b"0\n3 0b111\n\n0x7").well(), "0x0 0x0 0\n0x3 0x0 0\n0x7 0x1 1\n0x7 0x1 1\n");
     assert_eq!(room.pmn_with("frame - 7", &sample("f.pmn")).well(), "0x7 0x1 1\n");
     assert_eq!(room.pmn_with("run f.pmn - -o OUT", b"collapse 3").well(), "collapse 3: done\n");
-    assert_eq!(room.pmn_with("compare - folded", &sample("f.pmn")).well(), room.pmn("compare f.pmn folded").well());
+    assert_eq!(room.pmn_with("compare - folded", &sample("f.pmn")).well(), "alike on every frame: 8 were read\n");
 }
 
 #[test]

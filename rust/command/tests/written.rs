@@ -50,9 +50,8 @@ fn fold_then_check_then_compare() {
     for name in ["f.pmn", "corner_pin.pmn", "far_fold.pmn", "strict_pin.pmn"] {
         room.pmn(&format!("fold {name} -o folded --list list --force")).well();
         assert_eq!(room.pmn("check folded").well(), "folded: accepted\n");
-        assert!(room.pmn(&format!("compare {name} folded")).well().starts_with("alike: the "));
-        let by_list = room.pmn(&format!("compare {name} folded --list list")).well();
-        assert!(by_list.starts_with("alike: the list leads") || room.get("folded") == sample(name), "{by_list}");
+        assert!(room.pmn(&format!("compare {name} folded")).well().starts_with("alike on every frame"));
+        assert!(room.pmn(&format!("compare {name} folded --list list")).well().starts_with("alike: the list leads"));
         room.pmn(&format!("run {name} list -o again --force")).well();
         assert_eq!(room.get("again"), room.get("folded"));
     }
@@ -69,68 +68,24 @@ fn a_searched_fold_is_no_worse_and_its_list_leads_there() {
 }
 
 #[test]
-fn a_fold_with_a_second_proof() {
+fn the_verdict_of_a_solver() {
     let room = room();
-    for name in samples() {
-        let printed = room.pmn(&format!("fold {name} -o out-{name} --solve")).well();
-        let last = printed.lines().last().unwrap();
-        assert!(
-            last.starts_with("alike: the proved comparison vouches for it (") || last.starts_with("alike: the two files are equal"),
-            "{last}"
-        );
-        assert_eq!(room.get(&format!("out-{name}")), swept(&name, 128).bytes(), "{name}");
-    }
-}
-
-#[test]
-fn a_fold_that_the_comparison_leaves_undecided() {
-    let room = room();
-    let ran = room.pmn("fold full_rack.pmn -o out --solve --steps 0");
-    assert_eq!((ran.status, ran.err.as_str()), (3, ""));
-    let lines = [
-        "folded 10",
-        "undecided after 0 steps: neither alike nor apart is proved",
-        "the theorem over lists of calls vouches for the fold all the same",
-    ];
-    assert!(ran.out.ends_with(&(lines.join("\n") + "\n")), "{}", ran.out);
-    assert_eq!(room.get("out"), swept("full_rack.pmn", 128).bytes());
-}
-
-#[test]
-fn a_solver_is_asked_about_a_fold_only_by_its_name() {
-    let room = room();
-    room.put_program("clasp", "touch asked; echo 's UNSATISFIABLE'");
-    let solved = |line: &str| room.pmn(&format!("fold full_rack.pmn -o out --force {line}"));
-    assert_eq!((solved("--solve --steps 0").status, solved("--solve --solver clasp").status), (3, 0));
-    assert!(!room.has("asked"));
-    let ran = solved("--solve --steps 0 --solver clasp");
-    assert_eq!((ran.status, ran.err.as_str()), (3, ""));
-    assert!(ran.out.contains("\nclasp finds no frame on which the two part; nobody has proved it\n"), "{}", ran.out);
+    let solved = |line: &str| room.pmn(&format!("fold f.pmn -o out --force {line}"));
+    assert!(solved("--solve").well().ends_with("folded 1\nno solver: neither clasp nor minisat+ is on the PATH\n"));
+    assert_eq!(room.pmn("fold f.pmn -o other --solver clasp").failed(1), "clasp: there is no such solver on the PATH\n");
+    room.put_program("minisat+", "echo 's UNSATISFIABLE'");
+    assert!(solved("--solve").well().ends_with("folded 1\nminisat+: unsatisfiable, no frame parts the two\n"));
+    room.put_program("clasp", "head -n 1 $1 | grep -q '^\\* #variable= 7 #constraint= 9$' && echo 's UNSATISFIABLE'; exit 20");
+    assert!(solved("--solve").well().ends_with("clasp: unsatisfiable, no frame parts the two\n"));
+    room.put_program("clasp", "echo 'c nothing'; exit 1");
+    assert!(solved("--solve").well().ends_with("clasp: it gives no verdict\n"));
+    assert!(solved("--solver minisat+").well().ends_with("minisat+: unsatisfiable, no frame parts the two\n"));
+    assert!(solved("--solver ./bin/minisat+").well().ends_with("unsatisfiable, no frame parts the two\n"));
     room.put_program("clasp", "echo 'v x1'; echo 's SATISFIABLE'");
-    let ran = solved("--solve --steps 0 --solver clasp");
-    assert_eq!((ran.status, ran.err.as_str()), (3, ""));
-    assert!(ran.out.contains("\nclasp: its solution is no frame on which the two part\n"), "{}", ran.out);
-}
-
-#[test]
-fn trouble_of_a_fold_has_the_status_2_where_it_compares() {
-    let room = room();
-    room.put("cut", &sample("f.pmn")[..20]);
-    for (line, why) in [
-        ("fold cut -o out", "cut: refused 4 cut short\n"),
-        ("fold none -o out", "none: No such file or directory\n"),
-        ("fold f.pmn -o no_fold.pmn", "no_fold.pmn: is there already; give --force to write over it\n"),
-        ("fold f.pmn -o out -b 129", "f.pmn: refused 14 off the dial\n"),
-    ] {
-        assert_eq!(room.pmn(line).failed(1), why);
-        assert_eq!(room.pmn(&format!("{line} --solve")).failed(2), why);
-    }
-    assert_eq!(room.pmn("fold f.pmn -o out --solve --solver clasp").failed(2), "clasp: there is no such solver on the PATH\n");
-    for option in ["--steps 9", "--solver clasp", "--solver-seconds 9"] {
-        let err = room.pmn(&format!("fold f.pmn -o out {option}")).failed(2);
-        assert!(err.starts_with(&format!("pmn fold: {} is for --solve\n", option.split(' ').next().unwrap())), "{err}");
-    }
-    assert!(!room.has("out"));
+    assert_eq!(room.pmn("fold f.pmn -o new --solve").failed(1), "f.pmn: clasp says satisfiable; nothing is written\n");
+    assert!(!room.has("new"));
+    room.put_program("clasp", "exec sleep 20");
+    assert!(solved("--solve --solver-seconds 0").well().ends_with("clasp: no verdict within 0 seconds\n"));
 }
 
 #[test]
@@ -272,47 +227,15 @@ fn a_closing_sheet() {
     let printed = room.pmn("sheet f.pmn folded -o a.html --list list --date 2026-02-28").well();
     assert!(printed.starts_with("alike: the list leads"), "{printed}");
     assert!(room.text("a.html").contains("2026-02-28"));
-    assert!(room.text("a.html").contains("Alike: the theorem over lists of calls vouches for it."));
-    assert!(room.pmn("sheet f.pmn folded -o b.html").well().starts_with("alike: the proved comparison vouches for it ("));
-    assert!(room.text("b.html").contains("Alike: the proved comparison vouches for it ("));
-    room.pmn("sheet f.pmn f.pmn -o c.html --date none").well();
-    assert!(room.text("c.html").contains("Alike: old and new are equal, byte for byte."));
-}
-
-#[test]
-fn a_closing_sheet_is_written_whatever_the_verdict_is() {
-    let room = room();
-    let apart = room.pmn("sheet full_rack.pmn shadow_rack.pmn -o apart.html");
+    assert!(room.pmn("sheet f.pmn folded -o b.html").well().starts_with("alike on every frame"));
+    room.pmn("sheet f.pmn folded -o c.html --date none --force").well();
+    assert_eq!(room.pmn("sheet f.pmn full_rack.pmn -o d.html").failed(1), "f.pmn and full_rack.pmn: refused 19 unlike networks\n");
+    room.put("other", "preview 3\n");
+    let err = room.pmn("sheet f.pmn folded -o d.html --list other").failed(1);
+    assert_eq!(err, "other: does not lead from f.pmn to folded; nothing is written\n");
+    assert!(!room.has("d.html"));
+    let apart = room.pmn("sheet full_rack.pmn shadow_rack.pmn -o d.html");
     assert_eq!((apart.status, apart.err.as_str()), (1, ""));
     assert!(apart.out.starts_with("apart on frame "), "{}", apart.out);
-    assert!(room.text("apart.html").contains("<h1 class=\"apart\">Not alike on frame "));
-    room.pmn("fold full_rack.pmn -o folded").well();
-    room.put_program("clasp", "echo 's UNSATISFIABLE'");
-    let open = room.pmn("sheet full_rack.pmn folded -o open.html --steps 0 --solver clasp");
-    assert_eq!((open.status, open.err.as_str()), (3, ""));
-    assert!(open.out.starts_with("undecided after 0 steps"), "{}", open.out);
-    let page = room.text("open.html");
-    assert!(
-        page.contains("Undecided: nobody vouches for it yet.") && page.contains("clasp finds no frame on which the two part; nobody has")
-    );
-    assert!(!page.contains("class=\"tick\""));
-}
-
-#[test]
-fn trouble_writes_no_closing_sheet() {
-    let room = room();
-    room.pmn("fold f.pmn -o folded").well();
-    room.put("other", "preview 3\n");
-    room.put("cut", &sample("f.pmn")[..20]);
-    for (line, why) in [
-        ("f.pmn full_rack.pmn", "f.pmn and full_rack.pmn: refused 19 unlike networks\n"),
-        ("f.pmn folded --list other", "other: does not lead from f.pmn to folded; nothing is written\n"),
-        ("f.pmn cut", "cut: refused 4 cut short\n"),
-        ("none folded", "none: No such file or directory\n"),
-        ("f.pmn folded --solver clasp", "clasp: there is no such solver on the PATH\n"),
-    ] {
-        assert_eq!(room.pmn(&format!("sheet {line} -o sheet.html")).failed(2), why, "{line}");
-        assert!(!room.has("sheet.html"), "{line}");
-    }
-    assert_eq!(room.pmn("sheet f.pmn folded -o none/sheet.html").failed(2), "none/sheet.html: No such file or directory\n");
+    assert!(room.has("d.html"));
 }

@@ -1,15 +1,40 @@
 //! Writes questions of the library into a folder, for a solver: each file's name says whether the question has a solution, and how many,
-//! as found by trying every frame with the independent implementation, or for 40 patches by the way that the two networks are made. The
-//! library's comparison must say the same of each pair.
+//! as found by trying every frame with the independent implementation.
 //!
 //!     questions FOLDER COUNT
 use std::{env, fs, path::Path};
-use yovrenik_tests::compare;
 use yovrenik_tests::generate::{chain, inverters, network, on_some_board, Random};
-use yovrenik_tests::pairs::{folded, swept};
 use yovrenik_tests::reference::{self, Board, Net};
-use yovrenik_tests::solver::question;
-use yovrenik_tests::structures::{chain_to, rack};
+use yovrenik_tests::{line, run, LONGEST_FILE};
+
+/// The text of the library's question for two files.
+fn question(first: &[u8], second: &[u8]) -> Vec<u8> {
+    let mut text = vec![];
+    let mut out = [0u8; 254];
+    let mut answer = [0u64; 1];
+    for n in 0.. {
+        match line(first, second, n, &mut out, &mut answer) {
+            0 => text.extend(&out[..answer[0] as usize]),
+            21 => break,
+            code => panic!("line {n} is refused with {code}"),
+        }
+    }
+    text
+}
+
+/// Whether two networks differ on some frame.
+fn differ(first: &Net, second: &Net) -> bool {
+    (0..1u64 << first.inputs).any(|x| reference::frame(first, x) != reference::frame(second, x))
+}
+
+/// The network after a sweep by the library.
+fn swept(file: &[u8]) -> Vec<u8> {
+    let mut answers = [0u64; 5];
+    let mut out = vec![0u8; LONGEST_FILE];
+    assert_eq!(run(file, &[3, 128, 0, 0, 0], &mut answers, &mut out), 0);
+    out.truncate(answers[0] as usize);
+    out
+}
 
 /// The network with one threshold moved by one, in a file of version 1, since it may break the margins.
 fn moved(r: &mut Random, net: &Net) -> Net {
@@ -38,40 +63,11 @@ fn rewired(r: &mut Random, first: &Net, second: &Net) -> Net {
     other
 }
 
-/// Whether the library finds two files apart.
-fn are_apart(first: &[u8], second: &[u8]) -> bool {
-    let mut answer = [0; 3];
-    assert_eq!(compare(first, second, 1_000_000, &mut answer), 0);
-    assert!(answer[0] < 2, "the comparison is undecided");
-    answer[0] == 1
-}
-
-/// Writes the question of two networks, which has so many solutions.
-fn store(folder: &Path, number: usize, first: &Net, second: &Net, ways: u64) {
-    let files = [first, second].map(reference::write);
-    assert_eq!(are_apart(&files[0], &files[1]), ways > 0, "{first:?} {second:?}");
-    let word = if ways > 0 { "satisfiable" } else { "unsatisfiable" };
-    fs::write(folder.join(format!("{number:04}.{word}.{ways}.opb")), question(&files[0], &files[1])).unwrap();
-}
-
-/// The questions of a network before and after a sweep, a sweep with one threshold moved, and a sweep with outputs at other gates.
-fn store_three(r: &mut Random, folder: &Path, number: usize, net: &Net) {
-    let after = swept(net);
-    let others = [after.clone(), moved(r, &after), rewired(r, net, &after)];
-    for (number, other) in (number..).zip(&others) {
-        store(folder, number, net, other, reference::ways(net, other).unwrap());
-    }
-}
-
-/// The questions of two pairs of 40 patches, where frames are too many to try: a rack and its fold, which are alike, and a chain and its fold
-/// with the last threshold moved, which part on one frame.
-fn store_large(r: &mut Random, folder: &Path, number: usize) {
-    let rack = rack(r, 2 + number / 2 % 12);
-    store(folder, number, &rack, &swept(&rack), 0);
-    let chain = chain_to(r.next() >> 24, 40);
-    let mut other = folded(r, &chain);
-    other.gates.last_mut().unwrap().threshold += 1;
-    store(folder, number + 1, &chain, &other, 1);
+fn store(folder: &Path, number: usize, first: &Net, second: &Net) {
+    let word = if differ(first, second) { "satisfiable" } else { "unsatisfiable" };
+    let ways = reference::ways(first, second).unwrap();
+    let text = question(&reference::write(first), &reference::write(second));
+    fs::write(folder.join(format!("{number:04}.{word}.{ways}.opb")), text).unwrap();
 }
 
 fn main() {
@@ -91,13 +87,13 @@ fn main() {
             continue;
         }
         let net = on_some_board(&mut r, net);
-        store_three(&mut r, folder, number, &net);
+        let after = reference::read(&swept(&reference::write(&net))).unwrap();
+        store(folder, number, &net, &after);
+        store(folder, number + 1, &net, &moved(&mut r, &after));
+        store(folder, number + 2, &net, &rewired(&mut r, &net, &after));
         number += 3;
         let collapses = reference::sweep(&net, 128).unwrap().1;
         against += collapses.iter().any(|(before, u)| !before.voted_against(*u as usize).is_empty()) as usize;
-    }
-    for large in 0..count / 10 {
-        store_large(&mut r, folder, number + 2 * large);
     }
     println!("in {against} of {count} random networks the sweep folds a gate that votes against a reader");
     assert!(count < 100 || 4 * against >= count);

@@ -1,13 +1,13 @@
 //! fold: a mask with fewer gates that reads every frame as before.
-use super::compare::{in_words, options, status, DECIDING};
 use super::{FORCE, OUT};
 use crate::arguments::{wrong, Arguments, CommandOption, Form};
-use crate::comparison::{self, compare};
+use crate::comparison::SOLVER_SECONDS;
 use crate::failure::{Failure, Status};
 use crate::files::{self, read_mask, Named, Target};
 use crate::output::Output;
 use crate::progress::Progress;
 use crate::search::{search, Options};
+use crate::solver::{Solver, Verdict};
 use crate::{script, text};
 use pmn::{Call, Mask, Refusal};
 
@@ -25,56 +25,40 @@ pub static FOLD: Form = Form {
     about: "Writes the mask after a sweep: the lowest gate that collapses, again and again. Prints gates, cost and levels before and after,
 and how many gates were folded, as the program `fold` does. No reading changes on any frame: that is proved.
 
-With --search a list of calls is looked for that leaves fewer gates than one sweep, then less cost, then fewer levels.
-
-With --solve before and after are also compared, as `pmn compare` does it without a list: a second proof, which does not rest on
-the calls. Status 0 where it says alike; 1 where it says apart, and then nothing is written; 3 where it stays undecided; 2 for
-trouble.",
+With --search a list of calls is looked for that leaves fewer gates than one sweep, then less cost, then fewer levels.",
     words: (1, 1),
-    options: &[
-        &[
-            OUT,
-            FORCE,
-            CommandOption::value("-b", "B", "collapse only gates with at most B readers (128)"),
-            CommandOption::value("--search", "SECONDS", "look for a better list of calls for so long"),
-            CommandOption::value("--seed", "N", "where the search begins (1)"),
-            CommandOption::output("--list", "LIST", "write the list of calls, as `pmn run` takes it"),
-            CommandOption::output("--question", "QUESTION", "write the question for before and after, as solvers take it"),
-            CommandOption::flag("--solve", "compare before and after too, and say the verdict"),
-        ],
-        DECIDING,
-    ],
+    options: &[&[
+        OUT,
+        FORCE,
+        CommandOption::value("-b", "B", "collapse only gates with at most B readers (128)"),
+        CommandOption::value("--search", "SECONDS", "look for a better list of calls for so long"),
+        CommandOption::value("--seed", "N", "where the search begins (1)"),
+        CommandOption::output("--list", "LIST", "write the list of calls, as `pmn run` takes it"),
+        CommandOption::output("--question", "QUESTION", "write the question for before and after, as solvers take it"),
+        CommandOption::flag("--solve", "hand the question to clasp or minisat+, and say the verdict"),
+        CommandOption::value("--solver", "NAME", "hand it to this solver"),
+        CommandOption::value("--solver-seconds", "N", "how long the solver may take (60)"),
+    ]],
 };
-
-/// Whether before and after are compared too.
-pub fn compares(arguments: &Arguments) -> bool {
-    arguments.has("--solve")
-}
 
 /// Folds a mask.
 pub fn fold(arguments: &Arguments, out: &mut Output) -> Result<Status, Failure> {
     let targets = Targets::of(arguments)?;
     let plan = Plan::of(arguments)?;
-    let solving = solving(arguments)?;
+    let solving = Solving::of(arguments)?;
     let named = read_mask(arguments.word(0))?;
     let folded = Folded::by(&plan, &named)?;
-    let verdict = solving.map(|options| verdict(&options, &named, &folded.after)).transpose()?;
-    if let Some((Status::Apart, words)) = &verdict {
-        out.text(words)?;
-        out.line("nothing is written")?;
-        return Ok(Status::Apart);
-    }
+    let verdict = solving.verdict(&named, &folded.question)?;
     targets.write(&folded, out)?;
     out.text(&text::sizes(named.mask.report(), folded.after.report()))?;
     out.line(format_args!("folded {}", folded.count))?;
     if let Some(tried) = folded.tried {
         out.line(format_args!("tried {tried}"))?;
     }
-    let Some((status, words)) = verdict else {
-        return Ok(Status::Done);
-    };
-    out.text(&words)?;
-    Ok(status)
+    if let Some(verdict) = verdict {
+        out.line(verdict)?;
+    }
+    Ok(Status::Done)
 }
 
 /// The files that are written.
@@ -168,24 +152,35 @@ impl Plan {
     }
 }
 
-/// How before and after are compared, if they are.
-fn solving(arguments: &Arguments) -> Result<Option<comparison::Options>, Failure> {
-    if compares(arguments) {
-        return options(arguments).map(Some);
-    }
-    match DECIDING.iter().find(|option| arguments.has(option.name)) {
-        Some(option) => Err(wrong(format!("{} is for --solve", option.name))),
-        None => Ok(None),
-    }
+/// Whether a solver is asked, and which.
+enum Solving {
+    NotAsked,
+    NoneThere,
+    Ask(Solver, u64),
 }
 
-/// What a comparison of before and after says, and its words.
-fn verdict(options: &comparison::Options, before: &Named, after: &Mask) -> Result<(Status, String), Failure> {
-    let after = Named { name: "the fold".to_string(), mask: after.clone() };
-    let comparison = compare(before, &after, options, &mut Progress::new())?;
-    let (told, mut words) = (status(&comparison), in_words(&comparison, before, &after));
-    if told == Status::Undecided {
-        words.push_str("the theorem over lists of calls vouches for the fold all the same\n");
+impl Solving {
+    fn of(arguments: &Arguments) -> Result<Solving, Failure> {
+        let seconds = arguments.number("--solver-seconds", SOLVER_SECONDS)?;
+        let solver = match arguments.value("--solver") {
+            Some(name) => Some(Solver::named(name)?),
+            None if arguments.has("--solve") => Solver::any(),
+            None => return Ok(Solving::NotAsked),
+        };
+        Ok(solver.map_or(Solving::NoneThere, |solver| Solving::Ask(solver, seconds)))
     }
-    Ok((told, words))
+
+    /// The verdict in words, where it is asked for. A solution would show a fault, and ends the command.
+    fn verdict(&self, named: &Named, question: &str) -> Result<Option<String>, Failure> {
+        let (solver, seconds) = match self {
+            Solving::NotAsked => return Ok(None),
+            Solving::NoneThere => return Ok(Some("no solver: neither clasp nor minisat+ is on the PATH".to_string())),
+            Solving::Ask(solver, seconds) => (solver, *seconds),
+        };
+        match solver.ask(question, seconds, &mut Progress::new())? {
+            Verdict::Unsatisfiable => Ok(Some(format!("{}: unsatisfiable, no frame parts the two", solver.name))),
+            Verdict::CouldNotTell(why) => Ok(Some(format!("{}: {why}", solver.name))),
+            Verdict::Satisfiable(_) => Err(Failure::file(&named.name, format!("{} says satisfiable; nothing is written", solver.name))),
+        }
+    }
 }

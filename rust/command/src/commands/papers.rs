@@ -1,10 +1,10 @@
 //! sheet and picture: pages to look at and to sign.
-use super::compare::{in_words, list, options, status, DECIDING, LIST};
+use super::compare::{in_words, options, status, COMPARING};
 use super::{FORCE, OUT};
 use crate::arguments::{wrong, Arguments, CommandOption, Form};
-use crate::comparison::{compare, List, Options};
+use crate::comparison::{compare, leads, Options};
 use crate::failure::{Failure, Status};
-use crate::files::{self, read_mask, Named, Target};
+use crate::files::{self, read_mask, shown, Named, Target};
 use crate::output::{say, Output};
 use crate::progress::Progress;
 use crate::sheet::{self as closing, Closing};
@@ -22,11 +22,8 @@ pub static SHEET: Form = Form {
     summary: "the closing sheet of a revision, a page to print and sign",
     about:
         "Compares the two masks as `pmn compare` does, prints the verdict, and writes a page that stands alone: both masks, their sizes, how
-they were compared and what came of it. Its head says who vouches: the theorem over lists of calls, the proved comparison with its
-steps, or nobody yet. With --list the calls stand on it with their answers; they must lead from BEFORE to AFTER, byte for byte.
-
-The page is written whatever the verdict is, and only one that says alike has the box to tick. Status as `pmn compare` has it:
-0 alike, which is proved; 1 apart; 3 undecided; 2 trouble, and then nothing is written.",
+they were compared and what came of it. With --list the calls stand on it with their answers; they must lead from BEFORE to
+AFTER, byte for byte. Where the two part, the page says so, and the status is 1.",
     words: (2, 2),
     options: &[
         &[
@@ -34,8 +31,7 @@ The page is written whatever the verdict is, and only one that says alike has th
             FORCE,
             CommandOption::value("--date", "YYYY-MM-DD", "the date on the sheet (today's, in universal time); `none` leaves it open"),
         ],
-        &[LIST],
-        DECIDING,
+        COMPARING,
     ],
 };
 
@@ -43,9 +39,9 @@ The page is written whatever the verdict is, and only one that says alike has th
 pub fn sheet(arguments: &Arguments, out: &mut Output) -> Result<Status, Failure> {
     let target = Target::of(arguments, "-o")?;
     let date = date_of(arguments)?;
-    let options = Options { list: list(arguments)?, ..options(arguments)? };
+    let options = options(arguments)?;
     let (before, after) = (read_mask(arguments.word(0))?, read_mask(arguments.word(1))?);
-    let list = options.list.as_ref().map(|list| answered(&before, &after, list)).transpose()?;
+    let list = answered(&before, &after, &options, arguments.value("--list"))?;
     let comparison = compare(&before, &after, &options, &mut Progress::new())?;
     let page = closing::page(&Closing {
         before: closing::Named { name: &before.name, mask: &before.mask },
@@ -71,13 +67,16 @@ fn date_of(arguments: &Arguments) -> Result<Option<String>, Failure> {
     text.map(|text| Some(text.to_string())).ok_or_else(|| wrong("--date needs a day as YYYY-MM-DD, or `none`"))
 }
 
-/// The calls of a list in words, with what each answers. A list that leads elsewhere has no place on the sheet.
-fn answered(before: &Named, after: &Named, list: &List) -> Result<Vec<(String, String)>, Failure> {
-    if !list.leads(&before.mask, &after.mask) {
-        return Err(Failure::file(&list.name, format!("does not lead from {} to {}; nothing is written", before.name, after.name)));
+/// The calls of the list in words, with what each answers. A list that leads elsewhere has no place on the sheet.
+fn answered(before: &Named, after: &Named, options: &Options, word: Option<&OsStr>) -> Result<Option<Vec<(String, String)>>, Failure> {
+    let (Some(calls), Some(word)) = (&options.list, word) else {
+        return Ok(None);
+    };
+    if !leads(&before.mask, calls, &after.mask) {
+        return Err(Failure::file(&shown(word), format!("does not lead from {} to {}; nothing is written", before.name, after.name)));
     }
-    let (_, answers) = before.mask.run(&list.calls);
-    Ok(list.calls.iter().zip(&answers).map(|(call, answer)| (script::words(*call), script::answer(answer))).collect())
+    let (_, answers) = before.mask.run(calls);
+    Ok(Some(calls.iter().zip(&answers).map(|(call, answer)| (script::words(*call), script::answer(answer))).collect()))
 }
 
 /// `picture FILE`

@@ -1,15 +1,13 @@
-//! The verdict, who vouches for it, and how it was come by, in words.
+//! The verdict, and how it was come by, in words.
 use crate::comparison::{Comparison, How, Verdict};
 use std::fmt::Display;
 
 /// The line at the head of the sheet.
-pub(super) fn head(comparison: &Comparison) -> String {
-    match (&comparison.verdict, &comparison.how) {
-        (Verdict::Alike, How::EqualBytes) => "Alike: old and new are equal, byte for byte.".to_string(),
-        (Verdict::Alike, How::List) => "Alike: the theorem over lists of calls vouches for it.".to_string(),
-        (Verdict::Alike, How::Steps(steps)) => format!("Alike: the proved comparison vouches for it ({}).", counted_steps(*steps)),
-        (Verdict::Apart { frame, .. }, _) => format!("Not alike on frame {frame} ({frame:#x}): {}.", to_light(*frame)),
-        (Verdict::Undecided, _) => "Undecided: nobody vouches for it yet.".to_string(),
+pub(super) fn verdict(verdict: &Verdict) -> String {
+    match verdict {
+        Verdict::Alike => "Alike: old and new read alike on every frame.".to_string(),
+        Verdict::Apart { frame, .. } => format!("Not alike on frame {frame} ({frame:#x}): {}.", to_light(*frame)),
+        Verdict::NotSeenApart => "No difference seen, which is no proof: not every frame was read.".to_string(),
     }
 }
 
@@ -18,46 +16,74 @@ pub(super) fn last_line(verdict: &Verdict) -> &'static str {
     match verdict {
         Verdict::Alike => "masks folded, old and new read alike",
         Verdict::Apart { .. } => "old and new do not read alike",
-        Verdict::Undecided => "not shown that old and new read alike",
+        Verdict::NotSeenApart => "not shown that old and new read alike",
     }
 }
 
-/// How the two masks were compared.
-pub(super) fn how(comparison: &Comparison) -> String {
-    let mut sentences = vec![way(comparison)];
-    sentences.extend(comparison.word.as_ref().map(|word| format!("A solver was asked too: {word}.")));
-    if let Verdict::Apart { frame, first, second } = comparison.verdict {
-        sentences.push(format!("On frame {frame} {}.", outputs_apart(first, second)));
-        sentences.extend(darker(frame));
+/// How the two masks were compared. They have this many inputs.
+pub(super) fn how(comparison: &Comparison, inputs: u8) -> String {
+    let way = way(comparison, inputs);
+    match comparison.verdict {
+        Verdict::Apart { frame, first, second } => format!("{way} On frame {frame} {}.", outputs_apart(first, second)),
+        _ => way,
     }
-    sentences.join(" ")
 }
 
-fn way(comparison: &Comparison) -> String {
-    let proved = "The library's comparison, which is proved,";
-    match (&comparison.how, &comparison.verdict) {
-        (How::EqualBytes, _) => "The two files were compared byte by byte: they are equal.".to_string(),
-        (How::List, _) => "The library ran the list of calls on the old mask, and it left the new one, byte for byte: \
-                           the theorem over lists of calls covers every frame."
+fn way(comparison: &Comparison, inputs: u8) -> String {
+    match &comparison.how {
+        How::EveryFrame(count) => every_frame(&comparison.verdict, *count),
+        How::EachOutput(count) => each_output(&comparison.verdict, *count),
+        How::Solver(name) => solver(&comparison.verdict, name),
+        How::List => "The list of calls was run anew on the old mask and left the new one, byte for byte: \
+                      the theorem over lists of calls covers every frame."
             .to_string(),
-        (How::Steps(steps), Verdict::Alike) => {
-            format!("{proved} took {} and says that the outputs are the same on every frame.", counted_steps(*steps))
-        }
-        (How::Steps(steps), Verdict::Apart { .. }) if comparison.word.is_none() => {
-            format!("{proved} took {} and gave a frame on which the two part.", counted_steps(*steps))
-        }
-        (How::Steps(steps), _) => format!("{proved} took {} and stayed undecided.", counted_steps(*steps)),
+        How::SomeFrames { random, near_edge } => some_frames(&comparison.verdict, *random, *near_edge, inputs),
     }
 }
 
-/// What is known of frames with fewer lit patches.
-fn darker(frame: u64) -> Option<String> {
-    (frame != 0).then(|| "With any one of the lit patches dark they read alike; other frames may light fewer.".to_string())
+fn every_frame(verdict: &Verdict, count: u64) -> String {
+    let count = grouped(count);
+    match verdict {
+        Verdict::Apart { .. } => {
+            format!("Of {count} frames both masks were read on those with few lit patches first: on none with fewer do they part.")
+        }
+        _ => format!("Both masks were read on every frame, {count} in all, and gave the same outputs on each."),
+    }
 }
 
-/// A number of steps.
-fn counted_steps(steps: u64) -> String {
-    format!("{} {}", grouped(steps), if steps == 1 { "step" } else { "steps" })
+fn each_output(verdict: &Verdict, count: u64) -> String {
+    let cut = "Each output was cut out of both masks and read on";
+    let count = grouped(count);
+    match verdict {
+        Verdict::Apart { .. } => {
+            format!(
+                "{cut} frames of the patches that it depends on, {count} in all, few lit patches first: on none with fewer do they part."
+            )
+        }
+        _ => format!(
+            "{cut} every frame of the patches that it depends on, {count} in all, and gave the same bit on each. \
+             No other patch can change that output, so this covers every frame."
+        ),
+    }
+}
+
+fn solver(verdict: &Verdict, name: &str) -> String {
+    let answer = match verdict {
+        Verdict::Alike => "it answered that there is no solution, so there is no frame on which the outputs differ.",
+        Verdict::Apart { .. } => "it gave a solution, and both masks were read on the frame above. Other frames may light fewer patches.",
+        Verdict::NotSeenApart => "it came to no answer.",
+    };
+    format!("The question whose solutions are the frames on which the two differ was handed to the solver {name}: {answer}")
+}
+
+fn some_frames(verdict: &Verdict, random: u64, near_edge: u64, inputs: u8) -> String {
+    let all = grouped(1 << inputs.min(63));
+    let [random, near_edge] = [random, near_edge].map(grouped);
+    let read = format!("Of {all} frames both masks were read on {random} at random and {near_edge} near the edge of some gate");
+    match verdict {
+        Verdict::Apart { .. } => format!("{read}. Other frames than the one above may light fewer patches."),
+        _ => format!("{read}, and gave the same outputs on each. The others were not read."),
+    }
 }
 
 /// Which outputs are 1 in which mask, of those that differ.
@@ -121,7 +147,7 @@ mod tests {
 
     #[test]
     fn the_frame_and_the_patches_of_a_difference() {
-        let line = |frame| head(&Comparison { verdict: Verdict::Apart { frame, first: 1, second: 0 }, how: How::Steps(9), word: None });
+        let line = |frame| verdict(&Verdict::Apart { frame, first: 1, second: 0 });
         assert_eq!(line(0), "Not alike on frame 0 (0x0): light no patch.");
         assert_eq!(line(4), "Not alike on frame 4 (0x4): light patch 2 only.");
         assert_eq!(line(19), "Not alike on frame 19 (0x13): light patches 0, 1 and 4 only.");

@@ -2,15 +2,11 @@
 use Rattle.call_collapse.proofs.unchecked.collapse_entered.Statement.{statement}
 use Rattle.call_collapse.proofs.unchecked.collapse_entered.Tie as tie
 
--- the start
-abbrev start_of : tie.After-enter-collapse-arg11 → tie.Start
-start_of c = let network_lent = c.before.before.before.before.before.before in network_lent.before.before.before.before.before
-
 enter_collapse_requires : tie.Need-enter_collapse-steps-requires
-enter_collapse_requires c κs = (start_of c).requires.1.own
+enter_collapse_requires c κs = c.requires.1.own
 
 collapse_by_pairs_requires : tie.Need-collapse_by_pairs-requires
-collapse_by_pairs_requires c κs = (start_of c.before.before.before.before.before.before).requires
+collapse_by_pairs_requires c κs = c.requires
 
 returns : tie.Need-returns
 returns c =

@@ -92,7 +92,7 @@ returns_2 c =
     ∙ ap (λ (x : GateRecord). with_step (held s).journal 1 a.s x) row)
     ∙ drop_entered (held s) s.requires.whole a.s _ (tried.accepts else.if1.left)
 
-pub drop_in_spec.before.before.before.before.before : {M : Type 1} → statement M
+pub drop_in_spec : {M : Type 1} → statement M
 drop_in_spec =
     tie.close
     (tie.spec
