@@ -30,7 +30,7 @@ apply_in_requires c κs =
     let at_sound = else.before in
     record {
       lengths = lengths _ (shaped at_sound.before);
-      whole = sym at_sound.is_sound.ensures ∙ not-false _ else.if1.left;
+      whole = sym at_sound.is_sound.ensures ∙ not-false _ else.if-not-is_sound.false-raw;
     }
 
 returns_2 : tie.Need-returns

@@ -35,32 +35,32 @@ sweep_in_requires : tie.Need-sweep_in-requires
 sweep_in_requires c κs = c.requires
 
 preview_in_requires : tie.Need-preview_in-requires
-preview_in_requires c κs = (c.requires.lengths, whole_network (held c.before.before.before) c.requires.whole)
+preview_in_requires c κs = (c.requires.lengths, whole_network (held c.before) c.requires.whole)
 
 undo_in_requires : tie.Need-undo_in-requires
 undo_in_requires c κs = c.requires
 
 returns : tie.Need-returns-in-Merge
-returns c = c.merge_in.ensures ∙ sym (ap (applied (held c.before.before.before.before.before.before.before.before.before.before.before.before.before.before)) c.in-Merge.is)
+returns c = c.merge_in.ensures ∙ sym (ap (applied (held c.before.before.before.before.before.before.before.before.before.before.before.before)) c.in-Merge.is)
 
 returns_2 : tie.Need-returns-in-Drop
-returns_2 c = c.drop_in.ensures ∙ sym (ap (applied (held c.before.before.before.before.before.before.before.before.before.before.before.before.before.before.before)) c.in-Drop.is)
+returns_2 c = c.drop_in.ensures ∙ sym (ap (applied (held c.before.before.before.before.before.before.before.before.before.before.before.before.before)) c.in-Drop.is)
 
 returns_3 : tie.Need-returns-in-Collapse
-returns_3 c = c.collapse_in.ensures ∙ sym (ap (applied (held c.before.before.before.before.before.before.before.before.before.before.before.before.before.before.before)) c.in-Collapse.is)
+returns_3 c = c.collapse_in.ensures ∙ sym (ap (applied (held c.before.before.before.before.before.before.before.before.before.before.before.before.before)) c.in-Collapse.is)
 
 returns_4 : tie.Need-returns-in-Sweep
-returns_4 c = c.sweep_in.ensures ∙ sym (ap (applied (held c.before.before.before.before.before.before.before.before.before.before.before.before.before.before.before)) c.in-Sweep.is)
+returns_4 c = c.sweep_in.ensures ∙ sym (ap (applied (held c.before.before.before.before.before.before.before.before.before.before.before.before.before)) c.in-Sweep.is)
 
 returns_5 : tie.Need-returns-in-Preview
 returns_5 c =
-    let s = c.before.before.before.before in
+    let s = c.before.before in
     (λ x. answer_in s (c.preview_in.ensures x))
     ∙ call_shown (held s) (shaped_parts c.args.head c.requires.lengths) c.requires.whole _
     ∙ sym (ap (applied (held s)) c.in-Preview.is)
 
 returns_6 : tie.Need-returns-in-Undo
-returns_6 c = c.undo_in.ensures ∙ sym (ap (applied (held c.before.before.before.before.before.before.before.before.before.before.before.before.before.before)) c.in-Undo.is)
+returns_6 c = c.undo_in.ensures ∙ sym (ap (applied (held c.before.before.before.before.before.before.before.before.before.before.before.before.before)) c.in-Undo.is)
 
 pub apply_in_spec : {M : Type 1} → statement M
 apply_in_spec =

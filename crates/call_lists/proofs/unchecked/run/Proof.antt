@@ -52,18 +52,18 @@ loop_holds c =
     (zero-le, reached_none s.args.numbers.now (began_came s.args.network s.requires.0 refl))
 
 step_in_requires : tie.Need-step_in-left-requires invariant-loop decreases-loop
-step_in_requires c κs = let turn = turn_of c in (turn.before.loop.inv.1.came, omega (arith, turn.loop-test.taken))
+step_in_requires c κs = let turn = turn_of c in (turn.before.loop-i.invariant.1.came, omega (arith, turn.loop-i-test.true))
 
 add_i : tie.Need-overflow_step-i invariant-loop decreases-loop
-add_i c = let turn = turn_of c.before in omega (arith, turn.loop-test.taken, few (start_of turn.before.before))
+add_i c = let turn = turn_of c.before in omega (arith, turn.loop-i-test.true, few (start_of turn.before.before))
 
 loop_again : tie.Need-loop-i-preserved invariant-loop decreases-loop
 loop_again c =
     let turn = turn_of c.before in
     let at = turn.before in
     let ns = (start_of at.before).args.numbers.now in (
-      omega (arith, turn.loop-test.taken),
-      reached_next _ ns at.loop.i at.loop.inv.1 (omega (arith, turn.loop-test.taken)) c.step_in-left.ensures,
+      omega (arith, turn.loop-i-test.true),
+      reached_next _ ns at.loop-i.i at.loop-i.invariant.1 (omega (arith, turn.loop-i-test.true)) c.step_in-left.ensures,
     )
 
 returns : tie.Need-returns invariant-loop decreases-loop

@@ -65,31 +65,31 @@ loop_holds c =
     (zero-le, reached_none ns (began_came s.args.network s.requires.0 refl), answered_none ns _ s.args.answers.now)
 
 step_in_requires : tie.Need-step_in-left-requires invariant-loop decreases-loop
-step_in_requires c κs = let turn = turn_of c in (turn.before.loop.inv.1.came, (bounds turn).0)
+step_in_requires c κs = let turn = turn_of c in (turn.before.loop-i.invariant.1.came, (bounds turn).0)
 
 mul_put_four : tie.Need-overflow_mul-i invariant-loop decreases-loop
-mul_put_four c = let turn = turn_of c.before.before.before in omega (arith, turn.loop-test.taken, few (start_of turn.before.before))
+mul_put_four c = let turn = turn_of c.before.before.before in omega (arith, turn.loop-i-test.true, few (start_of turn.before.before))
 
 add_put_four : tie.Need-overflow_add-i invariant-loop decreases-loop
-add_put_four c = let turn = turn_of c.before.before.before in omega (arith, turn.loop-test.taken, few (start_of turn.before.before))
+add_put_four c = let turn = turn_of c.before.before.before in omega (arith, turn.loop-i-test.true, few (start_of turn.before.before))
 
 put_four_requires : tie.Need-put_four-requires invariant-loop decreases-loop
-put_four_requires c κs = let turn = turn_of c.before.before.before in omega (arith, turn.before.loop.inv.2.long, bounds turn)
+put_four_requires c κs = let turn = turn_of c.before.before.before in omega (arith, turn.before.loop-i.invariant.2.long, bounds turn)
 
 add_i : tie.Need-overflow_step-i invariant-loop decreases-loop
 add_i c =
     let turn = turn_of c.before.before.before.before.before.before in
-    omega (arith, turn.loop-test.taken, few (start_of turn.before.before))
+    omega (arith, turn.loop-i-test.true, few (start_of turn.before.before))
 
 loop_again : tie.Need-loop-i-preserved invariant-loop decreases-loop
 loop_again c =
     let turn = turn_of c.before.before.before.before.before.before in
     let at = turn.before in
     let ns = (start_of at.before).args.numbers.now in
-    let l = at.loop in
+    let l = at.loop-i in
     let stepped = c.step_in-left.ensures in
     let b = bounds turn in
-    answered_next _ ns l.i l.inv.1 l.inv.2 b.0 b.1 stepped c.put_four.ensures
+    answered_next _ ns l.i l.invariant.1 l.invariant.2 b.0 b.1 stepped c.put_four.ensures
 
 same_length : tie.Need-shape_of-answers invariant-loop decreases-loop
 same_length c = c.loop-i.invariant.2.long

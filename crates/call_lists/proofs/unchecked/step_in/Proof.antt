@@ -28,7 +28,7 @@ returns : tie.Need-returns
 returns c =
     let called = at_call c.before in
     let s = called.before.before in
-    step_done (held s) s.requires.0 _ (c.apply_in.ensures ∙ ap (applied (held s)) called.call_at.ensures)
+    step_done (held s) s.requires.0 _ (c.apply_in.ensures ∙ ap (applied (held s)) called.call_at-call.ensures)
 
 pub step_in_spec : {M : Type 1} → statement M
 step_in_spec = tie.close (tie.spec (λ c κs. search rules) apply_in_requires returns)

@@ -82,15 +82,15 @@ returns_2 c =
     let s = start_of else.before in
     let a = s.args in
     let n = (held s).network in
-    let tried = else.before.drop_code.ensures in
-    let own = tried.own else.if1.left in
+    let tried = else.before.drop_code-code.ensures in
+    let own = tried.own else.if-code-ne0.false in
     let has = has_of (net_of n) a.s (T_is (is_gate (net_of n) a.s) own.gate) in
     let row = row_gate_at n a.s (T_is (sound_record n) own.sound) has in
     answered_parts a.head c.call_left-2.ensures
     (removed_parts a.head (shaped_parts a.head s.requires.lengths) own c.remove_places.ensures)
     (entered_parts _ c.one_more.ensures c.enter_gate.ensures
     ∙ ap (λ (x : GateRecord). with_step (held s).journal 1 a.s x) row)
-    ∙ drop_entered (held s) s.requires.whole a.s _ (tried.accepts else.if1.left)
+    ∙ drop_entered (held s) s.requires.whole a.s _ (tried.accepts else.if-code-ne0.false)
 
 pub drop_in_spec : {M : Type 1} → statement M
 drop_in_spec =

@@ -77,14 +77,14 @@ returns_2 c =
     let a = s.args in
     let n = (held s).network in
     let tried = else.before.merged_at-merged.ensures in
-    let own = tried.own else.if-code-ne0.left in
+    let own = tried.own else.if-code-ne0.false in
     let has = has_of (net_of n) a.v (T_is (is_gate (net_of n) a.v) own.gate) in
     let row = row_gate_at n a.v (T_is (sound_record n) own.sound) has in
     answered_parts a.head c.call_left-2.ensures
-    (stored_parts a.head a.v _ (shaped_parts a.head s.requires.lengths) own (tried.packed else.if1.left) c.store_gate.ensures)
+    (stored_parts a.head a.v _ (shaped_parts a.head s.requires.lengths) own (tried.packed else.if-code-ne0.false) c.store_gate.ensures)
     (entered_parts _ c.one_more.ensures c.enter_gate.ensures
     ∙ ap (λ (x : GateRecord). with_step (held s).journal 0 a.v x) row)
-    ∙ merge_entered (held s) s.requires.whole a.u a.v a.k a.l _ (tried.accepts else.if1.left)
+    ∙ merge_entered (held s) s.requires.whole a.u a.v a.k a.l _ (tried.accepts else.if-code-ne0.false)
 
 pub merge_in_spec : {M : Type 1} → statement M
 merge_in_spec =

@@ -91,15 +91,15 @@ returns_2 c =
     let at = loop_of found in
     let s = at.before.before in
     answered_parts s.args.head c.call_left-then-not-found.ensures refl refl
-    ∙ reached_settled at.loop.inv ((chosen found).none (not-true _ c.if-not-found.true-raw))
-    ∙ sweep_done (held s) s.requires.whole s.args.b at.before.if1.left
+    ∙ reached_settled at.loop-collapses.invariant ((chosen found).none (not-true _ c.if-not-found.true-raw))
+    ∙ sweep_done (held s) s.requires.whole s.args.b at.before.if-b-gt128.false
 
 collapse_entered_requires : tie.Need-collapse_entered-steps-requires invariant-loop decreases-loop
 collapse_entered_requires c κs =
     let else = else_of c in
     let at = loop_of else.before in
     let n = next else in
-    (lengths (reached at) at.loop.inv.shape, rw (made_of else.before).with_gates-here.ensures (record { own = n.own; pairs = n.pairs }))
+    (lengths (reached at) at.loop-collapses.invariant.shape, rw (made_of else.before).with_gates-here.ensures (record { own = n.own; pairs = n.pairs }))
 
 sub_gates : tie.Need-overflow_sub-gates invariant-loop decreases-loop
 sub_gates c =
@@ -110,10 +110,10 @@ add_collapses : tie.Need-overflow_add-collapses invariant-loop decreases-loop
 add_collapses c =
     let turn = turn_of (else_of c.before).before in
     let s = turn.before.before.before.before in
-    omega (arith, turn.if2.taken, (sized_of (held s).network (whole_network (held s) s.requires.whole)).few_gates)
+    omega (arith, turn.loop-collapses-test.true, (sized_of (held s).network (whole_network (held s) s.requires.whole)).few_gates)
 
 loop_less : tie.Need-loop-collapses-smaller invariant-loop decreases-loop
-loop_less c = omega (arith, (turn_of (else_of c.before).before).if2.taken)
+loop_less c = omega (arith, (turn_of (else_of c.before).before).loop-collapses-test.true)
 
 loop_again : tie.Need-loop-collapses-preserved invariant-loop decreases-loop
 loop_again c =
@@ -121,9 +121,9 @@ loop_again c =
     let found = else.before in
     let made = made_of found in
     let at = loop_of found in
-    let kept = remembered_next (ap (reached_with at) made.with-gates.ensures) found.lowest-collapsible.ensures.1 (not-false _ else.if3.left) in
-    reached_more at.loop.inv _ _ (turn_of found).loop-collapses-test.taken (next else) kept
-    (rw made.with-gates.ensures at c.collapse_entered-steps.ensures)
+    let kept = remembered_next (ap (reached_with at) made.with_gates-here.ensures) found.lowest_collapsible-choice.ensures.1 (not-false _ else.if-not-found.false-raw) in
+    reached_more at.loop-collapses.invariant _ _ (turn_of found).loop-collapses-test.true (next else) kept
+    (rw made.with_gates-here.ensures at c.collapse_entered-steps.ensures)
 
 returns_3 : tie.Need-returns invariant-loop decreases-loop
 returns_3 c =
