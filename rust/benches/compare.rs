@@ -437,7 +437,7 @@ fn alley_row(name: &str, bytes: &[u8]) {
     fs::write(&path, bytes).unwrap();
     let program = || {
         let program = concat!(env!("CARGO_MANIFEST_DIR"), "/../target/bin/alley");
-        Command::new(program).stdin(File::open(&path).unwrap()).output().expect("`rt check alley` makes the program").stdout
+        Command::new(program).stdin(File::open(&path).unwrap()).output().expect("`tests/library/make alley` makes the program").stdout
     };
     assert_eq!(program(), direct::alley(bytes));
     assert_eq!(program(), reference::alley(bytes).into_bytes());

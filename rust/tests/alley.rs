@@ -1,4 +1,4 @@
-//! The program `alley`, which `rt check` leaves in target/bin, against the independent implementation: byte for byte on random alleys with
+//! The program `alley`, which `tests/library/make` puts into target/bin, against the independent implementation: byte for byte on random alleys with
 //! refused lanes, on every cut of one, on 65,535 lanes and more, and on the sample. The one pass of the benchmarks is compared too.
 use std::io::Write;
 use std::process::{Command, Stdio};
@@ -9,7 +9,7 @@ use yovrenik_tests::reference as paper;
 /// What the program prints for an alley file on standard input, which comes in parts of a size.
 fn printed(alley: &[u8], part: usize) -> String {
     let program = concat!(env!("CARGO_MANIFEST_DIR"), "/../target/bin/alley");
-    let mut child = Command::new(program).stdin(Stdio::piped()).stdout(Stdio::piped()).spawn().expect("`rt check alley` makes the program");
+    let mut child = Command::new(program).stdin(Stdio::piped()).stdout(Stdio::piped()).spawn().expect("`tests/library/make alley` makes the program");
     let mut input = child.stdin.take().unwrap();
     let bytes = alley.to_vec();
     // the program passes over what follows the last lane, and may end the pipe early

@@ -1,4 +1,4 @@
-//! The program `fold`, which `rt check` leaves in target/bin, against the independent implementation: byte for byte on random, folding,
+//! The program `fold`, which `tests/library/make` puts into target/bin, against the independent implementation: byte for byte on random, folding,
 //! damaged, overlong and empty files.
 use std::io::Write;
 use std::process::{Command, Stdio};
@@ -11,7 +11,7 @@ use yovrenik_tests::LONGEST_FILE;
 /// What the program prints for a file on standard input.
 fn printed(file: &[u8]) -> String {
     let program = concat!(env!("CARGO_MANIFEST_DIR"), "/../target/bin/fold");
-    let mut child = Command::new(program).stdin(Stdio::piped()).stdout(Stdio::piped()).spawn().expect("`rt check fold` makes the program");
+    let mut child = Command::new(program).stdin(Stdio::piped()).stdout(Stdio::piped()).spawn().expect("`tests/library/make fold` makes the program");
     // a file that is longer than the program reads may end the pipe early
     let _ = child.stdin.take().unwrap().write_all(file);
     let output = child.wait_with_output().unwrap();
