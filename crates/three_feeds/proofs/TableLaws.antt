@@ -11,7 +11,8 @@ use Rattle.basics.specs.ListLaws.{all_from_at}
 use Rattle.basics.specs.TableLaws.{get_d_map}
 use Rattle.network.specs.Threshold.{sum, bit, frame}
 use Rattle.network.specs.Limits.{is_zero, weighs}
-use Rattle.three_feeds.specs.Rule.{gate_on_signals, entry_gate, EntryRule, together, has_gate, entry_numbers, numbers_of_all}
+use Rattle.three_feeds.specs.Rule.{gate_on_signals, entry_gate, EntryRule, together, has_gate, entry_numbers}
+use Rattle.three_feeds.specs.Numbers.{numbers_of_all}
 use Rattle.three_feeds.proofs.RuleLaws.{gate_tests, witness_tests, is_right, entry_right, exactly, on_signals}
 use Rattle.three_feeds.specs.Table.{table_entries, table_entry}
 use Rattle.three_feeds.specs.Claims.{EveryEntry, Exactly104, ServesSignals, EveryGate}

@@ -1,3 +1,4 @@
 pub mod Rule
+pub mod Numbers
 pub mod Table
 pub mod Claims

@@ -1,5 +1,5 @@
 -- What an entry of the three-feed table says: document 02, No. 7, "The three-feed table". Nothing is proved here.
-use Rattle.std.specs.Prelude.{◌≡◌, Bool, true, false, List, [], ◌∷◌, ◌++◌, ℕ, ◌+◌, ◌≤◌, ◌<◌, ℤ, pos, nat_abs}
+use Rattle.std.specs.Prelude.{◌≡◌, Bool, true, false, List, [], ◌∷◌, ℕ, ◌+◌, ◌≤◌, ◌<◌, ℤ, pos, nat_abs}
 use Rattle.basics.specs.Lists.{keep, Each}
 use Rattle.network.specs.Threshold.{Feed, Gate, Assignment, bit, frame, digit, word_of}
 use Rattle.network.specs.Limits.{weighs}
@@ -76,8 +76,3 @@ has_gate (NoGate x y u v) = false
 unfoldable pub entry_numbers : TableEntry → List ℤ
 entry_numbers (HasGate a b c t) = a ∷ b ∷ c ∷ t ∷ []
 entry_numbers (NoGate x y u v) = pos x ∷ pos y ∷ pos u ∷ pos v ∷ []
-
--- the numbers of the entries, four to each
-unfoldable pub numbers_of_all : List TableEntry → List ℤ
-numbers_of_all [] = []
-numbers_of_all (e ∷ es) = entry_numbers e ++ numbers_of_all es

@@ -3,7 +3,8 @@
 #![tactic(auto)]
 
 ghost use Rattle.std.specs.Prelude.{◌≡◌, false, map, ◌+◌, ◌*◌, ◌<◌, pos, get_or};
-ghost use Rattle.three_feeds.specs.Rule.{EntryRule, has_gate, numbers_of_all};
+ghost use Rattle.three_feeds.specs.Rule.{EntryRule, has_gate};
+ghost use Rattle.three_feeds.specs.Numbers.{numbers_of_all};
 ghost use Rattle.three_feeds.specs.Table.{table_entries, table_entry};
 ghost use Rattle.three_feeds.specs.Claims.{EveryEntry, Exactly104, EveryGate};
 

@@ -10,7 +10,8 @@ use mir.Syntax.{w8, w32}
 use mir.Val.{Fits, to_z, of_z}
 use borrow.Author.Rules.{rules}
 use Rattle.basics.specs.SizeLaws.{read_back}
-use Rattle.three_feeds.specs.Rule.{EntryRule, has_gate, entry_numbers, numbers_of_all}
+use Rattle.three_feeds.specs.Rule.{EntryRule, has_gate, entry_numbers}
+use Rattle.three_feeds.specs.Numbers.{numbers_of_all}
 use Rattle.three_feeds.specs.Table.{table_entries, table_entry}
 use Rattle.three_feeds.proofs.TableLaws.{every_entry, number_is, has_gate_is, entry_number, made_gate, made_witness, setting_byte}
 use Rattle.three_feeds.specs.declared.TableEntry.{TableEntry}

@@ -10,7 +10,7 @@ use mir.Syntax.{w8}
 use mir.Val.{SFits}
 use borrow.Author.Rules.{rules}
 use Rattle.three_feeds.specs.Table.{table_entries}
-use Rattle.three_feeds.specs.Rule.{numbers_of_all}
+use Rattle.three_feeds.specs.Numbers.{numbers_of_all}
 use Rattle.three_feeds.proofs.number.Statement.{statement}
 use Rattle.three_feeds.proofs.number.Tie as tie
 
