@@ -1,7 +1,7 @@
 // An alley file from a reader, its sheet to a writer. The lanes are listed by the calls of `alley_sheet` as they come in; this module
 // only moves bytes. It holds 131,072 bytes of the file at a time, which is more than the longest lane has, and writes its lines in blocks.
 // A read or a write that fails ends the work with its error.
-ghost use Rattle.std.specs.Prelude.{◌≤◌, length, IfOk};
+ghost use Rattle.std.specs.Prelude.{◌≡◌, ◌≤◌, length, IfOk, OnErr};
 ghost use Rattle.alley.specs.Moves.{Lesser, MovedToFront};
 
 use alley_theory::{Listed, Totals};
@@ -62,7 +62,8 @@ fn with_room<W: Write>(writer: &mut W, output: &[u8], place: Place) -> Result<Pl
 
 // One read. The answer is how many bytes came; 0 where the file ends.
 fn read_some<R: Read>(reader: &mut R, part: &mut [u8]) -> Result<usize>
-    ensures { IfOk result (λ count. count ≤ length part.new) }
+    ensures count { IfOk result (λ count. count ≤ length part.new) }
+    ensures err { OnErr result (length part.new ≡ length part.old) }
 {
     reader.read(part)
 }
