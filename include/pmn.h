@@ -12,7 +12,8 @@
  * before any other. On a refusal everything that was lent is left as it was; where the answer is 0, places and bytes after those named
  * are left as they were. pmn_witness alone writes where its answer is not 0: with 15, and only then.
  *
- * Each function says how much stack it takes, measured on the largest, the widest and the deepest networks; none takes more than 196 KB. */
+ * Each function says how much stack it takes, measured on the largest, the widest and the deepest networks; none but
+ * pmn_run takes more than 128 KB. */
 #ifndef PMN_H
 #define PMN_H
 
