@@ -79,15 +79,7 @@ fn run(network: Network, numbers: &[u64]) -> Network
     requires numbers_value { well_formed numbers.now ≡ true }
     ensures { result ≡ layout (net_after (net_of network) (calls_in numbers.now)) }
 {
-    let board = network.board;
-    let inputs = network.inputs;
-    let outputs = network.outputs;
-    let mut gates = network.gates;
-    let mut fanins = network.fanins;
-    let mut thresholds = network.thresholds;
-    let mut signals = network.signals;
-    let mut weights = network.weights;
-    let mut drivers = network.drivers;
+    let mut after = network;
     let mut count: usize = 0;
     let mut kinds = [0u8; 64];
     let mut step_signals = [0u8; 64];
@@ -96,19 +88,20 @@ fn run(network: Network, numbers: &[u64]) -> Network
     let mut feeds = [0u8; 1024];
     let mut step_weights = [0i32; 1024];
     for i in 0..numbers.len() / 5 {
+        let board = after.board;
         let head = Head {
             board,
-            inputs,
-            gates,
-            outputs,
+            inputs: after.inputs,
+            gates: after.gates,
+            outputs: after.outputs,
         };
         let left = step_in(
             head,
-            &mut fanins,
-            &mut thresholds,
-            &mut signals,
-            &mut weights,
-            &mut drivers,
+            &mut after.fanins,
+            &mut after.thresholds,
+            &mut after.signals,
+            &mut after.weights,
+            &mut after.drivers,
             count,
             &mut kinds,
             &mut step_signals,
@@ -119,23 +112,14 @@ fn run(network: Network, numbers: &[u64]) -> Network
             numbers,
             i,
         );
-        gates = left.gates;
+        after.gates = left.gates;
         count = left.count;
     }
-    Network {
-        board,
-        inputs,
-        gates,
-        outputs,
-        fanins,
-        signals,
-        weights,
-        thresholds,
-        drivers,
-    }
+    after
 }
 
-// The length of a network's file.
+// The length of a network's file. It has a frame of its own.
+#[inline(never)]
 fn file_length(network: Network) -> usize
     requires { HoldsSound network }
     ensures { result ≡ length (file_bytes (net_of network)) }
@@ -168,15 +152,7 @@ pub fn run_storing(network: Network, numbers: &[u64], answers: &mut [u64]) -> Ne
         (answers_of (just_opened (net_of network)) (calls_in numbers.now))
         (4 * length (calls_in numbers.now)) }
 {
-    let board = network.board;
-    let inputs = network.inputs;
-    let outputs = network.outputs;
-    let mut gates = network.gates;
-    let mut fanins = network.fanins;
-    let mut thresholds = network.thresholds;
-    let mut signals = network.signals;
-    let mut weights = network.weights;
-    let mut drivers = network.drivers;
+    let mut after = network;
     let mut count: usize = 0;
     let mut kinds = [0u8; 64];
     let mut step_signals = [0u8; 64];
@@ -185,19 +161,20 @@ pub fn run_storing(network: Network, numbers: &[u64], answers: &mut [u64]) -> Ne
     let mut feeds = [0u8; 1024];
     let mut step_weights = [0i32; 1024];
     for i in 0..numbers.len() / 5 {
+        let board = after.board;
         let head = Head {
             board,
-            inputs,
-            gates,
-            outputs,
+            inputs: after.inputs,
+            gates: after.gates,
+            outputs: after.outputs,
         };
         let left = step_in(
             head,
-            &mut fanins,
-            &mut thresholds,
-            &mut signals,
-            &mut weights,
-            &mut drivers,
+            &mut after.fanins,
+            &mut after.thresholds,
+            &mut after.signals,
+            &mut after.weights,
+            &mut after.drivers,
             count,
             &mut kinds,
             &mut step_signals,
@@ -210,18 +187,8 @@ pub fn run_storing(network: Network, numbers: &[u64], answers: &mut [u64]) -> Ne
         );
         let figures = left.figures;
         put_four(answers, 1 + 4 * i, left.code, figures);
-        gates = left.gates;
+        after.gates = left.gates;
         count = left.count;
     }
-    Network {
-        board,
-        inputs,
-        gates,
-        outputs,
-        fanins,
-        signals,
-        weights,
-        thresholds,
-        drivers,
-    }
+    after
 }

@@ -15,62 +15,57 @@ use network_limits::is_gate;
 use network_places::unchecked::replace_gate;
 use network_soundness::is_sound;
 
-// A step that cannot be taken back, with the network that came in.
-fn kept(network: Network) -> Back
-    ensures { result ≡ record { ok = false; network = network } }
-{
-    Back { ok: false, network }
-}
-
-// The result, if it is sound, or else the network that came in.
-fn if_sound(network: Network, res: Network) -> Back
-    ensures { result ≡ record { ok = sound_record res; network = cond (sound_record res) res network } }
+// The network before the step takes the place of the one after it, if it is sound; the answer is whether it is.
+fn if_sound(network: &mut Network, res: Network) -> bool
+    ensures value { result ≡ sound_record res }
+    ensures network_after { network.new ≡ cond (sound_record res) res network.old }
 {
     if !is_sound(res) {
-        return kept(network);
+        return false;
     }
-    Back {
-        ok: true,
-        network: res,
-    }
+    *network = res;
+    true
 }
 
-// The network before a merge into v: the gate that stood there is put back.
-fn put_back(network: Network, v: usize, gate: GateRecord) -> Back
-    requires { (sound_record network ≡ true) × GateRecordOk gate }
-    ensures { result ≡ back_to network (merging v (gate_in gate)) }
+// The network before a merge into v, where it can be had: the gate that stood there is put back.
+fn put_back(network: &mut Network, v: usize, gate: GateRecord) -> bool
+    requires { (sound_record network.old ≡ true) × GateRecordOk gate }
+    ensures value { result ≡ (back_to network.old (merging v (gate_in gate))).ok }
+    ensures network_after { network.new ≡ (back_to network.old (merging v (gate_in gate))).network }
 {
     let inputs = network.inputs;
     let gates = network.gates;
     if !is_gate(inputs, gates, v) {
-        return kept(network);
+        return false;
     }
-    let result = replace_gate(network, v, gate);
+    let result = replace_gate(*network, v, gate);
     if_sound(network, result)
 }
 
-// The network before a drop of u: the gate that was removed is put in.
-fn put_in(network: Network, u: usize, gate: GateRecord) -> Back
-    requires { (sound_record network ≡ true) × GateRecordOk gate }
-    ensures { result ≡ back_to network (dropping u (gate_in gate)) }
+// The network before a drop of u, where it can be had: the gate that was removed is put in.
+fn put_in(network: &mut Network, u: usize, gate: GateRecord) -> bool
+    requires { (sound_record network.old ≡ true) × GateRecordOk gate }
+    ensures value { result ≡ (back_to network.old (dropping u (gate_in gate))).ok }
+    ensures network_after { network.new ≡ (back_to network.old (dropping u (gate_in gate))).network }
 {
     let inputs = network.inputs;
     let gates = network.gates;
     if (u < inputs) | (inputs + gates < u) | (gates == 128) {
-        return kept(network);
+        return false;
     }
-    let result = insert_gate(network, u, gate);
+    let result = insert_gate(*network, u, gate);
     if_sound(network, result)
 }
 
-// The network before the newest step of a journal that has one.
-pub fn restored(network: Network, journal: Journal) -> Back
-    requires { sound_record network ≡ true }
-    ensures { result ≡ back_to network (step_at journal 0) }
+// The newest step of a journal taken back, where it can be.
+fn take_back(network: &mut Network, journal: Journal) -> bool
+    requires { sound_record network.old ≡ true }
+    ensures value { result ≡ (back_to network.old (step_at journal 0)).ok }
+    ensures network_after { network.new ≡ (back_to network.old (step_at journal 0)).network }
 {
     let fanin = wide(journal.fanins[0]);
     if 16 < fanin {
-        return kept(network);
+        return false;
     }
     let gate = newest_gate(journal);
     let signal = wide(journal.signals[0]);
@@ -79,4 +74,17 @@ pub fn restored(network: Network, journal: Journal) -> Back
         return put_back(network, signal, gate);
     }
     put_in(network, signal, gate)
+}
+
+// The network before the newest step of a journal that has one.
+pub fn restored(network: Network, journal: Journal) -> Back
+    requires { sound_record network ≡ true }
+    ensures { result ≡ back_to network (step_at journal 0) }
+{
+    let mut before = network;
+    let ok = take_back(&mut before, journal);
+    Back {
+        ok,
+        network: before,
+    }
 }

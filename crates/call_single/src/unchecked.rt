@@ -16,7 +16,8 @@ use network_places::unchecked::store_gate;
 use network_removal::unchecked::remove_places;
 
 // u merged into v with k and l, with its step entered. Refusals: 11 no such gate, 12 not a feed, 14 off the dial, 7 too wide, 6 off the scale,
-// 24 broken margin, 15 disagrees.
+// 24 broken margin, 15 disagrees. It has a frame of its own.
+#[inline(never)]
 pub fn merge_in(
     head: Head,
     fanins: &mut [u8; 128],

@@ -12,7 +12,8 @@ use network::Network;
 use network_places::Head;
 
 // The latest step taken back, in the arrays of a sound record, which are lent. Refusals: 22 empty journal, 23 a step that would leave an unsound
-// network.
+// network. It has a frame of its own.
+#[inline(never)]
 pub fn undo_in(
     head: Head,
     fanins: &mut [u8; 128],

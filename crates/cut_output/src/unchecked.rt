@@ -8,7 +8,8 @@ use cut_copying::unchecked::marked_gates;
 use cut_marking::unchecked::needed_gates;
 use network::Network;
 
-// The cut of output j, of a sound record.
+// The cut of output j, of a sound record. It has a frame of its own.
+#[inline(never)]
 pub fn cut_sound(network: Network, j: usize) -> Network
     requires { (sound_record network ≡ true) × (j < network.outputs) }
     ensures { result ≡ layout (cut_net (net_of network) (named (net_of network) j)) }

@@ -28,7 +28,8 @@ fn shown(found: Unclear) -> Witnessed
 }
 
 // The witness of two gates with k and l: the first refusal among 14, 7, 6, 24 and 15, and a setting with 15; 0 if there is none. Margins
-// are tested before the settings, and play no part in them.
+// are tested before the settings, and play no part in them. It has a frame of its own.
+#[inline(never)]
 pub fn witness_of(a: Alignment, k: usize, l: usize) -> Witnessed
     requires { AlignmentOnScale a }
     ensures { WitnessOfAlignment a k l result }

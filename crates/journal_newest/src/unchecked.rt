@@ -99,7 +99,8 @@ fn first_weights(weights: &[i32; 1024], fanin: usize) -> [i32; 16]
     result
 }
 
-// The gate of the newest step, with 0 in its spare places.
+// The gate of the newest step, with 0 in its spare places. It has a frame of its own.
+#[inline(never)]
 pub fn newest_gate(journal: Journal) -> GateRecord
     requires { get_or journal.fanins 0 0 ≤ 16 }
     ensures { result ≡ gate_record (gate_in (row_of journal 0)) }

@@ -18,26 +18,20 @@ pub fn insert_gate(network: Network, u: usize, gate: GateRecord) -> Network
     let g = u - network.inputs;
     let first = 16 * g;
     let gates = network.gates + 1;
-    let mut fanins = fanins_with_gap(&network.fanins, g);
-    let mut thresholds = thresholds_with_gap(&network.thresholds, g);
-    let mut signals = signals_with_gap(&network.signals, first, u);
-    let mut weights = weights_with_gap(&network.weights, first);
+    let mut result = network;
+    result.gates = gates;
+    result.fanins = fanins_with_gap(&result.fanins, g);
+    result.thresholds = thresholds_with_gap(&result.thresholds, g);
+    result.signals = signals_with_gap(&result.signals, first, u);
+    result.weights = weights_with_gap(&result.weights, first);
+    result.drivers = raised_drivers(result.drivers, u);
     store_gate(
-        &mut fanins,
-        &mut thresholds,
-        &mut signals,
-        &mut weights,
+        &mut result.fanins,
+        &mut result.thresholds,
+        &mut result.signals,
+        &mut result.weights,
         g,
         gate,
     );
-    let old_drivers = network.drivers;
-    let drivers = raised_drivers(old_drivers, u);
-    let mut result = network;
-    result.gates = gates;
-    result.fanins = fanins;
-    result.thresholds = thresholds;
-    result.signals = signals;
-    result.weights = weights;
-    result.drivers = drivers;
     result
 }

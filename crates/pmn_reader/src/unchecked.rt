@@ -147,7 +147,8 @@ pub fn refuse(code: u8) -> Loaded
     Loaded { code, network }
 }
 
-// What follows the header of a file.
+// What follows the header of a file. It has a frame of its own.
+#[inline(never)]
 pub fn read_body(file: &[u8], head: HeadRead) -> Loaded
     requires { HeaderInside file.now head }
     ensures { result ≡ as_loaded (body_after file.now head) }
@@ -155,7 +156,7 @@ pub fn read_body(file: &[u8], head: HeadRead) -> Loaded
     let board = head.board;
     let inputs = head.inputs;
     let gates = head.gates;
-    let gates_read = read_gates(file, head.next, board, inputs, gates);
+    let mut gates_read = read_gates(file, head.next, board, inputs, gates);
     let code = gates_read.code;
     if code != 0 {
         return refuse(code);
@@ -168,9 +169,9 @@ pub fn read_body(file: &[u8], head: HeadRead) -> Loaded
     if outputs_read.next < file.len() {
         return refuse(9);
     }
-    let mut network = gates_read.network;
     let drivers = outputs_read.drivers;
-    network.outputs = head.outputs;
-    network.drivers = drivers;
+    gates_read.network.outputs = head.outputs;
+    gates_read.network.drivers = drivers;
+    let network = gates_read.network;
     Loaded { code: 0, network }
 }

@@ -9,37 +9,36 @@ use Rattle.call_theory.specs.Steps.{State}
 use Rattle.call_theory.specs.Calls.{calls}
 use Rattle.journal.specs.Journals.{empty_journal}
 use Rattle.journal.specs.Records.{state_of, just_read}
-use Rattle.journal.specs.Parts.{record_parts}
+use Rattle.journal.specs.Parts.{journal_parts}
+use Rattle.journal.specs.declared.Record.{Record}
 use Rattle.call_numbers.specs.Numbers.{calls_in}
 use Rattle.call_lists.proofs.RunTurns.{Reached, began_came, began_state, reached_none, reached_next, reached_end}
 use Rattle.call_lists.proofs.unchecked.run.Statement.{statement}
 use Rattle.call_lists.proofs.unchecked.run.Tie as tie
 
 abbrev invariant-loop : tie.invariant-loop-i
-invariant-loop numbers board inputs outputs
-    gates₀ fanins₀ thresholds₀ signals₀ weights₀ drivers₀ count₀ kinds₀ step-signals₀ step-fanins₀ step-thresholds₀ feeds₀ step-weights₀ i₀ i-end
-    gates fanins thresholds signals weights drivers count kinds step_signals step_fanins step_thresholds feeds step_weights i =
-    let q = state_of (record_parts (record { board = board; inputs = inputs; gates = gates₀; outputs = outputs })
-    fanins₀ thresholds₀ signals₀ weights₀ drivers₀ count₀ kinds₀ step-signals₀ step-fanins₀ step-thresholds₀ feeds₀ step-weights₀) in
-    let r = record_parts (record { board = board; inputs = inputs; gates = gates; outputs = outputs })
-    fanins thresholds signals weights drivers count kinds step_signals step_fanins step_thresholds feeds step_weights in
+invariant-loop numbers after₀ count₀ kinds₀ step-signals₀ step-fanins₀ step-thresholds₀ feeds₀ step-weights₀ i₀ i-end
+    after count kinds step_signals step_fanins step_thresholds feeds step_weights i =
+    let q = state_of (record {
+      network = after₀;
+      journal = journal_parts count₀ kinds₀ step-signals₀ step-fanins₀ step-thresholds₀ feeds₀ step-weights₀;
+    }) in
+    let r : Record = record { network = after; journal = journal_parts count kinds step_signals step_fanins step_thresholds feeds step_weights } in
     (i ≤ length numbers / 5) × Reached q numbers i r
 
 abbrev decreases-loop : tie.decreases-loop-i
-decreases-loop numbers board inputs outputs
-    gates₀ fanins₀ thresholds₀ signals₀ weights₀ drivers₀ count₀ kinds₀ step-signals₀ step-fanins₀ step-thresholds₀ feeds₀ step-weights₀ i₀ i-end
-    gates fanins thresholds signals weights drivers count kinds step_signals step_fanins step_thresholds feeds step_weights i =
+decreases-loop numbers after₀ count₀ kinds₀ step-signals₀ step-fanins₀ step-thresholds₀ feeds₀ step-weights₀ i₀ i-end
+    after count kinds step_signals step_fanins step_thresholds feeds step_weights i =
     length numbers / 5 - i
 
 -- the start, from where the network is copied
-abbrev start_of : tie.After-drivers-1 invariant-loop decreases-loop → tie.Start invariant-loop decreases-loop
-start_of c =
-    c.before.before.before.before.before.before.before
+abbrev start_of : tie.After-shared_slice_known-1 invariant-loop decreases-loop → tie.Start invariant-loop decreases-loop
+start_of c = c.before
 
 -- the turn, from where the arrays are lent
 abbrev turn_of : tie.After-step_weights-1 invariant-loop decreases-loop → tie.In-loop-i invariant-loop decreases-loop
 turn_of c =
-    c.before.before.before.before.before.before.before.before.before.before.before
+    c.before.before.before.before.before.before.before.before.before.before.before.before
 
 -- the list's length is a machine number
 few : (c : tie.Start invariant-loop decreases-loop) → length c.args.numbers.now < 18446744073709551616

@@ -11,7 +11,8 @@ use Rattle.call_theory.specs.Steps.{State}
 use Rattle.call_theory.specs.Calls.{calls}
 use Rattle.journal.specs.Journals.{empty_journal}
 use Rattle.journal.specs.Records.{state_of, just_read}
-use Rattle.journal.specs.Parts.{record_parts}
+use Rattle.journal.specs.Parts.{journal_parts}
+use Rattle.journal.specs.declared.Record.{Record}
 use Rattle.call_numbers.specs.Numbers.{calls_in}
 use Rattle.call_numbers.specs.NumberLaws.{count_calls}
 use Rattle.call_runs.specs.Runs.{answers_of}
@@ -21,30 +22,28 @@ use Rattle.call_lists.proofs.unchecked.run_storing.Statement.{statement}
 use Rattle.call_lists.proofs.unchecked.run_storing.Tie as tie
 
 abbrev invariant-loop : tie.invariant-loop-i
-invariant-loop numbers answers₀ board inputs outputs
-    gates₀ fanins₀ thresholds₀ signals₀ weights₀ drivers₀ count₀ kinds₀ step-signals₀ step-fanins₀ step-thresholds₀ feeds₀ step-weights₀ i₀ i-end
-    answers gates fanins thresholds signals weights drivers count kinds step_signals step_fanins step_thresholds feeds step_weights i =
-    let q = state_of (record_parts (record { board = board; inputs = inputs; gates = gates₀; outputs = outputs })
-    fanins₀ thresholds₀ signals₀ weights₀ drivers₀ count₀ kinds₀ step-signals₀ step-fanins₀ step-thresholds₀ feeds₀ step-weights₀) in
-    let r = record_parts (record { board = board; inputs = inputs; gates = gates; outputs = outputs })
-    fanins thresholds signals weights drivers count kinds step_signals step_fanins step_thresholds feeds step_weights in
+invariant-loop numbers answers₀ after₀ count₀ kinds₀ step-signals₀ step-fanins₀ step-thresholds₀ feeds₀ step-weights₀ i₀ i-end
+    answers after count kinds step_signals step_fanins step_thresholds feeds step_weights i =
+    let q = state_of (record {
+      network = after₀;
+      journal = journal_parts count₀ kinds₀ step-signals₀ step-fanins₀ step-thresholds₀ feeds₀ step-weights₀;
+    }) in
+    let r : Record = record { network = after; journal = journal_parts count kinds step_signals step_fanins step_thresholds feeds step_weights } in
     (i ≤ length numbers / 5) × Reached q numbers i r × Answered q numbers i r answers₀ answers
 
 abbrev decreases-loop : tie.decreases-loop-i
-decreases-loop numbers answers₀ board inputs outputs
-    gates₀ fanins₀ thresholds₀ signals₀ weights₀ drivers₀ count₀ kinds₀ step-signals₀ step-fanins₀ step-thresholds₀ feeds₀ step-weights₀ i₀ i-end
-    answers gates fanins thresholds signals weights drivers count kinds step_signals step_fanins step_thresholds feeds step_weights i =
+decreases-loop numbers answers₀ after₀ count₀ kinds₀ step-signals₀ step-fanins₀ step-thresholds₀ feeds₀ step-weights₀ i₀ i-end
+    answers after count kinds step_signals step_fanins step_thresholds feeds step_weights i =
     length numbers / 5 - i
 
 -- the start, from where the network is copied
-abbrev start_of : tie.After-drivers-1 invariant-loop decreases-loop → tie.Start invariant-loop decreases-loop
-start_of c =
-    c.before.before.before.before.before.before.before.before
+abbrev start_of : tie.After-slice_known-1 invariant-loop decreases-loop → tie.Start invariant-loop decreases-loop
+start_of c = c.before.before
 
 -- the turn, from where the arrays are lent
 abbrev turn_of : tie.After-step_weights-1 invariant-loop decreases-loop → tie.In-loop-i invariant-loop decreases-loop
 turn_of c =
-    c.before.before.before.before.before.before.before.before.before.before.before
+    c.before.before.before.before.before.before.before.before.before.before.before.before
 
 -- call i and its four places are there
 bounds : (c : tie.In-loop-i invariant-loop decreases-loop) → let a = (start_of c.before.before).args in

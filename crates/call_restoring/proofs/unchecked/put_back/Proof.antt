@@ -1,13 +1,14 @@
 -- v is no gate's signal, or the gate is replaced (BackLaws). Assumes nothing.
 use borrow.Author.Rules.{rules}
 use borrow.Author.Tests.{not-true, not-false}
-use mathlib.Core.Path.{◌≡◌, sym, ◌∙◌}
+use mathlib.Core.Path.{◌≡◌, sym, ap, ◌∙◌}
 use mathlib.Core.Bool.{true}
 use Rattle.network.specs.Record.{gate_in}
 use Rattle.network.specs.Limits.{gate_signal}
 use Rattle.network.specs.RecordLaws.{gate_signal_lem}
 use Rattle.call_restoring.specs.BackLaws.{no_gate_lem, back_no, back_merge}
 use Rattle.call_restoring.specs.NewestLaws.{packed_few}
+use Rattle.call_restoring.specs.declared.Back.{Back}
 use Rattle.call_restoring.proofs.unchecked.put_back.Statement.{statement}
 use Rattle.call_restoring.proofs.unchecked.put_back.Tie as tie
 
@@ -15,27 +16,28 @@ returns : tie.Need-returns-then-not-is_gate
 returns c =
     let a = c.args in
     let stranger = sym c.is_gate.ensures ∙ not-true _ c.if-not-is_gate.true-raw in
-    c.kept.ensures ∙ back_no a.network _ (no_gate_lem a.network a.v (gate_in a.gate) stranger)
+    let e = back_no a.network.now _ (no_gate_lem a.network.now a.v (gate_in a.gate) stranger) in
+    (ap (λ (b : Back). b.ok) e, ap (λ (b : Back). b.network) e)
 
 -- past the test v is a gate's signal
-gate : (c : tie.Else-not-is_gate) → let a = c.args in gate_signal a.network.inputs a.network.gates a.v ≡ true
+gate : (c : tie.Else-not-is_gate) → let a = c.args in gate_signal a.network.now.inputs a.network.now.gates a.v ≡ true
 gate c = sym c.is_gate.ensures ∙ not-false _ c.if-not-is_gate.false-raw
 
 replace_gate_requires : tie.Need-replace_gate-result-requires
 replace_gate_requires c κs =
-    (record { sound = c.requires.0; gate = gate_signal_lem c.args.network c.args.v ∙ gate c }, c.requires.1.row)
+    (record { sound = c.requires.0; gate = gate_signal_lem c.args.network.now c.args.v ∙ gate c.before }, c.requires.1.row)
 
 returns_2 : tie.Need-returns
 returns_2 c =
     let a = c.args in
-    c.if_sound.ensures ∙ back_merge a.network a.v (gate_in a.gate) _ c.requires.0 (gate c.before.before)
-    (packed_few a.gate c.requires.1) c.replace_gate-result.ensures
+    let e = back_merge a.network.now a.v (gate_in a.gate) _ c.requires.0 (gate c.before.before.before.before)
+    (packed_few a.gate c.requires.1) c.replace_gate-result.ensures in
+    (c.if_sound.ensures.0 ∙ ap (λ (b : Back). b.ok) e, c.if_sound.ensures.1 ∙ ap (λ (b : Back). b.network) e)
 
 pub put_back_spec : {M : Type 1} → statement M
 put_back_spec =
     tie.close
     (tie.spec
-    (λ c κs. search rules)
     (λ c κs. search rules)
     returns
     replace_gate_requires

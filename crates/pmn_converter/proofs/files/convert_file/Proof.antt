@@ -9,9 +9,8 @@ use Rattle.pmn_opening.specs.Opening.{FileOpen}
 use Rattle.pmn_opening.specs.AnswerLaws.{refused_two, same_two}
 use Rattle.pmn_opening.specs.OpeningLaws.{file_sound, open_refused}
 use Rattle.pmn_versions.specs.Versions.{convertible}
-use Rattle.pmn_versions.proofs.VersionLaws.{with_sound}
 use Rattle.pmn_converter.specs.Conversion.{conversion_places}
-use Rattle.pmn_converter.specs.ConversionLaws.{conversion_refused, with_file}
+use Rattle.pmn_converter.specs.ConversionLaws.{conversion_refused}
 use Rattle.pmn_converter.specs.FileLaws.{converted_open}
 use Rattle.pmn_converter.proofs.files.convert_file.Statement.{statement}
 use Rattle.pmn_converter.proofs.files.convert_file.Tie as tie
@@ -43,18 +42,16 @@ returns_2 c =
 can : (c : tie.Else-not-is_convertible) → convertible c.read-read.result.network.board ≡ true
 can c = sym c.is_convertible.ensures ∙ not-false _ c.if-not-is_convertible.false-raw
 
-put_file_requires : tie.Need-put_file-requires
-put_file_requires c κs =
-    let o = file_open c.before.before.before.before.before.before.before in
-    (with_sound _ (file_sound o) (can c.before.before.before.before) c.in_other_version-other.ensures, o.room)
+put_other_requires : tie.Need-put_other-requires
+put_other_requires c κs =
+    let o = file_open c.before.before.before.before.before.before in
+    (file_sound o, (can c.before.before.before, o.room))
 
 returns_3 : tie.Need-returns
 returns_3 c =
-    let s = c.before.before.before.before.before.before.before.before.before.before.before.before in
+    let s = c.before.before.before.before.before.before.before.before.before.before.before in
     let a = s.args in
-    let o = file_open s in
-    let made = with_file _ (file_sound o) (can c.before.before.before.before.before.before.before.before.before) c.in_other_version-other.ensures (length a.out.now) in
-    same_two a.out.now a.answer.now (converted_open (length a.out.now) o ∙ made) c.put_file.ensures
+    same_two a.out.now a.answer.now (converted_open (length a.out.now) (file_open s)) c.put_other.ensures
 
 pub convert_file_spec : {M : Type 1} → statement M
 convert_file_spec =
@@ -65,8 +62,7 @@ convert_file_spec =
     returns
     (λ c κs. search rules)
     returns_2
-    (λ c κs. search rules)
-    put_file_requires
+    put_other_requires
     (λ c. search rules)
     (λ c. search rules)
     returns_3)
