@@ -15,9 +15,6 @@ const PAINT: u8 = 0xA5;
 /// No function may take more than this, in bytes.
 const MOST: usize = 128 * 1024;
 
-/// A list of calls takes more than that as today's compiler makes it, and may take no more than this (docs/PORT.md).
-const MOST_OF_A_LIST: usize = 196 * 1024;
-
 /// The stack that include/pmn.h says a function takes, in bytes: `Stack: n KB.` in the comment before its declaration.
 fn stated(function: &str) -> usize {
     let header = include_str!("../../include/pmn.h");
@@ -89,8 +86,7 @@ fn every_call(inputs: u64, gates: u64) -> Vec<u64> {
 fn within(function: &str, used: usize) {
     let most = stated(function);
     println!("{function}: {used} bytes of {most}");
-    let limit = if function == "pmn_run" { MOST_OF_A_LIST } else { MOST };
-    assert!(most <= limit, "include/pmn.h says {most} bytes of stack for {function}");
+    assert!(most <= MOST, "include/pmn.h says {most} bytes of stack for {function}");
     assert!(used <= most, "{function} took {used} bytes of stack, and include/pmn.h says {most}");
     assert!(most <= used + 4096, "{function} took {used} bytes of stack, and include/pmn.h says as much as {most}");
 }
