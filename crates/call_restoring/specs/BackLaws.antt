@@ -198,6 +198,9 @@ back_drop n u g r s p few e =
     (room_inserted N u g (sound_net n (T_is (sound_record n) s)) (omega (arith, p, count)) few) e
 
 -- ---- the answer, part by part
+pub in_parts : {a b : Back} → a ≡ b → (a.ok ≡ b.ok) × (a.network ≡ b.network)
+in_parts e = (ap (λ (x : Back). x.ok) e, ap (λ (x : Back). x.network) e)
+
 pub back_ok : (n : Network) (s : Step) → (back_to n s).ok ≡ undoable (net_of n) s
 unfolding back_to
 back_ok n s = refl

@@ -1,21 +1,18 @@
 -- The test decides. Assumes nothing.
 use borrow.Author.Rules.{rules}
 use borrow.Author.Tests.{not-true, not-false}
-use mathlib.Core.Path.{sym, ap, ◌∙◌}
-use Rattle.call_restoring.specs.BackLaws.{picked_no, picked_yes}
-use Rattle.call_restoring.specs.declared.Back.{Back}
+use mathlib.Core.Path.{sym, ◌∙◌}
+use Rattle.call_restoring.specs.BackLaws.{picked_no, picked_yes, in_parts}
 use Rattle.call_restoring.proofs.unchecked.if_sound.Statement.{statement}
 use Rattle.call_restoring.proofs.unchecked.if_sound.Tie as tie
 
 returns : tie.Need-returns-then-not-is_sound
 returns c =
-    let e = picked_no c.args.res c.args.network.now (sym c.is_sound.ensures ∙ not-true _ c.if-not-is_sound.true-raw) in
-    (ap (λ (b : Back). b.ok) e, ap (λ (b : Back). b.network) e)
+    in_parts (picked_no c.args.res c.args.network.now (sym c.is_sound.ensures ∙ not-true _ c.if-not-is_sound.true-raw))
 
 returns_2 : tie.Need-returns
 returns_2 c =
-    let e = picked_yes c.args.res c.args.network.now (sym c.is_sound.ensures ∙ not-false _ c.if-not-is_sound.false-raw) in
-    (ap (λ (b : Back). b.ok) e, ap (λ (b : Back). b.network) e)
+    in_parts (picked_yes c.args.res c.args.network.now (sym c.is_sound.ensures ∙ not-false _ c.if-not-is_sound.false-raw))
 
 pub if_sound_spec : {M : Type 1} → statement M
 if_sound_spec = tie.close (tie.spec (λ c κs. search rules) returns returns_2)

@@ -1,14 +1,13 @@
 -- v is no gate's signal, or the gate is replaced (BackLaws). Assumes nothing.
 use borrow.Author.Rules.{rules}
 use borrow.Author.Tests.{not-true, not-false}
-use mathlib.Core.Path.{◌≡◌, sym, ap, ◌∙◌}
+use mathlib.Core.Path.{◌≡◌, sym, ◌∙◌}
 use mathlib.Core.Bool.{true}
 use Rattle.network.specs.Record.{gate_in}
 use Rattle.network.specs.Limits.{gate_signal}
 use Rattle.network.specs.RecordLaws.{gate_signal_lem}
-use Rattle.call_restoring.specs.BackLaws.{no_gate_lem, back_no, back_merge}
+use Rattle.call_restoring.specs.BackLaws.{no_gate_lem, back_no, back_merge, in_parts}
 use Rattle.call_restoring.specs.NewestLaws.{packed_few}
-use Rattle.call_restoring.specs.declared.Back.{Back}
 use Rattle.call_restoring.proofs.unchecked.put_back.Statement.{statement}
 use Rattle.call_restoring.proofs.unchecked.put_back.Tie as tie
 
@@ -16,8 +15,7 @@ returns : tie.Need-returns-then-not-is_gate
 returns c =
     let a = c.args in
     let stranger = sym c.is_gate.ensures ∙ not-true _ c.if-not-is_gate.true-raw in
-    let e = back_no a.network.now _ (no_gate_lem a.network.now a.v (gate_in a.gate) stranger) in
-    (ap (λ (b : Back). b.ok) e, ap (λ (b : Back). b.network) e)
+    in_parts (back_no a.network.now _ (no_gate_lem a.network.now a.v (gate_in a.gate) stranger))
 
 -- past the test v is a gate's signal
 gate : (c : tie.Else-not-is_gate) → let a = c.args in gate_signal a.network.now.inputs a.network.now.gates a.v ≡ true
@@ -30,9 +28,9 @@ replace_gate_requires c κs =
 returns_2 : tie.Need-returns
 returns_2 c =
     let a = c.args in
-    let e = back_merge a.network.now a.v (gate_in a.gate) _ c.requires.0 (gate c.before.before.before.before)
-    (packed_few a.gate c.requires.1) c.replace_gate-result.ensures in
-    (c.if_sound.ensures.0 ∙ ap (λ (b : Back). b.ok) e, c.if_sound.ensures.1 ∙ ap (λ (b : Back). b.network) e)
+    let e = in_parts (back_merge a.network.now a.v (gate_in a.gate) _ c.requires.0 (gate c.before.before.before.before)
+    (packed_few a.gate c.requires.1) c.replace_gate-result.ensures) in
+    (c.if_sound.ensures.0 ∙ e.0, c.if_sound.ensures.1 ∙ e.1)
 
 pub put_back_spec : {M : Type 1} → statement M
 put_back_spec =

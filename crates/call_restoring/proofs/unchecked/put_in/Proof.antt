@@ -1,13 +1,12 @@
 -- u has no place, or there is no room, or the gate is put in (BackLaws). Assumes nothing.
 use borrow.Author.Rules.{rules}
-use mathlib.Core.Path.{ap, ◌∙◌}
+use mathlib.Core.Path.{◌∙◌}
 use Prim.Native.Nat.{◌+◌, ◌≤◌, ◌<◌}
 use native.Mathlib.Omega.{arith}
 use Rattle.network.specs.Record.{gate_in}
 use Rattle.network.specs.SoundLaws.{sized_of}
-use Rattle.call_restoring.specs.BackLaws.{undoable_outside, inside, back_no, back_drop}
+use Rattle.call_restoring.specs.BackLaws.{undoable_outside, inside, back_no, back_drop, in_parts}
 use Rattle.call_restoring.specs.NewestLaws.{packed_few}
-use Rattle.call_restoring.specs.declared.Back.{Back}
 use Rattle.call_restoring.proofs.unchecked.put_in.Statement.{statement}
 use Rattle.call_restoring.proofs.unchecked.put_in.Tie as tie
 
@@ -17,8 +16,7 @@ add_if1 c = let z = sized_of c.args.network.now c.requires.0 in omega (arith, z.
 returns : tie.Need-returns-then-u-inputs
 returns c =
     let a = c.args in
-    let e = back_no a.network.now _ (undoable_outside a.network.now a.u (gate_in a.gate) c.if-u-inputs.true) in
-    (ap (λ (b : Back). b.ok) e, ap (λ (b : Back). b.network) e)
+    in_parts (back_no a.network.now _ (undoable_outside a.network.now a.u (gate_in a.gate) c.if-u-inputs.true))
 
 -- past the tests there is a place for the gate
 place : (c : tie.Else-u-inputs)
@@ -35,9 +33,9 @@ insert_gate_requires c κs =
 returns_2 : tie.Need-returns
 returns_2 c =
     let a = c.args in
-    let e = back_drop a.network.now a.u (gate_in a.gate) _ c.requires.0 (place c.before.before.before.before)
-    (packed_few a.gate c.requires.1) c.insert_gate-result.ensures in
-    (c.if_sound.ensures.0 ∙ ap (λ (b : Back). b.ok) e, c.if_sound.ensures.1 ∙ ap (λ (b : Back). b.network) e)
+    let e = in_parts (back_drop a.network.now a.u (gate_in a.gate) _ c.requires.0 (place c.before.before.before.before)
+    (packed_few a.gate c.requires.1) c.insert_gate-result.ensures) in
+    (c.if_sound.ensures.0 ∙ e.0, c.if_sound.ensures.1 ∙ e.1)
 
 pub put_in_spec : {M : Type 1} → statement M
 put_in_spec =

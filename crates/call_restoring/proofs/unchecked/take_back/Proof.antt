@@ -8,8 +8,7 @@ use Rattle.network.specs.Record.{net_of, gate_in}
 use Rattle.call_theory.specs.Steps.{merging, dropping}
 use Rattle.journal.specs.Journals.{row_of}
 use Rattle.call_restoring.specs.TakenBack.{GateRecordOk, back_to}
-use Rattle.call_restoring.specs.declared.Back.{Back}
-use Rattle.call_restoring.specs.BackLaws.{back_no}
+use Rattle.call_restoring.specs.BackLaws.{back_no, in_parts}
 use Rattle.call_restoring.specs.NewestLaws.{newest_merge, newest_drop, newest_wide, newest_gate, newest_packed}
 use Rattle.call_restoring.proofs.unchecked.take_back.Statement.{statement}
 use Rattle.call_restoring.proofs.unchecked.take_back.Tie as tie
@@ -17,8 +16,7 @@ use Rattle.call_restoring.proofs.unchecked.take_back.Tie as tie
 returns : tie.Need-returns-then-fanin-gt16
 returns c =
     let a = c.args in
-    let e = back_no a.network.now _ (newest_wide a.journal (net_of a.network.now) (omega (arith, c.wide-fanin.ensures.0))) in
-    (ap (λ (b : Back). b.ok) e, ap (λ (b : Back). b.network) e)
+    in_parts (back_no a.network.now _ (newest_wide a.journal (net_of a.network.now) (omega (arith, c.wide-fanin.ensures.0))))
 
 -- past the first test the gate has at most 16 feeds
 few : (c : tie.Else-fanin-gt16) → get_or c.args.journal.fanins 0 0 ≤ 16
@@ -42,9 +40,9 @@ returns_2 : tie.Need-returns-then-kind-eq0
 returns_2 c =
     let gate = c.before.before.before.before.before.before in
     let a = (start gate).args in
-    let e = ap (back_to a.network.now)
-    ((λ x. merging (c.wide-signal.ensures.0 x) (same gate x)) ∙ sym (newest_merge a.journal c.if-kind-eq0.true)) in
-    (c.put_back.ensures.0 ∙ ap (λ (b : Back). b.ok) e, c.put_back.ensures.1 ∙ ap (λ (b : Back). b.network) e)
+    let e = in_parts (ap (back_to a.network.now)
+    ((λ x. merging (c.wide-signal.ensures.0 x) (same gate x)) ∙ sym (newest_merge a.journal c.if-kind-eq0.true))) in
+    (c.put_back.ensures.0 ∙ e.0, c.put_back.ensures.1 ∙ e.1)
 
 put_in_requires : tie.Need-put_in-requires
 put_in_requires c κs = let gate = c.before.before.before.before.before in ((start gate).requires, packed gate)
@@ -53,9 +51,9 @@ returns_3 : tie.Need-returns
 returns_3 c =
     let gate = c.before.before.before.before.before.before in
     let a = (start gate).args in
-    let e = ap (back_to a.network.now)
-    ((λ x. dropping (c.wide-signal.ensures.0 x) (same gate x)) ∙ sym (newest_drop a.journal c.if-kind-eq0.false)) in
-    (c.put_in.ensures.0 ∙ ap (λ (b : Back). b.ok) e, c.put_in.ensures.1 ∙ ap (λ (b : Back). b.network) e)
+    let e = in_parts (ap (back_to a.network.now)
+    ((λ x. dropping (c.wide-signal.ensures.0 x) (same gate x)) ∙ sym (newest_drop a.journal c.if-kind-eq0.false))) in
+    (c.put_in.ensures.0 ∙ e.0, c.put_in.ensures.1 ∙ e.1)
 
 pub take_back_spec : {M : Type 1} → statement M
 take_back_spec =
