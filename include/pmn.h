@@ -24,18 +24,18 @@ extern "C" {
 #endif
 
 /* Reads a file. Codes in order: as read, field by field: 1 to 9, and 24 after the feeds of a gate that breaks a margin of version 2.
- * Stack: 52 KB. */
+ * Stack: 20 KB. */
 uint8_t pmn_check(const uint8_t *file, size_t file_length);
 
 /* Reads a frame, bit i for input i. answer[0]: the output bits, output j in bit j; answer[1]: how many of them are 1.
  * Codes in order: as read, 18 where answer has under 2 places, 10.
- * Stack: 63 KB. */
+ * Stack: 31 KB. */
 uint8_t pmn_frame(const uint8_t *file, size_t file_length, uint64_t frame,
                   uint64_t *answer, size_t answer_length);
 
 /* Reads up to 64 frames in one pass. answers[i]: the output bits on frames[i], as pmn_frame gives them.
  * Codes in order: as read, 26 for more than 64 frames or where answers has fewer places than frames, 10 where any frame is refused.
- * Stack: 90 KB. */
+ * Stack: 88 KB. */
 uint8_t pmn_frames(const uint8_t *file, size_t file_length,
                    const uint64_t *frames, size_t frames_length,
                    uint64_t *answers, size_t answers_length);
@@ -55,7 +55,7 @@ uint8_t pmn_score(const uint8_t *file, size_t file_length,
 
 /* The pair for the gates with signals u and v. answer[0]: k; answer[1]: l.
  * Codes in order: as read, 18 where answer has under 2 places, 11, 12, 7, 16.
- * Stack: 63 KB. */
+ * Stack: 36 KB. */
 uint8_t pmn_pair(const uint8_t *file, size_t file_length, uint64_t u, uint64_t v,
                  uint64_t *answer, size_t answer_length);
 
@@ -65,33 +65,33 @@ uint8_t pmn_pair(const uint8_t *file, size_t file_length, uint64_t u, uint64_t v
  * rising order; pmn_distinct says which signals these are. With every other number answer is left as it was.
  * Codes in order: as read, 18 where answer has no place, 11, 12, 14, 7, 6, 24, 15: a merge that breaks a margin has no setting, even where
  * it disagrees too.
- * Stack: 63 KB. */
+ * Stack: 52 KB. */
 uint8_t pmn_witness(const uint8_t *file, size_t file_length, uint64_t u, uint64_t v, uint64_t k, uint64_t l,
                     uint64_t *answer, size_t answer_length);
 
 /* The distinct feeds of the gates with signals u and v. answer[0]: how many they are; from answer[1] on: their signals, rising, distinct
  * feed i in answer[1 + i].
  * Codes in order: as read, 18 where answer has under 17 places, 11, 12, 7.
- * Stack: 63 KB. */
+ * Stack: 52 KB. */
 uint8_t pmn_distinct(const uint8_t *file, size_t file_length, uint64_t u, uint64_t v,
                      uint64_t *answer, size_t answer_length);
 
 /* The size of the network. answer[0]: gates; answer[1]: cost; answer[2]: levels, where a gate without feeds has level 0.
  * Codes in order: as read, 18 where answer has under 3 places.
- * Stack: 63 KB. */
+ * Stack: 31 KB. */
 uint8_t pmn_report(const uint8_t *file, size_t file_length,
                    uint64_t *answer, size_t answer_length);
 
 /* What a collapse of the gate with a signal would give, without doing it: the size of the network that it would leave. answer[0]: gates;
  * answer[1]: cost; answer[2]: levels. A gate without readers would be dropped.
  * Codes in order: as read, 18 where answer has under 3 places, then the collapse's: 11, 17, the first refusing reader's 7 or 16.
- * Stack: 52 KB. */
+ * Stack: 37 KB. */
 uint8_t pmn_preview(const uint8_t *file, size_t file_length, uint64_t signal,
                     uint64_t *answer, size_t answer_length);
 
 /* Writes the file anew at the front of out. answer[0]: its length.
  * Codes in order: as read, 18 where answer has no place, 18 where the file is longer than out.
- * Stack: 52 KB. */
+ * Stack: 31 KB. */
 uint8_t pmn_write(const uint8_t *file, size_t file_length,
                   uint8_t *out, size_t out_length,
                   uint64_t *answer, size_t answer_length);
@@ -100,7 +100,7 @@ uint8_t pmn_write(const uint8_t *file, size_t file_length,
  * 2 into version 1 where it has these margins. answer[0]: its length, 2 more or 2 less than the length of the file.
  * Codes in order: as read, 18 where answer has no place, 25 where version 1 cannot hold the margins, 18 where the other file is longer than
  * out.
- * Stack: 52 KB. */
+ * Stack: 33 KB. */
 uint8_t pmn_convert(const uint8_t *file, size_t file_length,
                     uint8_t *out, size_t out_length,
                     uint64_t *answer, size_t answer_length);
@@ -110,14 +110,14 @@ uint8_t pmn_convert(const uint8_t *file, size_t file_length,
  * one output. answer[0]: the length of the cut's file, which is never longer than the file.
  * Codes in order: as read, 18 where answer has no place, 8 for an output number that the network lacks, 18 where the cut's file is longer
  * than out.
- * Stack: 73 KB. */
+ * Stack: 60 KB. */
 uint8_t pmn_cut(const uint8_t *file, size_t file_length, uint64_t output,
                 uint8_t *out, size_t out_length,
                 uint64_t *answer, size_t answer_length);
 
 /* Copies the bytes of the gate with a signal to the front of out. answer[0]: how many they are.
  * Codes in order: as read, 18 where answer has no place, 11, 18 where the gate's bytes are longer than out.
- * Stack: 52 KB. */
+ * Stack: 20 KB. */
 uint8_t pmn_part(const uint8_t *file, size_t file_length, uint64_t signal,
                  uint8_t *out, size_t out_length,
                  uint64_t *answer, size_t answer_length);
@@ -137,7 +137,7 @@ uint8_t pmn_line(const uint8_t *first, size_t first_length,
  * used. budget is the greatest number of steps, and no time, so the same answer can be had again; with 1,000,000 nearly all pairs of masks and
  * folds are decided in some milliseconds, and the hardest take a few seconds. Which frame is given is left free.
  * Codes in order: as the first file is read, as the second is read, 18 where answer has under 3 places, 19.
- * Stack: 114 KB. */
+ * Stack: 104 KB. */
 uint8_t pmn_compare(const uint8_t *first, size_t first_length,
                     const uint8_t *second, size_t second_length, uint64_t budget,
                     uint64_t *answer, size_t answer_length);
@@ -160,7 +160,7 @@ uint8_t pmn_compare(const uint8_t *first, size_t first_length,
  * Codes in order: as read, 14 where calls_length is no multiple of 5 or a kind is above 5, 18 where answers has fewer places than
  * 1 and 4 for each call, or out is shorter than the file. With 10,906 bytes or more in out, which hold any file, the list is run
  * once; with fewer it is run twice.
- * Stack: 127 KB. */
+ * Stack: 118 KB. */
 uint8_t pmn_run(const uint8_t *file, size_t file_length,
                 const uint64_t *calls, size_t calls_length,
                 uint64_t *answers, size_t answers_length,

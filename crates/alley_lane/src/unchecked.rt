@@ -6,20 +6,13 @@ ghost use Rattle.alley_theory.specs.Answers.{as_entry};
 ghost use Rattle.alley_theory.specs.Writes.{EntryFor, lane_in, cut_off, FoundInside, FoundIn};
 
 use alley_theory::{Entry, Found};
-use basics::wide;
 
 // What is found where the bytes end before the lane does: where they are the last, a lane that takes them all and is cut short.
 fn cut_off(available: usize, last: bool) -> Found
     ensures { result ≡ cut_off last available }
 {
-    if last {
-        return Found {
-            taken: available,
-            complete: false,
-        };
-    }
     Found {
-        taken: 0,
+        taken: if last { available } else { 0 },
         complete: false,
     }
 }
@@ -32,7 +25,7 @@ pub fn find_lane(bytes: &[u8], last: bool) -> Found
     if available < 2 {
         return cut_off(available, last);
     }
-    let length = wide(bytes[0]) + 256 * wide(bytes[1]);
+    let length = usize::from(bytes[0]) + 256 * usize::from(bytes[1]);
     if available - 2 < length {
         return cut_off(available, last);
     }
@@ -75,9 +68,9 @@ pub fn lane_entry(bytes: &[u8], found: Found) -> Entry
     requires { FoundInside bytes.now found }
     ensures { EntryFor (lane_in bytes.now found) result }
 {
-    if !found.complete {
-        return refused_entry(4);
+    if found.complete {
+        file_entry(&bytes[2..found.taken])
+    } else {
+        refused_entry(4)
     }
-    let end = found.taken;
-    file_entry(&bytes[2..end])
 }

@@ -44,11 +44,8 @@ pub fn put_lane(out: &mut [u8], position: usize, entry: Entry) -> usize
     ensures { TextPut (lane_text position (entry_in entry)) result out.old out.new }
 {
     let at = put_decimal(out, position);
-    let code = entry.code;
-    if code != 0 {
-        return at + put_last(&mut out[at..], b" refused ", code as usize);
+    if entry.code != 0 {
+        return at + put_last(&mut out[at..], b" refused ", usize::from(entry.code));
     }
-    let gates = entry.gates;
-    let cost = entry.cost;
-    at + put_size(&mut out[at..], b" ", gates, cost)
+    at + put_size(&mut out[at..], b" ", entry.gates, entry.cost)
 }

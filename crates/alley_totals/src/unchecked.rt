@@ -28,11 +28,7 @@ fn with_entry(totals: Totals, entry: Entry) -> Totals
 {
     let lanes = totals.lanes + 1;
     if entry.code != 0 {
-        return Totals {
-            lanes,
-            gates: totals.gates,
-            cost: totals.cost,
-        };
+        return Totals { lanes, ..totals };
     }
     Totals {
         lanes,
@@ -45,16 +41,15 @@ fn with_entry(totals: Totals, entry: Entry) -> Totals
 pub fn none_listed(code: u8, totals: Totals) -> Listed
     ensures { result ≡ as_listed totals (refused code) }
 {
-    let entry = Entry {
-        code: 0,
-        gates: 0,
-        cost: 0,
-    };
     Listed {
         code,
         taken: 0,
         length: 0,
-        entry,
+        entry: Entry {
+            code: 0,
+            gates: 0,
+            cost: 0,
+        },
         totals,
     }
 }

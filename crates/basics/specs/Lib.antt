@@ -2,6 +2,7 @@ pub mod Library
 pub mod Lists
 pub mod TestLaws
 pub mod ListLaws
+pub mod AllLaws
 pub mod RangeLaws
 pub mod TableLaws
 pub mod PlaceLaws
@@ -10,6 +11,7 @@ pub mod RefusalLaws
 pub mod IntegerLaws
 pub mod SizeLaws
 pub mod SignLaws
+pub mod ZeroLaws
 pub mod Word
 pub mod WordLaws
 pub mod WriteLaws

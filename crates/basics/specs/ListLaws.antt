@@ -34,6 +34,12 @@ unfolding below
 at_below zero p h = tt
 at_below (suc n) p h = and_T (below n p) (p n) (at_below n p λ s k. h s (omega arith)) (h n (omega arith))
 
+-- two tests that are equal at each number
+pub below_same : (n : ℕ) (p q : ℕ → Bool) → ((i : ℕ) → i < n → p i ≡ q i) → below n p ≡ below n q
+below_same n p q h = test_same (below n p) (below n q)
+    (λ t. at_below n q λ i k. T_is (q i) (sym (h i k) ∙ is_true (p i) (below_at n p t i k)))
+    (λ t. at_below n p λ i k. T_is (p i) (h i k ∙ is_true (q i) (below_at n q t i k)))
+
 -- one number fails a test of every number
 pub below_no : (n : ℕ) (p : ℕ → Bool) (s : ℕ) → s < n → p s ≡ false → below n p ≡ false
 below_no n p s h e = refuted (below n p) (λ t. fails (p s) e (below_at n p t s h))

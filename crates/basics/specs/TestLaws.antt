@@ -35,6 +35,10 @@ pub byte_below : (b : Bool) → bool_byte b < 2
 byte_below true = omega arith
 byte_below false = omega arith
 
+pub byte_cond : (b : Bool) → bool_byte b ≡ cond b 1 0
+byte_cond true = refl
+byte_cond false = refl
+
 -- two tests that say the same are one
 pub test_same : (a b : Bool) → (T a → T b) → (T b → T a) → a ≡ b
 test_same true true f g = refl

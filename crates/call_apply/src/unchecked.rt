@@ -1,128 +1,28 @@
-// One call of a list in the arrays of a sound record, which are lent.
+// One call of a list on a sound record.
 ghost use Rattle.std.specs.Prelude.{◌≡◌};
 ghost use Rattle.journal.specs.Answers.{applied};
-ghost use Rattle.journal.specs.Parts.{record_parts, answer_parts, SoundParts};
+ghost use Rattle.journal.specs.Parts.{left_by, SoundHeld};
 
 use call_collapse::unchecked::collapse_in;
 use call_preview::unchecked::preview_in;
 use call_single::unchecked::{drop_in, merge_in};
 use call_sweep::unchecked::sweep_in;
-use call_theory::Call;
+use call_theory::{Call, Figures};
 use call_undo::unchecked::undo_in;
-use journal::CallLeft;
-use network_places::Head;
+use journal::Record;
+use refusals::Refusal;
 
-// One call of a list: 0 or the refusal, the numbers of gates and of steps that it leaves, and its three numbers.
-pub fn apply_in(
-    head: Head,
-    fanins: &mut [u8; 128],
-    thresholds: &mut [i32; 128],
-    signals: &mut [u8; 2048],
-    weights: &mut [i32; 2048],
-    drivers: &mut [u8; 16],
-    count: usize,
-    kinds: &mut [u8; 64],
-    step_signals: &mut [u8; 64],
-    step_fanins: &mut [u8; 64],
-    step_thresholds: &mut [i32; 64],
-    feeds: &mut [u8; 1024],
-    step_weights: &mut [i32; 1024],
-    call: Call,
-) -> CallLeft
-    requires { SoundParts head fanins.old thresholds.old signals.old weights.old drivers.old count
-        kinds.old step_signals.old step_fanins.old step_thresholds.old feeds.old step_weights.old }
-    ensures { answer_parts result head fanins.new thresholds.new signals.new weights.new drivers.new
-        kinds.new step_signals.new step_fanins.new step_thresholds.new
-        feeds.new step_weights.new
-        ≡ applied (record_parts head fanins.old thresholds.old signals.old weights.old drivers.old count
-        kinds.old step_signals.old step_fanins.old step_thresholds.old
-        feeds.old step_weights.old) call }
+// One call of a list: its three numbers, or the refusal.
+pub fn apply_in(held: &mut Record, call: Call) -> Result<Figures, Refusal>
+    requires { SoundHeld held.old }
+    ensures { left_by result held.new ≡ applied held.old call }
 {
     match call {
-        Call::Merge { u, v, k, l } => merge_in(
-            head,
-            fanins,
-            thresholds,
-            signals,
-            weights,
-            drivers,
-            count,
-            kinds,
-            step_signals,
-            step_fanins,
-            step_thresholds,
-            feeds,
-            step_weights,
-            u,
-            v,
-            k,
-            l,
-        ),
-        Call::Drop { s } => drop_in(
-            head,
-            fanins,
-            thresholds,
-            signals,
-            weights,
-            drivers,
-            count,
-            kinds,
-            step_signals,
-            step_fanins,
-            step_thresholds,
-            feeds,
-            step_weights,
-            s,
-        ),
-        Call::Collapse { s } => collapse_in(
-            head,
-            fanins,
-            thresholds,
-            signals,
-            weights,
-            drivers,
-            count,
-            kinds,
-            step_signals,
-            step_fanins,
-            step_thresholds,
-            feeds,
-            step_weights,
-            s,
-        ),
-        Call::Sweep { b } => sweep_in(
-            head,
-            fanins,
-            thresholds,
-            signals,
-            weights,
-            drivers,
-            count,
-            kinds,
-            step_signals,
-            step_fanins,
-            step_thresholds,
-            feeds,
-            step_weights,
-            b,
-        ),
-        Call::Preview { s } => preview_in(
-            head, fanins, thresholds, signals, weights, drivers, count, s,
-        ),
-        Call::Undo => undo_in(
-            head,
-            fanins,
-            thresholds,
-            signals,
-            weights,
-            drivers,
-            count,
-            kinds,
-            step_signals,
-            step_fanins,
-            step_thresholds,
-            feeds,
-            step_weights,
-        ),
+        Call::Merge { u, v, k, l } => merge_in(held, u, v, k, l),
+        Call::Drop { s } => drop_in(held, s),
+        Call::Collapse { s } => collapse_in(held, s),
+        Call::Sweep { b } => sweep_in(held, b),
+        Call::Preview { s } => preview_in(&held.network, s),
+        Call::Undo => undo_in(held),
     }
 }

@@ -1,4 +1,4 @@
-// Collapse in the arrays of a record, with its steps in the journal. Its calls ask for what `unchecked` says.
+// Collapse on a record, with its steps in the journal. Its calls ask for what `unchecked` says.
 #![tactic(auto)]
 
 pub mod unchecked;

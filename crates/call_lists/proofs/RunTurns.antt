@@ -72,13 +72,12 @@ module _ (q : State) (ns : List ℕ) (i : ℕ) {r : Record} (h : Reached q ns i 
     -- after a call whose four numbers are stored
     pub answered_next : 5 * i + 5 ≤ length ns → 4 * i + 4 < length lent → {o : CallAnswer} → Stepped (state_of r) (answer (state_of r) (call_at ns i)) o
         → {put : List ℕ} → put ≡ sets answers (1 + 4 * i) (four_of o.code o.figures)
-        → (i + 1 ≤ length ns / 5) × Reached q ns (i + 1) o.after × Answered q ns (i + 1) o.after lent put
+        → Reached q ns (i + 1) o.after × Answered q ns (i + 1) o.after lent put
     answered_next l k {o} s p =
         let xs = answers_of q (calls_in ns) in
         let four = four_of o.code o.figures in
         let e = a.rest ∙ next_answers r h.came ns i l o s in
         let more : 4 * i + 4 ≡ 4 * (i + 1) = omega arith in (
-          omega arith,
           reached_next l s,
           record {
             places = p ∙ ap (λ (m : List ℕ). sets m (1 + 4 * i) four) a.places ∙ store_more lent xs 1 (4 * i) four _ e (omega arith)

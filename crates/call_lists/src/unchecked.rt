@@ -1,76 +1,46 @@
 // A list of calls, given as numbers, five to a call, run from the record of a network just read.
 ghost use Rattle.std.specs.Prelude.{◌≡◌, true, ◌+◌, ◌*◌, ◌≤◌, leb, length};
 ghost use Rattle.std.proofs.Math.Seq.{paste};
+ghost use Rattle.std.proofs.lemmas.List.Edits.{sets};
 ghost use Rattle.network.specs.Record.{net_of, layout};
 ghost use Rattle.network.specs.Places.{HoldsSound};
 ghost use Rattle.pmn_format.specs.Format.{file_bytes};
 ghost use Rattle.call_theory.specs.Steps.{just_opened};
 ghost use Rattle.call_theory.specs.Calls.{answer};
 ghost use Rattle.journal.specs.Records.{state_of};
-ghost use Rattle.journal.specs.Parts.{record_parts, answer_parts};
-ghost use Rattle.call_numbers.specs.Numbers.{well_formed, calls_in};
+ghost use Rattle.journal.specs.Parts.{code_given, figures_given, left_by};
+ghost use Rattle.call_numbers.specs.Numbers.{well_formed, calls_in, four_of};
 ghost use Rattle.call_numbers.specs.CallPlaces.{call_at};
 ghost use Rattle.call_runs.specs.Runs.{answers_of, net_after};
 ghost use Rattle.call_runs.specs.Running.{FromRead, Stepped};
 
 use call_apply::unchecked::apply_in;
 use call_numbers::unchecked::{call_at, put_four};
-use journal::CallLeft;
+use call_theory::Figures;
+use journal::unchecked::collapses_made;
+use journal::{Record, just_read};
 use network::Network;
-use network_places::Head;
 use pmn_format::LONGEST_FILE;
+use refusals::Refusal;
 
-// Call i, in the arrays of the record of a state that a read and calls lead to.
-fn step_in(
-    head: Head,
-    fanins: &mut [u8; 128],
-    thresholds: &mut [i32; 128],
-    signals: &mut [u8; 2048],
-    weights: &mut [i32; 2048],
-    drivers: &mut [u8; 16],
-    count: usize,
-    kinds: &mut [u8; 64],
-    step_signals: &mut [u8; 64],
-    step_fanins: &mut [u8; 64],
-    step_thresholds: &mut [i32; 64],
-    feeds: &mut [u8; 1024],
-    step_weights: &mut [i32; 1024],
-    numbers: &[u64],
-    i: usize,
-) -> CallLeft
-    requires from_read { FromRead (record_parts head fanins.old thresholds.old signals.old weights.old drivers.old count
-        kinds.old step_signals.old step_fanins.old step_thresholds.old feeds.old step_weights.old) }
+// Call i, on the record of a state that a read and calls lead to.
+fn step_in(held: &mut Record, numbers: &[u64], i: usize) -> Result<Figures, Refusal>
+    requires from_read { FromRead held.old }
     requires i_in_bounds { 5 * i + 5 ≤ length numbers.now }
-    ensures { Stepped
-        (state_of (record_parts head fanins.old thresholds.old signals.old weights.old drivers.old count
-        kinds.old step_signals.old step_fanins.old step_thresholds.old
-        feeds.old step_weights.old))
-        (answer
-        (state_of (record_parts head fanins.old thresholds.old signals.old weights.old drivers.old count
-        kinds.old step_signals.old step_fanins.old step_thresholds.old
-        feeds.old step_weights.old))
-        (call_at numbers.now i))
-        (answer_parts result head fanins.new thresholds.new signals.new weights.new drivers.new
-        kinds.new step_signals.new step_fanins.new step_thresholds.new
-        feeds.new step_weights.new) }
+    ensures { Stepped (state_of held.old) (answer (state_of held.old) (call_at numbers.now i)) (left_by result held.new) }
 {
-    let call = call_at(numbers, i);
-    apply_in(
-        head,
-        fanins,
-        thresholds,
-        signals,
-        weights,
-        drivers,
-        count,
-        kinds,
-        step_signals,
-        step_fanins,
-        step_thresholds,
-        feeds,
-        step_weights,
-        call,
-    )
+    apply_in(held, call_at(numbers, i))
+}
+
+// What a call gives, put into four places from one on: its code and its three numbers.
+fn put_answer(answers: &mut [u64], at: usize, answer: Result<Figures, Refusal>)
+    requires { at + 4 ≤ length answers.old }
+    ensures { answers.new ≡ sets answers.old at (four_of (code_given answer) (figures_given answer)) }
+{
+    match answer {
+        Ok(figures) => put_four(answers, at, 0, figures),
+        Err(refusal) => put_four(answers, at, refusal.number(), collapses_made(0)),
+    }
 }
 
 // The network after the whole list.
@@ -79,43 +49,12 @@ fn run(network: Network, numbers: &[u64]) -> Network
     requires numbers_value { well_formed numbers.now ≡ true }
     ensures { result ≡ layout (net_after (net_of network) (calls_in numbers.now)) }
 {
-    let mut after = network;
-    let mut count: usize = 0;
-    let mut kinds = [0u8; 64];
-    let mut step_signals = [0u8; 64];
-    let mut step_fanins = [0u8; 64];
-    let mut step_thresholds = [0i32; 64];
-    let mut feeds = [0u8; 1024];
-    let mut step_weights = [0i32; 1024];
+    let mut held = just_read(network);
     for i in 0..numbers.len() / 5 {
-        let board = after.board;
-        let head = Head {
-            board,
-            inputs: after.inputs,
-            gates: after.gates,
-            outputs: after.outputs,
-        };
-        let left = step_in(
-            head,
-            &mut after.fanins,
-            &mut after.thresholds,
-            &mut after.signals,
-            &mut after.weights,
-            &mut after.drivers,
-            count,
-            &mut kinds,
-            &mut step_signals,
-            &mut step_fanins,
-            &mut step_thresholds,
-            &mut feeds,
-            &mut step_weights,
-            numbers,
-            i,
-        );
-        after.gates = left.gates;
-        count = left.count;
+        // A call that is refused leaves the record.
+        let _ = step_in(&mut held, numbers, i);
     }
-    after
+    held.network
 }
 
 // The length of a network's file. It has a frame of its own.
@@ -152,43 +91,10 @@ pub fn run_storing(network: Network, numbers: &[u64], answers: &mut [u64]) -> Ne
         (answers_of (just_opened (net_of network)) (calls_in numbers.now))
         (4 * length (calls_in numbers.now)) }
 {
-    let mut after = network;
-    let mut count: usize = 0;
-    let mut kinds = [0u8; 64];
-    let mut step_signals = [0u8; 64];
-    let mut step_fanins = [0u8; 64];
-    let mut step_thresholds = [0i32; 64];
-    let mut feeds = [0u8; 1024];
-    let mut step_weights = [0i32; 1024];
+    let mut held = just_read(network);
     for i in 0..numbers.len() / 5 {
-        let board = after.board;
-        let head = Head {
-            board,
-            inputs: after.inputs,
-            gates: after.gates,
-            outputs: after.outputs,
-        };
-        let left = step_in(
-            head,
-            &mut after.fanins,
-            &mut after.thresholds,
-            &mut after.signals,
-            &mut after.weights,
-            &mut after.drivers,
-            count,
-            &mut kinds,
-            &mut step_signals,
-            &mut step_fanins,
-            &mut step_thresholds,
-            &mut feeds,
-            &mut step_weights,
-            numbers,
-            i,
-        );
-        let figures = left.figures;
-        put_four(answers, 1 + 4 * i, left.code, figures);
-        after.gates = left.gates;
-        count = left.count;
+        let answer = step_in(&mut held, numbers, i);
+        put_answer(answers, 1 + 4 * i, answer);
     }
-    after
+    held.network
 }

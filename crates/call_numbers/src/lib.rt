@@ -11,6 +11,7 @@ pub fn is_well_formed(numbers: &[u64]) -> bool
     ensures { result ≡ well_formed numbers.now }
 {
     let mut at: usize = 0;
+    // Kept: a turn takes five places, as the definition does, and tests that they are there.
     while at < numbers.len() {
         if numbers.len() - at < 5 {
             return false;

@@ -1,10 +1,9 @@
 -- One step of a sound record taken back: what the tests say, and the record of the network before it. Assumes nothing.
-use Rattle.std.specs.Prelude.{◌≡◌, refl, Bool, true, false, cond, ◌&&◌, ◌||◌, List, map, ℕ, ◌+◌, ◌-◌, ◌≤◌, ◌<◌, T, leb, ltb, eqb, length, set}
-use Rattle.std.proofs.Common.{sym, ap, ◌∙◌, subst, arith, ltb-false, leb→le, le→leb, ltb→lt, eqb→eq, length-set, get_or-set_same, get_or-set_other}
-use Rattle.std.proofs.Math.Decide.{ℕ_discrete, dec_lt}
-use Rattle.std.proofs.lemmas.Bool.{eqb-false}
+use Rattle.std.specs.Prelude.{◌≡◌, Bool, true, false, cond, ◌&&◌, List, map, ℕ, ◌+◌, ◌-◌, ◌≤◌, ◌<◌, T, leb, length, set}
+use Rattle.std.proofs.Common.{sym, ap, ◌∙◌, subst, arith, leb→le, le→leb, length-set, get_or-set_same, get_or-set_other}
+use Rattle.std.proofs.Math.Decide.{ℕ_discrete}
 use Rattle.std.proofs.lemmas.List.{length-map}
-use Rattle.basics.specs.TestLaws.{is_true, T_is, T_and, and_T, and_true, or_case, or_false, refuted}
+use Rattle.basics.specs.TestLaws.{is_true, T_is, T_and, and_T, and_true, refuted}
 use Rattle.basics.specs.TableLaws.{get_d_map}
 use Rattle.network.specs.Threshold.{Gate, Net}
 use Rattle.network.specs.Limits.{is_gate, sound, gate_signal}
@@ -18,7 +17,6 @@ use Rattle.network.specs.declared.Network.{Network}
 use Rattle.call_theory.specs.Steps.{Step, merging, dropping, old_gate, undo_of, placed, undoable}
 use Rattle.network_insertion.specs.InsertLaws.{length_insert, insert_here, insert_each}
 use Rattle.call_restoring.specs.TakenBack.{back_to}
-use Rattle.call_restoring.specs.declared.Back.{Back}
 
 -- ---- a record with room for a network is sound where the network is
 layout_sound : (M : Net) → FitsRecord M → sound_record (layout M) ≡ sound M
@@ -116,14 +114,15 @@ pub no_gate_lem : (n : Network) (v : ℕ) (g : Gate) → gate_signal n.inputs n.
 unfolding placed
 no_gate_lem n v g e = not_placed (net_of n) (merging v g) (gate_signal_lem n v ∙ e)
 
-no_place : (n : Network) (u : ℕ) (g : Gate) → (n.inputs ≤ u → u ≤ n.inputs + n.gates → ⊥) → undoable (net_of n) (dropping u g) ≡ false
+-- no place among the gates
+pub no_place : (n : Network) (u : ℕ) (g : Gate) → (n.inputs ≤ u → u ≤ n.inputs + n.gates → ⊥) → undoable (net_of n) (dropping u g) ≡ false
 unfolding net_of
 no_place n u g h = not_placed (net_of n) (dropping u g) (refuted (placed (net_of n) (dropping u g)) λ t.
     let p = place_of (net_of n) u g t in
     h p.0 (omega (arith, p.1, count_gates n)))
 
 -- 128 gates, and one more
-no_room : (n : Network) (u : ℕ) (g : Gate) → n.gates ≡ 128 → undoable (net_of n) (dropping u g) ≡ false
+pub no_room : (n : Network) (u : ℕ) (g : Gate) → n.gates ≡ 128 → undoable (net_of n) (dropping u g) ≡ false
 unfolding undoable undo_of inserted
 no_room n u g e =
     let N = net_of n in
@@ -132,79 +131,54 @@ no_room n u g e =
     let few = (sound_of (inserted N u g) (T_and (placed N (dropping u g)) (sound (inserted N u g)) t).1).few_gates in
     omega (arith, few, length_insert no_gate g (u - N.inputs) gs, length-map N.gates (raised_gate u), count_gates n)
 
--- the three tests of a drop's place
-abbrev out_of_place : Network → ℕ → Bool
-out_of_place n u = ltb u n.inputs || ltb (n.inputs + n.gates) u || eqb n.gates 128
-
-pub undoable_outside : (n : Network) (u : ℕ) (g : Gate) → out_of_place n u ≡ true → undoable (net_of n) (dropping u g) ≡ false
-undoable_outside n u g e = or_case (ltb u n.inputs || ltb (n.inputs + n.gates) u) (eqb n.gates 128) (T_is _ e)
-    (λ t. or_case (ltb u n.inputs) (ltb (n.inputs + n.gates) u) t
-    (λ a. no_place n u g (λ h k. let l = ltb→lt u n.inputs a in omega arith))
-    (λ b. no_place n u g (λ h k. let l = ltb→lt (n.inputs + n.gates) u b in omega arith)))
-    (λ c. no_room n u g (eqb→eq n.gates 128 c))
-
-pub inside : (n : Network) (u : ℕ) → n.gates ≤ 128 → out_of_place n u ≡ false → (n.inputs ≤ u) × (u ≤ n.inputs + n.gates) × (n.gates < 128)
-inside n u few e =
-    let a = or_false (ltb u n.inputs || ltb (n.inputs + n.gates) u) (eqb n.gates 128) e in
-    let b = or_false (ltb u n.inputs) (ltb (n.inputs + n.gates) u) a.0 in
-    let less : n.gates < 128 = elim (dec_lt n.gates 128) as (λ d. n.gates < 128) [
-      | yes k ↦ k
-      | no k ↦ absurd (eqb-false n.gates 128 a.1 (omega arith))
-    ] in
-    (ltb-false u n.inputs b.0, ltb-false (n.inputs + n.gates) u b.1, less)
-
--- ---- the answers
+-- ---- the networks
 
 -- a result, if it is sound, or else the network that came in
-abbrev sound_or : Network → Network → Back
-sound_or r n = record { ok = sound_record r; network = cond (sound_record r) r n }
+abbrev sound_or : Network → Network → Network
+sound_or r n = cond (sound_record r) r n
 
-pub picked_no : (r n : Network) → sound_record r ≡ false → ◌≡◌ {A = Back} (record { ok = false; network = n }) (sound_or r n)
-picked_no r n e = rw e
-
-pub picked_yes : (r n : Network) → sound_record r ≡ true → ◌≡◌ {A = Back} (record { ok = true; network = r }) (sound_or r n)
-picked_yes r n e = rw e
-
-pub back_no : (n : Network) (s : Step) → undoable (net_of n) s ≡ false → ◌≡◌ {A = Back} (record { ok = false; network = n }) (back_to n s)
+-- a step that cannot be taken back
+pub back_no : (n : Network) (s : Step) → undoable (net_of n) s ≡ false → n ≡ back_to n s
 unfolding back_to
 back_no n s e = rw e
 
-back_yes : (n : Network) (s : Step) (r : Network) → placed (net_of n) s ≡ true → FitsRecord (undo_of (net_of n) s)
-    → r ≡ layout (undo_of (net_of n) s) → sound_or r n ≡ back_to n s
-unfolding back_to undoable
-back_yes n s r p room e =
-    ap (λ (x : Network). sound_or x n) e
-    ∙ ap (λ (b : Bool). record { ok = b; network = cond b (layout (undo_of (net_of n) s)) n })
-    (layout_sound (undo_of (net_of n) s) room ∙ sym (ap (λ (b : Bool). b && sound (undo_of (net_of n) s)) p))
+-- whether a result is sound, and the network that is left, are those of the step taken back
+module _ (n : Network) (s : Step) (r : Network) (p : placed (net_of n) s ≡ true) (room : FitsRecord (undo_of (net_of n) s))
+    (e : r ≡ layout (undo_of (net_of n) s)) where
+  undoable_yes : sound_record r ≡ undoable (net_of n) s
+  unfolding undoable
+  undoable_yes = ap sound_record e ∙ layout_sound (undo_of (net_of n) s) room ∙ sym (ap (λ (b : Bool). b && sound (undo_of (net_of n) s)) p)
+
+  back_yes : sound_or r n ≡ back_to n s
+  unfolding back_to
+  back_yes = ap (λ (b : Bool). cond b r n) undoable_yes ∙ ap (λ (x : Network). cond (undoable (net_of n) s) x n) e
 
 -- a merge taken back
 pub back_merge : (n : Network) (v : ℕ) (g : Gate) (r : Network) → sound_record n ≡ true → gate_signal n.inputs n.gates v ≡ true
-    → FewFeeds g → r ≡ layout (with_gate (net_of n) v g) → sound_or r n ≡ back_to n (merging v g)
+    → FewFeeds g → r ≡ layout (with_gate (net_of n) v g)
+    → (sound_record r ≡ undoable (net_of n) (merging v g)) × (sound_or r n ≡ back_to n (merging v g))
 unfolding placed undo_of
 back_merge n v g r s k few e =
-    back_yes n (merging v g) r (gate_signal_lem n v ∙ k) (room_with (net_of n) v g (sound_net n (T_is (sound_record n) s)) few) e
+    let placed_is = gate_signal_lem n v ∙ k in
+    let room = room_with (net_of n) v g (sound_net n (T_is (sound_record n) s)) few in
+    (undoable_yes n (merging v g) r placed_is room e, back_yes n (merging v g) r placed_is room e)
 
 -- a drop taken back
 pub back_drop : (n : Network) (u : ℕ) (g : Gate) (r : Network) → sound_record n ≡ true
     → (n.inputs ≤ u) × (u ≤ n.inputs + n.gates) × (n.gates < 128)
-    → FewFeeds g → r ≡ layout (inserted (net_of n) u g) → sound_or r n ≡ back_to n (dropping u g)
+    → FewFeeds g → r ≡ layout (inserted (net_of n) u g)
+    → (sound_record r ≡ undoable (net_of n) (dropping u g)) × (sound_or r n ≡ back_to n (dropping u g))
 unfolding placed undo_of net_of
 back_drop n u g r s p few e =
     let N = net_of n in
     let count = count_gates n in
     let place = and_T (leb N.inputs u) (leb u (N.inputs + length N.gates))
     (le→leb N.inputs u p.0) (le→leb u (N.inputs + length N.gates) (omega (arith, p, count))) in
-    back_yes n (dropping u g) r (is_true (placed N (dropping u g)) place)
-    (room_inserted N u g (sound_net n (T_is (sound_record n) s)) (omega (arith, p, count)) few) e
+    let placed_is = is_true (placed N (dropping u g)) place in
+    let room = room_inserted N u g (sound_net n (T_is (sound_record n) s)) (omega (arith, p, count)) few in
+    (undoable_yes n (dropping u g) r placed_is room e, back_yes n (dropping u g) r placed_is room e)
 
--- ---- the answer, part by part
-pub in_parts : {a b : Back} → a ≡ b → (a.ok ≡ b.ok) × (a.network ≡ b.network)
-in_parts e = (ap (λ (x : Back). x.ok) e, ap (λ (x : Back). x.network) e)
-
-pub back_ok : (n : Network) (s : Step) → (back_to n s).ok ≡ undoable (net_of n) s
-unfolding back_to
-back_ok n s = refl
-
-pub back_network : (n : Network) (s : Step) → undoable (net_of n) s ≡ true → (back_to n s).network ≡ layout (undo_of (net_of n) s)
+-- a step that can be taken back
+pub back_network : (n : Network) (s : Step) → undoable (net_of n) s ≡ true → back_to n s ≡ layout (undo_of (net_of n) s)
 unfolding back_to
 back_network n s e = rw e

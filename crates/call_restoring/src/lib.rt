@@ -2,12 +2,3 @@
 #![tactic(auto)]
 
 pub mod unchecked;
-
-use network::Network;
-
-// The network before a step; ok is false, and the network as it was, where the step would leave an unsound one.
-#[derive(Clone, Copy)]
-pub struct Back {
-    pub ok: bool,
-    pub network: Network,
-}

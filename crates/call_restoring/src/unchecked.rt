@@ -1,12 +1,10 @@
 // The network before the newest step of a journal: the gate of the step put back or put in, and the result if it is sound.
 ghost use Rattle.std.specs.Prelude.{◌≡◌, true, false, cond};
-ghost use Rattle.network.specs.Record.{gate_in, sound_record};
-ghost use Rattle.call_theory.specs.Steps.{merging, dropping};
+ghost use Rattle.network.specs.Record.{net_of, gate_in, sound_record};
+ghost use Rattle.call_theory.specs.Steps.{merging, dropping, undoable};
 ghost use Rattle.journal.specs.Journals.{step_at};
 ghost use Rattle.call_restoring.specs.TakenBack.{GateRecordOk, back_to};
 
-use crate::Back;
-use basics::wide;
 use journal::Journal;
 use journal_newest::unchecked::newest_gate;
 use network::{GateRecord, Network};
@@ -27,64 +25,46 @@ fn if_sound(network: &mut Network, res: Network) -> bool
     true
 }
 
-// The network before a merge into v, where it can be had: the gate that stood there is put back.
+// The network before a merge into v, where it can be had: the gate that stood there is put back. The answer is whether it can.
 fn put_back(network: &mut Network, v: usize, gate: GateRecord) -> bool
     requires { (sound_record network.old ≡ true) × GateRecordOk gate }
-    ensures value { result ≡ (back_to network.old (merging v (gate_in gate))).ok }
-    ensures network_after { network.new ≡ (back_to network.old (merging v (gate_in gate))).network }
+    ensures value { result ≡ undoable (net_of network.old) (merging v (gate_in gate)) }
+    ensures network_after { network.new ≡ back_to network.old (merging v (gate_in gate)) }
 {
-    let inputs = network.inputs;
-    let gates = network.gates;
-    if !is_gate(inputs, gates, v) {
+    if !is_gate(network.inputs, network.gates, v) {
         return false;
     }
     let result = replace_gate(*network, v, gate);
     if_sound(network, result)
 }
 
-// The network before a drop of u, where it can be had: the gate that was removed is put in.
+// The network before a drop of u, where it can be had: the gate that was removed is put in. The answer is whether it can.
 fn put_in(network: &mut Network, u: usize, gate: GateRecord) -> bool
     requires { (sound_record network.old ≡ true) × GateRecordOk gate }
-    ensures value { result ≡ (back_to network.old (dropping u (gate_in gate))).ok }
-    ensures network_after { network.new ≡ (back_to network.old (dropping u (gate_in gate))).network }
+    ensures value { result ≡ undoable (net_of network.old) (dropping u (gate_in gate)) }
+    ensures network_after { network.new ≡ back_to network.old (dropping u (gate_in gate)) }
 {
-    let inputs = network.inputs;
-    let gates = network.gates;
-    if (u < inputs) | (inputs + gates < u) | (gates == 128) {
+    if u < network.inputs || network.inputs + network.gates < u || network.gates == 128 {
         return false;
     }
     let result = insert_gate(*network, u, gate);
     if_sound(network, result)
 }
 
-// The newest step of a journal taken back, where it can be.
-fn take_back(network: &mut Network, journal: Journal) -> bool
+// The newest step of a journal that has one taken back, where it can be; the answer is whether it can.
+pub fn take_back(network: &mut Network, journal: &Journal) -> bool
     requires { sound_record network.old ≡ true }
-    ensures value { result ≡ (back_to network.old (step_at journal 0)).ok }
-    ensures network_after { network.new ≡ (back_to network.old (step_at journal 0)).network }
+    ensures value { result ≡ undoable (net_of network.old) (step_at journal.now 0) }
+    ensures network_after { network.new ≡ back_to network.old (step_at journal.now 0) }
 {
-    let fanin = wide(journal.fanins[0]);
-    if 16 < fanin {
+    if 16 < journal.fanins[0] {
         return false;
     }
     let gate = newest_gate(journal);
-    let signal = wide(journal.signals[0]);
-    let kind = journal.kinds[0];
-    if kind == 0 {
-        return put_back(network, signal, gate);
-    }
-    put_in(network, signal, gate)
-}
-
-// The network before the newest step of a journal that has one.
-pub fn restored(network: Network, journal: Journal) -> Back
-    requires { sound_record network ≡ true }
-    ensures { result ≡ back_to network (step_at journal 0) }
-{
-    let mut before = network;
-    let ok = take_back(&mut before, journal);
-    Back {
-        ok,
-        network: before,
+    let signal = usize::from(journal.signals[0]);
+    if journal.kinds[0] == 0 {
+        put_back(network, signal, gate)
+    } else {
+        put_in(network, signal, gate)
     }
 }

@@ -1,10 +1,16 @@
 -- Merge and drop on a sound record, from what they answer on its network. Assumes nothing.
-use mathlib.Core.Path.{◌≡◌, refl}
-use mathlib.Core.Bool.{true}
-use Prim.Native.Nat.{ℕ}
+use Rattle.std.specs.Prelude.{◌≡◌, true, ℕ, ◌+◌, ◌-◌, ◌≤◌, ◌<◌}
+use Rattle.std.proofs.Common.{refl, arith}
+use Rattle.basics.specs.TestLaws.{T_is}
+use Rattle.network.specs.Limits.{is_gate}
+use Rattle.network.specs.LimitLaws.{has_of}
+use Rattle.network.specs.Places.{SoundGate}
+use Rattle.network.specs.RecordLaws.{gate_number, row_gate_at}
+use Rattle.network.specs.SoundLaws.{sized_of}
+use Rattle.network_places.specs.Parts.{row_in}
 use Rattle.basics.specs.Refusals.{accepted, refused}
 use Rattle.network.specs.Threshold.{Net}
-use Rattle.network.specs.Record.{net_of, layout, gate_record}
+use Rattle.network.specs.Record.{net_of, layout, gate_record, sound_record}
 use Rattle.network.specs.Changes.{gate_at}
 use Rattle.fold_theory.specs.Merge.{merge}
 use Rattle.fold_theory.specs.Collapse.{drop_gate}
@@ -49,3 +55,16 @@ module _ (r : Record) (whole : sound_whole r ≡ true) where
         → answered (layout M) (with_step r.journal 1 s (gate_record (gate_at net s))) 0 ≡ applied r (Drop s)
     unfolding journal_after steps_of enter_all enter kind_of signal_of old_gate
     drop_entered = call_accepted r (Drop s) (λ M. drop_gate M s) whole is_drop
+
+-- ---- the gate that a call is about
+module _ (r : Record) (s : ℕ) (own : SoundGate r.network s) where
+  -- its number, and its signal as a byte
+  pub place : (r.network.inputs ≤ s) × (s < r.network.inputs + r.network.gates) × (r.network.gates ≤ 128) × (s - r.network.inputs < 128) × (s < 256)
+  place =
+      let n = gate_number r.network s own in
+      let few = (sized_of r.network own.sound).few_inputs in
+      (omega (arith, n), omega (arith, n), omega (arith, n), omega (arith, n), omega (arith, n, few))
+
+  -- its places are those of the gate of the network
+  pub row_is : row_in r.network (s - r.network.inputs) ≡ gate_record (gate_at (net_of r.network) s)
+  row_is = row_gate_at r.network s (T_is (sound_record r.network) own.sound) (has_of (net_of r.network) s (T_is (is_gate (net_of r.network) s) own.gate))

@@ -1,4 +1,4 @@
-// Merge and drop in the arrays of a record, each with its step in the journal. Its calls ask for what `unchecked` says.
+// Merge and drop on a record, each with its step in the journal. Its calls ask for what `unchecked` says.
 #![tactic(auto)]
 
 pub mod unchecked;

@@ -10,11 +10,12 @@ use lib.ListN.{drop, drop_of_length-le}
 use lib.Seq.{drop-cons}
 use Rattle.basics.specs.TestLaws.{T_is}
 use Rattle.network.specs.Threshold.{Gate}
-use Rattle.network.specs.Record.{net_of, gate_of, no_gate, sound_record, gate_record, row_at}
+use Rattle.network.specs.Record.{net_of, gate_of, no_gate, sound_record, gate_record}
 use Rattle.network.specs.RecordLaws.{count_gates, gate_within, row_gate}
 use Rattle.network.specs.Changes.{gate_at}
 use Rattle.network.specs.declared.GateRecord.{GateRecord}
 use Rattle.network.specs.declared.Network.{Network}
+use Rattle.network_places.specs.Parts.{row_in}
 use Rattle.fold_theory.specs.Merge.{silent, reads}
 use Rattle.call_theory.specs.Steps.{Step, merging, dropping, old_gate, reader_steps, collapse_steps}
 use Rattle.journal.specs.Journals.{kind_of, signal_of, with_step, enter, enter_all}
@@ -64,15 +65,13 @@ module _ (n : Network) (u g : ℕ) {j now : Journal} (l : Left n u g j now) wher
   left_silent h e = record { rest = sym (ap (enter_all now) (turn_silent n u g h e)) ∙ l.rest }
 
   pub left_reader : sound_record n ≡ true → g < n.gates → reads u (gate_of n g) ≡ true
-      → {row : GateRecord} → row ≡ row_at n.fanins n.thresholds n.signals n.weights g
-      → {next : Journal} → next ≡ with_step now 0 (n.inputs + g) row → Left n u (g + 1) j next
+      → {next : Journal} → next ≡ with_step now 0 (n.inputs + g) (row_in n g) → Left n u (g + 1) j next
   unfolding enter_all enter kind_of signal_of old_gate
-  left_reader s h e {row} er {next} en =
-      let row_is = er ∙ row_gate n g (T_is (sound_record n) s) h in
-      record {
-        rest = ap (λ (x : Journal). enter_all x (steps_from n u (g + 1))) (en ∙ ap (λ (x : GateRecord). with_step now 0 (n.inputs + g) x) row_is)
-            ∙ sym (ap (enter_all now) (turn_reader n u g h e)) ∙ l.rest;
-      }
+  left_reader s h e {next} en = record {
+    rest = ap (λ (x : Journal). enter_all x (steps_from n u (g + 1)))
+        (en ∙ ap (λ (x : GateRecord). with_step now 0 (n.inputs + g) x) (row_gate n g (T_is (sound_record n) s) h))
+        ∙ sym (ap (enter_all now) (turn_reader n u g h e)) ∙ l.rest;
+  }
 
   -- after the last gate all merges are entered
   pub left_end : n.gates ≤ g → now ≡ enter_all j (reader_steps u n.inputs (net_of n).gates)

@@ -1,4 +1,4 @@
-// The steps of a call entered into the journal of a record whose arrays are lent. Its call asks for what `unchecked` says.
+// The steps of a call entered into the journal of a record. Its call asks for what `unchecked` says.
 #![tactic(auto)]
 
 pub mod unchecked;

@@ -26,9 +26,8 @@ use Rattle.journal.specs.declared.Journal.{Journal}
 use Rattle.journal.specs.declared.Record.{Record}
 use Rattle.fold_reader_pairs.specs.Collapsing.{collapsed_by}
 use Rattle.fold_reader_pairs.specs.declared.Pairs.{Pairs}
-use Rattle.fold_sweep.specs.declared.Choice.{Choice}
 use Rattle.fold_sweep.specs.Sweeping.{asked, NextCollapse}
-use Rattle.fold_sweep.specs.Memory.{Remembered, RememberedAfter}
+use Rattle.fold_sweep.specs.Memory.{Remembered}
 use Rattle.fold_sweep.specs.MemoryLaws.{remembered_none}
 use Rattle.journal.specs.Parts.{answered}
 use Rattle.journal.proofs.JournalLaws.{enter_all_join}
@@ -107,11 +106,6 @@ module _ (r : Network) (b u : ℕ) (p : Pairs) (f : NextCollapse r b u p) where
 
   next_sound : sound_record (layout (collapsed_by r u p)) ≡ true
   next_sound = is_true (sound_record (layout (collapsed_by r u p))) (sound_layout (collapsed_by r u p) collapsed_sound)
-
--- what is remembered after the collapse of a gate that was chosen; r and s are one record
-pub remembered_next : {r s : Network} {x : Choice} {kept : List ℕ} → r ≡ s → RememberedAfter r x kept → x.found ≡ true
-    → Remembered (collapsed_by s x.u x.pairs) kept
-remembered_next {r} {s} {x} {kept} e m f = subst (λ (c : Network). Remembered (collapsed_by c x.u x.pairs) kept) e (m.next f)
 
 -- ---- the network and the journal that a sweep of r has reached after so many collapses, and what it remembers of that network
 module _ (r : Record) (b turns : ℕ) where

@@ -1,4 +1,4 @@
-// Sweep in the arrays of a record, with its steps in the journal. Its call asks for what `unchecked` says.
+// Sweep on a record, with its steps in the journal. Its call asks for what `unchecked` says.
 #![tactic(auto)]
 
 pub mod unchecked;

@@ -1,2 +1,1 @@
 pub mod UndoneLaws
-pub mod PartsLaws

@@ -1,6 +1,5 @@
 // A network put together from an empty one, step by step: gates in rising order, the feeds after their gate, the outputs last. Places go
 // round: a step for which there is no place writes to another one.
-use basics::wide;
 use network::{Board, Network};
 
 // The network with a version, an on margin and an off margin.
@@ -34,7 +33,7 @@ pub(crate) fn gate(network: Network, threshold: i32) -> Network {
 // One more feed of the last gate.
 pub(crate) fn feed(network: Network, signal: usize, weight: i32) -> Network {
     let g = std::num::wrapping_sub_usize(network.gates, 1) % 128;
-    let i = wide(network.fanins[g]) % 16;
+    let i = usize::from(network.fanins[g]) % 16;
     let p = 16 * g + i;
     let mut result = network;
     result.fanins[g] = (i + 1) as u8;

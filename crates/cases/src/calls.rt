@@ -1,6 +1,5 @@
 // Calls that fold: each prints the code, the numbers that the call answered, and what it left.
 use crate::output::{byte, count, number, numbers, text};
-use crate::same::same_records;
 use crate::script::{byte_at, numbers_from};
 use crate::show;
 use call_theory::Call;
@@ -45,7 +44,7 @@ fn answered(rt: &impl Print, held: Record, r: CallAnswer) -> io::Result<()> {
     number(rt, figures.third)?;
     if r.code == 0 {
         show::network(rt, r.after)?;
-    } else if same_records(held, r.after) {
+    } else if held == r.after {
         text(rt, b" unchanged")?;
     } else {
         text(rt, b" changed")?;
@@ -57,8 +56,7 @@ fn answered(rt: &impl Print, held: Record, r: CallAnswer) -> io::Result<()> {
 // that it leaves.
 fn repeated(rt: &impl Print, letter: u8, held: Record, n: [usize; 8]) -> io::Result<Record> {
     let mut now = held;
-    let mut accepted: usize = 0;
-    while accepted < 1000 {
+    for accepted in 0..1000 {
         let r = front::apply(now, listed(letter, n));
         if r.code != 0 {
             count(rt, accepted)?;
@@ -66,7 +64,6 @@ fn repeated(rt: &impl Print, letter: u8, held: Record, n: [usize; 8]) -> io::Res
             return Ok(now);
         }
         now = r.after;
-        accepted = accepted + 1;
     }
     Ok(now)
 }

@@ -9,12 +9,10 @@ use std::io;
 pub(crate) fn bits(rt: &impl Print, held: Record, output: usize, step: usize) -> io::Result<()> {
     let j = output % 16;
     let mut frame: usize = 0;
-    let mut k: usize = 0;
-    while k < 8 {
+    for _ in 0..8 {
         let reading = front::read_frame(held, frame as u64);
         number(rt, (reading.bits >> j) % 2)?;
         frame = std::num::wrapping_add_usize(frame, step);
-        k = k + 1;
     }
     Ok(())
 }

@@ -41,12 +41,9 @@ fn with_byte(network: Network, script: &[u8], at: usize, mark: u8) -> Network {
 pub(crate) fn described(script: &[u8], from: usize) -> Network {
     let mut network = with_board(network::blank(), 1, 0, 1);
     let mut mark = b'i';
-    let mut at = from;
-    let end = find(script, from, b'\n');
-    while at < end {
+    for at in from..find(script, from, b'\n') {
         mark = mark_after(mark, byte_at(script, at));
         network = with_byte(network, script, at, mark);
-        at = at + 1;
     }
     network
 }

@@ -49,14 +49,12 @@ pub(crate) fn opened(file: &[u8], length: usize) -> Opened {
 
 // Reads of the first bytes of a file, from so many on to all: of each the code, and where it is 0 the network.
 fn reads(rt: &impl Print, file: &[u8], from: usize) -> io::Result<()> {
-    let mut n = from;
-    while n <= file.len() {
+    for n in from..=file.len() {
         let opened = opened(file, n);
         byte(rt, opened.code)?;
         if opened.code == 0 {
             show::network(rt, opened.held)?;
         }
-        n = n + 1;
     }
     Ok(())
 }
@@ -124,10 +122,8 @@ fn frame(rt: &impl Print, held: Record, frame: u64) -> io::Result<()> {
 // The frames 0 to 7 over and over, but 8 at one place.
 fn frames_but(long: usize) -> [u64; 65] {
     let mut list = [0u64; 65];
-    let mut i: usize = 0;
-    while i < 65 {
+    for i in 0..65 {
         list[i] = if i == long { 8 } else { i as u64 % 8 };
-        i = i + 1;
     }
     list
 }
@@ -151,10 +147,8 @@ fn read_first(
 
 // All numbers of a list.
 fn words(rt: &impl Print, list: &[u64]) -> io::Result<()> {
-    let mut i: usize = 0;
-    while i < list.len() {
-        number(rt, list[i])?;
-        i = i + 1;
+    for n in list {
+        number(rt, *n)?;
     }
     Ok(())
 }

@@ -38,32 +38,26 @@ struct Balls {
 fn balls_from(script: &[u8], from: usize) -> Balls {
     let mut frames = [0u64; 32];
     let mut at = after(find(script, from, b' '));
-    let mut balls: usize = 0;
-    while balls < 32 {
+    for balls in 0..32 {
         let ball = byte_at(script, at);
         if ball < b'0' {
             return Balls { balls, frames };
         }
         frames[balls] = frame_of(ball);
         at = after(at);
-        balls = balls + 1;
     }
-    Balls { balls, frames }
+    Balls { balls: 32, frames }
 }
 
 // A running score.
 fn points(rt: &impl Print, n: u16) -> io::Result<()> {
-    number(rt, n as u64)
+    number(rt, u64::from(n))
 }
 
 // The running scores.
 fn scores(rt: &impl Print, places: &[u16; 10], scored: usize) -> io::Result<()> {
-    let mut i: usize = 0;
-    while i < 10 {
-        if i < scored {
-            points(rt, places[i])?;
-        }
-        i = i + 1;
+    for place in places.iter().take(scored) {
+        points(rt, *place)?;
     }
     Ok(())
 }

@@ -26,11 +26,9 @@ pub(crate) fn filled(steps: usize, number: usize) -> Journal {
 // The journal with the feeds of a network's first gate in the places of its newest step.
 fn with_feeds(journal: Journal, network: Network) -> Journal {
     let mut result = journal;
-    let mut i: usize = 0;
-    while i < 16 {
+    for i in 0..16 {
         result.feeds[i] = network.signals[i];
         result.weights[i] = network.weights[i];
-        i = i + 1;
     }
     result
 }

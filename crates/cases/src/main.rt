@@ -16,7 +16,6 @@ mod lent;
 mod output;
 mod question;
 mod records;
-mod same;
 mod script;
 mod show;
 mod table;

@@ -45,12 +45,8 @@ pub(crate) fn signed(rt: &impl Print, z: i32) -> io::Result<()> {
 
 // The numbers that the first bytes of a list are.
 pub(crate) fn numbers(rt: &impl Print, list: &[u8], count: usize) -> io::Result<()> {
-    let mut i: usize = 0;
-    while i < list.len() {
-        if i < count {
-            byte(rt, list[i])?;
-        }
-        i = i + 1;
+    for n in list.iter().take(count) {
+        byte(rt, *n)?;
     }
     Ok(())
 }

@@ -1,6 +1,4 @@
 // The bytes and the numbers of a script, which is a text of lines. A number is a word after a space.
-use basics::wide;
-
 // A byte of the script; past its end, a new line.
 pub(crate) fn byte_at(script: &[u8], at: usize) -> u8 {
     if script.len() <= at {
@@ -16,19 +14,17 @@ pub(crate) fn after(at: usize) -> usize {
 
 // The first place from one on that holds a byte, or the end of the script.
 pub(crate) fn find(script: &[u8], from: usize, byte: u8) -> usize {
-    let mut at = from;
-    while at < script.len() {
+    for at in from..script.len() {
         if script[at] == byte {
             return at;
         }
-        at = at + 1;
     }
-    at
+    from.max(script.len())
 }
 
 // Whether a byte is a digit.
 pub(crate) fn is_digit(byte: u8) -> bool {
-    (48 <= byte) & (byte <= 57)
+    byte.is_ascii_digit()
 }
 
 // A number with one more digit, whose last four bits are its value; a number that is too long goes round. Other bytes change nothing.
@@ -36,7 +32,7 @@ fn with_digit(number: usize, byte: u8) -> usize {
     if !is_digit(byte) {
         return number;
     }
-    std::num::wrapping_add_usize(10 * (number % 1844674407370955162), wide(byte % 16))
+    std::num::wrapping_add_usize(10 * (number % 1844674407370955162), usize::from(byte % 16))
 }
 
 // A number of the script, and the place after it.
@@ -76,15 +72,13 @@ pub(crate) fn numbers_from(script: &[u8], from: usize) -> [usize; 8] {
     let mut numbers = [18446744073709551615usize; 8];
     let end = find(script, from, b'\n');
     let mut at = find(script, from, b' ');
-    let mut i: usize = 0;
-    while i < 8 {
+    for n in numbers.iter_mut() {
         if end <= at {
             return numbers;
         }
         let number = number_from(script, at);
-        numbers[i] = number.value;
+        *n = number.value;
         at = number.end;
-        i = i + 1;
     }
     numbers
 }

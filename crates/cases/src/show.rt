@@ -1,6 +1,5 @@
 // Networks, journals and records as text on standard output.
 use crate::output::{byte, count, number, numbers, signed, text};
-use basics::wide;
 use journal::{Journal, Record};
 use network::{Board, Network};
 use std::io;
@@ -31,12 +30,9 @@ fn gate<'a>(
     fanin: u8,
     threshold: i32,
 ) -> io::Result<()> {
-    let end = wide(fanin);
     text(rt, b" [")?;
-    let mut i: usize = 0;
-    while i < end {
+    for i in 0..usize::from(fanin) {
         feed(rt, signals, weights, std::num::wrapping_add_usize(first, i))?;
-        i = i + 1;
     }
     text(rt, b" ;")?;
     signed(rt, threshold)?;
@@ -73,12 +69,8 @@ fn board(rt: &impl Print, board: Board) -> io::Result<()> {
 // The first 16 gates of a network, and its outputs.
 fn gates(rt: &impl Print, network: Network) -> io::Result<()> {
     text(rt, b" gates")?;
-    let mut g: usize = 0;
-    while g < 16 {
-        if g < network.gates {
-            gate_of(rt, network, g)?;
-        }
-        g = g + 1;
+    for g in 0..network.gates.min(16) {
+        gate_of(rt, network, g)?;
     }
     text(rt, b" outputs")?;
     numbers(rt, &network.drivers, network.outputs)
@@ -137,12 +129,8 @@ fn step(rt: &impl Print, journal: Journal, step: usize) -> io::Result<()> {
 
 // Every step of a journal, the newest first.
 pub(crate) fn steps(rt: &impl Print, journal: Journal) -> io::Result<()> {
-    let mut i: usize = 0;
-    while i < 64 {
-        if i < journal.count {
-            step(rt, journal, i)?;
-        }
-        i = i + 1;
+    for i in 0..journal.count.min(64) {
+        step(rt, journal, i)?;
     }
     Ok(())
 }

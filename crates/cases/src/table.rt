@@ -120,10 +120,8 @@ fn read_back(rt: &impl Print, table: u8) -> io::Result<()> {
 
 // Every gate of the table.
 fn read_all_back(rt: &impl Print) -> io::Result<()> {
-    let mut table: usize = 0;
-    while table < 256 {
-        read_back(rt, table as u8)?;
-        table = table + 1;
+    for table in 0..=u8::MAX {
+        read_back(rt, table)?;
     }
     Ok(())
 }

@@ -22,7 +22,7 @@ pub(crate) fn low_half(x: u64) -> u32 {
 
 // A mark with 32 bits more in it.
 pub(crate) fn mixed(mark: u64, bits: u32) -> u64 {
-    let x = mark ^ (bits as u64);
+    let x = mark ^ u64::from(bits);
     (LOW_SPREAD * (x % HALF)) ^ (HIGH_SPREAD * ((x >> 32) % HALF))
 }
 
@@ -32,23 +32,13 @@ pub(crate) fn dense(kind: usize, x: u64, y: u64) -> u64 {
     let q = x >> 32;
     let r = y;
     let s = y >> 32;
-    if kind < 2 {
-        return p;
+    match kind {
+        0 | 1 => p,
+        2 => p & q,
+        3 => p | q,
+        4 => p & q & r,
+        5 => p | q | r,
+        6 => p & q & r & s,
+        _ => p | q | r | s,
     }
-    if kind == 2 {
-        return p & q;
-    }
-    if kind == 3 {
-        return p | q;
-    }
-    if kind == 4 {
-        return p & q & r;
-    }
-    if kind == 5 {
-        return p | q | r;
-    }
-    if kind == 6 {
-        return p & q & r & s;
-    }
-    p | q | r | s
 }

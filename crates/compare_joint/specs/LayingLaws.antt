@@ -1,5 +1,5 @@
 -- The tables into which two networks are put hold their joint gates, and stand for the two. Assumes nothing.
-use Rattle.std.specs.Prelude.{◌≡◌, refl, true, T, ℤ, pos, nat_abs}
+use Rattle.std.specs.Prelude.{◌≡◌, true, T, ℤ, pos, nat_abs}
 use Rattle.std.proofs.Math.Path.{sym, ap}
 use Rattle.std.proofs.Common.{◌∙◌, subst}
 use Rattle.std.proofs.Math.Bool.{false}
@@ -8,13 +8,12 @@ use Prim.Native.Nat.{ℕ, zero, suc, ◌+◌, ◌-◌, ◌≤◌, ◌<◌}
 use Rattle.std.proofs.Math.Decide.{dec_lt}
 use native.Mathlib.Omega.{arith}
 use Rattle.std.proofs.Math.ListN.{length, get_or, get_or-eq_default}
-use Rattle.std.proofs.lemmas.List.{length-map}
 use Rattle.basics.specs.Lists.{range, tab, Each}
 use Rattle.basics.specs.ListLaws.{each_get_or, tab_same, get_or_tab, length_tab, range_append, range_each}
 use Rattle.basics.specs.SizeLaws.{SizesWithin}
 use Rattle.basics.specs.TableLaws.{range_tab, map_tab, get_d_map}
 use Rattle.basics.specs.TestLaws.{T_is}
-use Rattle.network.specs.Threshold.{Feed, Gate, Net, Assignment, output_bits, values}
+use Rattle.network.specs.Threshold.{Feed, Gate, Net, output_bits, values}
 use Rattle.network.specs.Limits.{scale, scale_ok, signals_of}
 use Rattle.network.specs.LimitLaws.{gates_at, gate_sizes}
 use Rattle.network.specs.Places.{Pasted}
@@ -27,11 +26,11 @@ use Rattle.network.specs.declared.Network.{Network}
 use Rattle.network_equivalence.specs.Consistent.{Ordered, WellFormed}
 use Rattle.network_equivalence.proofs.ConsistentLaws.{sound_good}
 use Rattle.network_places.specs.PasteLaws.{pasted_first}
-use Rattle.question_theory.specs.Question.{term, second_variable, second_of, over_gate}
+use Rattle.question_theory.specs.Question.{second_variable, second_of, over_gate}
 use Rattle.question_theory.proofs.AlikeLaws.{alike_inputs}
 use Rattle.question_lines.specs.Lines.{Comparable}
 use Rattle.question_lines.specs.StretchLaws.{first_gate_lem}
-use Rattle.compare_theory.specs.Joint.{Joint, joint, wires_of, weights_of, fanin, gate_of_rows, gate_of, gates_of, Summable, Ready}
+use Rattle.compare_theory.specs.Joint.{Joint, joint, wires_of, weights_of, fanin, gate_of_rows, gate_of, gates_of, Ready}
 use Rattle.compare_theory.proofs.RowLaws.{feeds_over}
 use Rattle.compare_theory.specs.SideBySide.{joined, both}
 use Rattle.compare_theory.proofs.SideBySideLaws.{second_most, joined_ordered, both_fits, both_second}
@@ -118,12 +117,8 @@ ordered_at n [] o g h = absurd (omega arith)
 ordered_at n (x ∷ gs) o zero h = rw (let e : n + 0 ≡ n = omega arith in e) o.0
 ordered_at n (x ∷ gs) o (suc g) h = rw (let e : n + suc g ≡ suc n + g = omega arith in e) (ordered_at (suc n) gs o.1 g (omega arith))
 
--- what a record's arrays leave of two tables
-abbrev pub LaidOf : Network → ℕ → List (List ℕ) → List (List ℤ) → List (List ℕ) → List (List ℤ) → Type 0
-LaidOf r start = Laid r.fanins r.thresholds r.signals r.weights r.inputs r.gates start
-
 module _ (a b : Network) (pair : Comparable a b) (w₀ w₁ w₂ : List (List ℕ)) (v₀ v₁ v₂ : List (List ℤ)) (long : length w₀ ≡ 256) (long_weights : length v₀ ≡ 256)
-    (first : LaidOf a 0 w₀ v₀ w₁ v₁) (second : LaidOf b a.gates w₁ v₁ w₂ v₂) where
+    (first : Laid a 0 w₀ v₀ w₁ v₁) (second : Laid b a.gates w₁ v₁ w₂ v₂) where
   abbrev J : Joint
   J = joint a.inputs (a.gates + b.gates) w₂ v₂
 

@@ -1,5 +1,5 @@
 -- A row of 17 places, written place by place. Assumes nothing.
-use Rattle.std.specs.Prelude.{◌≡◌, refl, Bool, cond, List, ◌∷◌, map, ℕ, zero, suc, ◌+◌, ◌<◌, eqb, length, get_or}
+use Rattle.std.specs.Prelude.{◌≡◌, refl, cond, List, ◌∷◌, map, ℕ, zero, suc, ◌+◌, ◌<◌, eqb, length, get_or}
 use Rattle.std.proofs.Common.{sym, ap, ◌∙◌, arith, ext_get_or}
 use Rattle.basics.specs.ListLaws.{tab_of}
 use Rattle.basics.specs.TableLaws.{map_tab}

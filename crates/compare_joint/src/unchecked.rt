@@ -1,4 +1,3 @@
-// The two tables of the joint are lent. Row g of `wires` has the feed count of gate g and the signals of its 16 feed places; row g of `weights` has
-// its threshold and the weights of these places.
+// The joint's tables filled from a network, and rewired.
 pub mod rows;
 pub mod wiring;

@@ -1,6 +1,5 @@
 -- What a lane in which the gates have run says of the assignments that fit the joint, and so of its frame. Assumes nothing.
 use mathlib.Core.Path.{◌≡◌, sym, ap, ◌∙◌}
-use mathlib.Core.Bool.{true, false, true≢false, false≢true}
 use mathlib.Core.List.{List, []}
 use Prim.Native.Nat.{ℕ, ◌+◌, ◌-◌, ◌*◌, ◌/◌, ◌%◌, ◌^◌, ◌≤◌, ◌<◌}
 use native.Mathlib.Nat.{mod-lt}
@@ -18,22 +17,22 @@ use Rattle.network_equivalence.proofs.ConsistentLaws.{fits_one, values_fit, valu
 use Rattle.frame_lanes.specs.Lanes.{mask_of, is_on}
 use Rattle.compare_theory.specs.Joint.{Joint, gate_of, gates_of, FitsJoint}
 use Rattle.compare_lanes.specs.Lanes.{lane_bits, Masked, FramesPut, GatesRun}
-use Rattle.compare_lanes.specs.Reading.{Readable, SameBits, SameOutputs, CanCompare, RowsApart, LaneApart, FramesRead}
+use Rattle.compare_lanes.specs.Reading.{Readable, SameBits, SameOutputs, CanCompare}
 use Rattle.compare_lanes.specs.LaneLaws.{masked_none}
 
 -- ---- the outputs, in each lane
 
 -- the two signals of output j are d and o, whose rows are compared
-module _ (lanes : List (List ℤ)) (drivers outs : List ℕ) {j d o r : ℕ} (h : RowsApart (get_or lanes d []) (get_or lanes o []) r)
-    (e : d ≡ get_or drivers j 0) (q : o ≡ get_or outs j 0) where
-  pub output_same : 32 ≤ r → ((f : ℕ) → f < 32 → SameBits (lane_bits lanes f) drivers outs j)
-      → (f : ℕ) → f < 32 → SameBits (lane_bits lanes f) drivers outs (j + 1)
+module _ (lanes : List (List ℤ)) (drivers outs : List ℕ) {j d o : ℕ} (e : d ≡ get_or drivers j 0) (q : o ≡ get_or outs j 0) where
+  pub output_same : ((f : ℕ) → f < 32 → get_or (get_or lanes d []) f (pos 0) ≡ get_or (get_or lanes o []) f (pos 0))
+      → ((f : ℕ) → f < 32 → SameBits (lane_bits lanes f) drivers outs j) → (f : ℕ) → f < 32 → SameBits (lane_bits lanes f) drivers outs (j + 1)
   unfolding lane_bits
-  output_same k p f l = below_more (λ i. lane_bits lanes f (get_or drivers i 0) ≡ lane_bits lanes f (get_or outs i 0)) j (p f l)
-      (rw (← e, ← q) (ap is_on (h.none k f l)))
+  output_same h p f l = below_more (λ i. lane_bits lanes f (get_or drivers i 0) ≡ lane_bits lanes f (get_or outs i 0)) j (p f l)
+      (rw (← e, ← q) (ap is_on (h f l)))
 
-  pub output_differs : Masked lanes → d < 296 → o < 296 → {outputs : ℕ} → j < outputs → r < 32 → SameBits (lane_bits lanes r) drivers outs outputs → ⊥
-  output_differs m a b k l p = h.some l ((m.row d a).mask r l ∙ ap mask_of (rw (← e, ← q) at (p j k)) ∙ sym ((m.row o b).mask r l))
+  pub output_differs : Masked lanes → d < 296 → o < 296 → {outputs : ℕ} → j < outputs → {f : ℕ} → f < 32
+      → (get_or (get_or lanes d []) f (pos 0) ≡ get_or (get_or lanes o []) f (pos 0) → ⊥) → SameBits (lane_bits lanes f) drivers outs outputs → ⊥
+  output_differs m a b k {f} l n p = n ((m.row d a).mask f l ∙ ap mask_of (rw (← e, ← q) at (p j k)) ∙ sym ((m.row o b).mask f l))
 
 -- ---- frames
 
@@ -106,11 +105,11 @@ module _ {J : Joint} {drivers outs : List ℕ} {outputs : ℕ} (can : Readable J
       → ReadBefore J drivers outs outputs frames from from (replicate 296 (replicate 32 (pos 0)))
   read_none from frames e h = record { count = e; some = h; masked = masked_none; same = λ x g l. absurd (omega arith) }
 
-  module _ {frames from first r : ℕ} {old mid lanes : List (List ℤ)} (h : ReadBefore J drivers outs outputs frames from first old)
-      (put : FramesPut J.inputs first mid) (ran : GatesRun J mid lanes) (a : LaneApart lanes drivers outs outputs r) where
+  module _ {frames from first : ℕ} {old mid lanes : List (List ℤ)} (h : ReadBefore J drivers outs outputs frames from first old)
+      (put : FramesPut J.inputs first mid) (ran : GatesRun J mid lanes) where
     -- a block without a difference
-    pub read_next : 32 ≤ r → ReadBefore J drivers outs outputs frames from (first + 32) lanes
-    read_next k = record {
+    pub read_next : ((f : ℕ) → f < 32 → SameBits (lane_bits lanes f) drivers outs outputs) → ReadBefore J drivers outs outputs frames from (first + 32) lanes
+    read_next a = record {
       count = h.count;
       some = h.some;
       masked = ran.masked;
@@ -119,23 +118,11 @@ module _ {J : Joint} {drivers outs : List ℕ} {outputs : ℕ} (can : Readable J
         | no j ↦
             let e : first + (x - first) ≡ x = omega arith in
             let q : x - first < 32 = omega arith in
-            rw e at (lane_same put ran (x - first) q (a.none k (x - first) q))
+            rw e at (lane_same put ran (x - first) q (a (x - first) q))
       ];
     }
 
     -- a block with one
-    pub read_apart : (end : ℕ) → r < 32 → FramesRead J drivers outs outputs from end (record { found = true; frame = (first + r) % frames })
-    read_apart end k = record {
-      none = λ e. absurd (true≢false e);
-      below = λ e. rw h.count (mod-lt (first + r) (pow_pos J.inputs));
-      apart = λ e s. lane_differs put ran r k (a.some k) (rw h.count at s);
-    }
-
-  -- all blocks are read
-  pub read_all : {frames from first : ℕ} {lanes : List (List ℤ)} (end : ℕ) → ReadBefore J drivers outs outputs frames from first lanes → end ≤ first
-      → FramesRead J drivers outs outputs from end (record { found = false; frame = 0 })
-  read_all end h k = record {
-    none = λ e x g l. h.same x g (omega arith);
-    below = λ e. absurd (false≢true e);
-    apart = λ e. absurd (false≢true e);
-  }
+    pub read_apart : (f : ℕ) → f < 32 → (SameBits (lane_bits lanes f) drivers outs outputs → ⊥)
+        → ((first + f) % frames < 2 ^ J.inputs) × (SameOutputs J drivers outs outputs ((first + f) % frames) → ⊥)
+    read_apart f l n = rw h.count (mod-lt (first + f) (pow_pos J.inputs), λ s. lane_differs put ran f l n s)

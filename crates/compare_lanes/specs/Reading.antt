@@ -1,9 +1,8 @@
 -- Internal: what reading frames of a joint asks for and finds: whether the two signals of each output have one bit. Nothing is proved here.
-use Rattle.std.specs.Prelude.{◌≡◌, true, false, List, ℕ, ◌+◌, ◌^◌, ◌≤◌, ◌<◌, ℤ, pos, get_or}
+use Rattle.std.specs.Prelude.{◌≡◌, List, ℕ, ◌+◌, ◌^◌, ◌≤◌, ◌<◌, ℤ, pos, get_or, Option, MatchOption}
 use Rattle.network.specs.Threshold.{Assignment, frame}
 use Rattle.network_equivalence.specs.Consistent.{Ordered}
 use Rattle.compare_theory.specs.Joint.{Joint, gates_of, Ready, FitsJoint}
-use Rattle.compare_lanes.specs.declared.Met.{Met}
 use Rattle.compare_lanes.specs.Lanes.{lane_bits}
 
 -- ---- in the lanes
@@ -18,15 +17,15 @@ pub record CanCompare (drivers outs : List ℕ) (outputs : ℕ) : Type 0 where
   pub driver : (j : ℕ) → j < outputs → get_or drivers j 0 < 296
   pub out : (j : ℕ) → j < outputs → get_or outs j 0 < 296
 
--- a place at which two rows differ, or 32 if there is none
-pub record RowsApart (a b : List ℤ) (r : ℕ) : Type 0 where
-  pub none : 32 ≤ r → (f : ℕ) → f < 32 → get_or a f (pos 0) ≡ get_or b f (pos 0)
-  pub some : r < 32 → get_or a r (pos 0) ≡ get_or b r (pos 0) → ⊥
+-- a place at which two rows differ, or none if there is none
+abbrev pub RowsApart : List ℤ → List ℤ → Option ℕ → Type 0
+RowsApart a b r = MatchOption r ((f : ℕ) → f < 32 → get_or a f (pos 0) ≡ get_or b f (pos 0))
+    (λ f. (f < 32) × (get_or a f (pos 0) ≡ get_or b f (pos 0) → ⊥))
 
--- a lane in which the two signals of an output are apart, or 32 if there is none
-pub record LaneApart (lanes : List (List ℤ)) (drivers outs : List ℕ) (outputs r : ℕ) : Type 0 where
-  pub none : 32 ≤ r → (f : ℕ) → f < 32 → SameBits (lane_bits lanes f) drivers outs outputs
-  pub some : r < 32 → SameBits (lane_bits lanes r) drivers outs outputs → ⊥
+-- a lane in which the two signals of an output are apart, or none if there is none
+abbrev pub LaneApart : List (List ℤ) → List ℕ → List ℕ → ℕ → Option ℕ → Type 0
+LaneApart lanes drivers outs outputs r = MatchOption r ((f : ℕ) → f < 32 → SameBits (lane_bits lanes f) drivers outs outputs)
+    (λ f. (f < 32) × (SameBits (lane_bits lanes f) drivers outs outputs → ⊥))
 
 -- ---- on frames
 
@@ -43,7 +42,6 @@ pub record SameOutputs (J : Joint) (drivers outs : List ℕ) (outputs x : ℕ) :
   pub same : (ρ : Assignment) → FitsJoint J ρ → ((i : ℕ) → i < J.inputs → ρ i ≡ frame x i) → SameBits ρ drivers outs outputs
 
 -- of the frames from one on, below an end, none was met on which an output's two signals are apart, or this one
-pub record FramesRead (J : Joint) (drivers outs : List ℕ) (outputs from end : ℕ) (met : Met) : Type 0 where
-  pub none : met.found ≡ false → (x : ℕ) → from ≤ x → x < end → SameOutputs J drivers outs outputs x
-  pub below : met.found ≡ true → met.frame < 2 ^ J.inputs
-  pub apart : met.found ≡ true → SameOutputs J drivers outs outputs met.frame → ⊥
+abbrev pub FramesRead : Joint → List ℕ → List ℕ → ℕ → ℕ → ℕ → Option ℕ → Type 0
+FramesRead J drivers outs outputs from end met = MatchOption met ((x : ℕ) → from ≤ x → x < end → SameOutputs J drivers outs outputs x)
+    (λ x. (x < 2 ^ J.inputs) × (SameOutputs J drivers outs outputs x → ⊥))

@@ -2,10 +2,3 @@
 #![tactic(auto)]
 
 pub mod unchecked;
-
-// What reading frames met: whether some output's two signals are apart on a frame, and that frame.
-#[derive(Clone, Copy)]
-pub struct Met {
-    pub found: bool,
-    pub frame: u64,
-}

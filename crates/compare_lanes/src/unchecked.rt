@@ -5,24 +5,28 @@ ghost use Rattle.std.specs.Int.Signed.{le_z};
 ghost use Rattle.network.specs.Threshold.{frame, bit};
 ghost use Rattle.network.specs.Places.{Pasted};
 ghost use Rattle.frame_lanes.specs.Lanes.{is_on};
-ghost use Rattle.compare_theory.specs.Joint.{joint, gate_of_rows, Summable, Ready};
+ghost use Rattle.compare_theory.specs.Joint.{gate_of_rows, Summable, Ready};
+ghost use Rattle.compare_theory.specs.Tables.{joint_of};
 ghost use Rattle.compare_lanes.specs.Lanes.{lane_bits, Masked, MaskRow, LanesPut, CanAdd, RowSums, FramesPut, GatesRun};
 ghost use Rattle.compare_lanes.specs.Reading.{RowsApart, CanCompare, LaneApart, Readable, FramesRead};
 
-use crate::Met;
-use basics::wide;
-use compare_theory::signal_index;
+use compare_theory::Tables;
 use frame_lanes::unchecked::{kept, mask_of};
 
+// How many frames are read at once.
+pub const LANES: usize = 32;
+
+// How many signals a joint has at most.
+pub const SIGNALS: usize = 296;
+
 // The masks of a word: that of bit f in lane f.
+#[tactic(auto, unfolding(network::specs::Threshold::frame))]
 fn word_row(word: u64) -> [i32; 32]
     ensures { MaskRow (frame word) result }
 {
-    let mut row = [0i32; 32];
-    let mut f: usize = 0;
-    while f < 32 {
+    let mut row = [0; LANES];
+    for f in 0..LANES {
         row[f] = mask_of((word >> f) % 2 == 1);
-        f = f + 1;
     }
     row
 }
@@ -33,20 +37,18 @@ pub fn put_word(lanes: &mut [[i32; 32]; 296], i: usize, word: u64)
     requires i_bound { i < 296 }
     ensures { LanesPut i (frame word) lanes.old lanes.new }
 {
-    let row = word_row(word);
-    lanes[i] = row;
+    lanes[i] = word_row(word);
 }
 
 // The masks of input i on 32 frames: that of the frame first + f in lane f.
+#[tactic(auto, unfolding(network::specs::Threshold::frame))]
 fn frame_row(first: u64, i: usize) -> [i32; 32]
     requires { (first ≤ 1099511627776) × (i < 64) }
     ensures { MaskRow (λ f. frame (first + f) i) result }
 {
-    let mut row = [0i32; 32];
-    let mut f: usize = 0;
-    while f < 32 {
+    let mut row = [0; LANES];
+    for f in 0..LANES {
         row[f] = mask_of(((first + f as u64) >> i) % 2 == 1);
-        f = f + 1;
     }
     row
 }
@@ -57,11 +59,8 @@ fn put_frames(lanes: &mut [[i32; 32]; 296], inputs: usize, first: u64)
     requires inputs_bound { (inputs ≤ 40) × (first ≤ 1099511627776) }
     ensures { FramesPut inputs first lanes.new }
 {
-    let mut i: usize = 0;
-    while i < inputs {
-        let row = frame_row(first, i);
-        lanes[i] = row;
-        i = i + 1;
+    for i in 0..inputs {
+        lanes[i] = frame_row(first, i);
     }
 }
 
@@ -71,30 +70,21 @@ fn add_feed(sums: &mut [i32; 32], row: &[i32; 32], weight: i32)
     ensures { Pasted (pos 0) 0 32 (λ f. get_or sums.old f (pos 0) +ℤ cond (is_on (get_or row.now f (pos 0))) weight (pos 0))
         sums.old sums.new }
 {
-    let mut f: usize = 0;
-    while f < 32 {
-        sums[f] = sums[f] + kept(row[f], weight);
-        f = f + 1;
+    for f in 0..LANES {
+        sums[f] += kept(row[f], weight);
     }
 }
 
 // The sums of a gate's feeds, in 32 lanes.
-fn row_sums<'a>(
-    wires: &'a [u16; 17],
-    weights: &'a [i32; 17],
-    lanes: &'a [[i32; 32]; 296],
-) -> [i32; 32]
+fn row_sums(wires: &[u16; 17], weights: &[i32; 17], lanes: &[[i32; 32]; 296]) -> [i32; 32]
     requires summable { Summable wires.now weights.now }
     requires masked { Masked lanes.now }
     ensures { RowSums lanes.now wires.now weights.now result }
 {
-    let count = signal_index(wires[0]);
-    let mut sums = [0i32; 32];
-    let mut i: usize = 0;
-    while i < count {
-        let signal = signal_index(wires[1 + i]);
+    let mut sums = [0; LANES];
+    for i in 0..usize::from(wires[0]) {
+        let signal = usize::from(wires[1 + i]);
         add_feed(&mut sums, &lanes[signal], weights[1 + i]);
-        i = i + 1;
     }
     sums
 }
@@ -103,21 +93,15 @@ fn row_sums<'a>(
 fn threshold_row(sums: &[i32; 32], threshold: i32) -> [i32; 32]
     ensures { MaskRow (λ f. le_z threshold (get_or sums.now f (pos 0))) result }
 {
-    let mut row = [0i32; 32];
-    let mut f: usize = 0;
-    while f < 32 {
+    let mut row = [0; LANES];
+    for f in 0..LANES {
         row[f] = mask_of(threshold <= sums[f]);
-        f = f + 1;
     }
     row
 }
 
 // The masks of a gate by its two rows, from the masks of its feeds.
-fn gate_row<'a>(
-    wires: &'a [u16; 17],
-    weights: &'a [i32; 17],
-    lanes: &'a [[i32; 32]; 296],
-) -> [i32; 32]
+fn gate_row(wires: &[u16; 17], weights: &[i32; 17], lanes: &[[i32; 32]; 296]) -> [i32; 32]
     requires summable { Summable wires.now weights.now }
     requires masked { Masked lanes.now }
     ensures { MaskRow (λ f. bit (lane_bits lanes.now f) (gate_of_rows wires.now weights.now)) result }
@@ -127,61 +111,42 @@ fn gate_row<'a>(
 }
 
 // The gates of the joint in order, each in 32 lanes.
-pub fn run_gates<'a>(
-    inputs: usize,
-    gates: usize,
-    wires: &'a [[u16; 17]; 256],
-    weights: &'a [[i32; 17]; 256],
-    lanes: &mut [[i32; 32]; 296],
-)
-    requires ready { Ready (joint inputs gates wires.now weights.now) }
+pub fn run_gates(joint: &Tables, lanes: &mut [[i32; 32]; 296])
+    requires ready { Ready (joint_of joint.now) }
     requires masked { Masked lanes.old }
-    ensures { GatesRun (joint inputs gates wires.now weights.now) lanes.old lanes.new }
+    ensures { GatesRun (joint_of joint.now) lanes.old lanes.new }
 {
-    let mut g: usize = 0;
-    while g < gates {
-        let row = gate_row(&wires[g], &weights[g], lanes);
-        lanes[inputs + g] = row;
-        g = g + 1;
+    for g in 0..joint.gates {
+        lanes[joint.inputs + g] = gate_row(&joint.wires[g], &joint.weights[g], lanes);
     }
 }
 
-// The first lane in which two rows of masks are apart, or 32 if there is none.
-fn rows_apart<'a>(a: &'a [i32; 32], b: &'a [i32; 32]) -> usize
+// The first lane in which two rows of masks are apart.
+pub fn rows_apart(a: &[i32; 32], b: &[i32; 32]) -> Option<usize>
     ensures { RowsApart a.now b.now result }
 {
-    let mut f: usize = 0;
-    while f < 32 {
-        if a[f] != b[f] {
-            return f;
-        }
-        f = f + 1;
-    }
-    32
+    a.iter().zip(b).position(|(x, y)| *x != *y)
 }
 
-// A lane in which the two signals of an output are apart, or 32 if there is none.
-fn lane_apart<'a>(
-    lanes: &'a [[i32; 32]; 296],
-    drivers: &'a [u8; 16],
-    outs: &'a [u16; 16],
+// A lane in which the two signals of an output are apart.
+fn lane_apart(
+    lanes: &[[i32; 32]; 296],
+    drivers: &[u8; 16],
+    outs: &[u16; 16],
     outputs: usize,
-) -> usize
+) -> Option<usize>
     requires masked { Masked lanes.now }
     requires can_compare { CanCompare drivers.now outs.now outputs }
     ensures { LaneApart lanes.now drivers.now outs.now outputs result }
 {
-    let mut j: usize = 0;
-    while j < outputs {
-        let driver = wide(drivers[j]);
-        let out = signal_index(outs[j]);
-        let lane = rows_apart(&lanes[driver], &lanes[out]);
-        if lane < 32 {
-            return lane;
+    for j in 0..outputs {
+        let driver = usize::from(drivers[j]);
+        let out = usize::from(outs[j]);
+        if let Some(lane) = rows_apart(&lanes[driver], &lanes[out]) {
+            return Some(lane);
         }
-        j = j + 1;
     }
-    32
+    None
 }
 
 // How many frames there are with so many inputs.
@@ -194,38 +159,29 @@ pub fn frame_count(inputs: usize) -> u64
 
 // The frames from one on, below an end, are read, 32 at a time, up to the first on which the two signals of an output are apart. The last of them may
 // be followed by others.
-pub fn read_frames<'a>(
-    inputs: usize,
-    gates: usize,
-    wires: &'a [[u16; 17]; 256],
-    weights: &'a [[i32; 17]; 256],
-    drivers: &'a [u8; 16],
-    outs: &'a [u16; 16],
+pub fn read_frames(
+    joint: &Tables,
+    drivers: &[u8; 16],
+    outs: &[u16; 16],
     outputs: usize,
     from: u64,
     end: u64,
-) -> Met
-    requires readable { Readable (joint inputs gates wires.now weights.now) drivers.now outs.now outputs }
+) -> Option<u64>
+    requires readable { Readable (joint_of joint.now) drivers.now outs.now outputs }
     requires from_bound { (from ≤ 1099511627776) × (end ≤ 1099511627776) }
-    ensures { FramesRead (joint inputs gates wires.now weights.now) drivers.now outs.now outputs from end result }
+    ensures { FramesRead (joint_of joint.now) drivers.now outs.now outputs from end result }
 {
-    let mut lanes = [[0i32; 32]; 296];
-    let frames = frame_count(inputs);
+    let mut lanes = [[0; LANES]; SIGNALS];
+    let frames = frame_count(joint.inputs);
     let mut first = from;
+    // Kept: with `step_by` what holds after the last turn stayed open.
     while first < end {
-        put_frames(&mut lanes, inputs, first);
-        run_gates(inputs, gates, wires, weights, &mut lanes);
-        let f = lane_apart(&lanes, drivers, outs, outputs);
-        if f < 32 {
-            return Met {
-                found: true,
-                frame: (first + f as u64) % frames,
-            };
+        put_frames(&mut lanes, joint.inputs, first);
+        run_gates(joint, &mut lanes);
+        if let Some(f) = lane_apart(&lanes, drivers, outs, outputs) {
+            return Some((first + f as u64) % frames);
         }
-        first = first + 32;
+        first += 32;
     }
-    Met {
-        found: false,
-        frame: 0,
-    }
+    None
 }

@@ -1,2 +1,3 @@
-pub mod Twins
 pub mod TwinLaws
+pub mod Merging
+pub mod MergeLaws

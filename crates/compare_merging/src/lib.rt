@@ -4,12 +4,10 @@
 
 pub mod unchecked;
 
-// What came of it: whether both signals of each output are shown to have one bit; if they are not, a frame worth reading; and what is left of the
-// budget.
+// What came of it: a frame worth reading, or none where both signals of each output are shown to have one bit; and what is left of the budget.
 #[derive(Clone, Copy)]
 pub struct Outcome {
-    pub matched: bool,
-    pub frame: u64,
+    pub worth: Option<u64>,
     pub left: u64,
 }
 

@@ -1,7 +1,7 @@
 -- What a comparison answers, test by test and verdict by verdict. Assumes nothing.
 use Rattle.std.specs.Prelude.{◌≡◌, refl, true, false, ◌&&◌, ℕ}
 use Rattle.std.proofs.Common.{◌∙◌}
-use Rattle.basics.specs.Refusals.{Answer, accepted, refused, checks}
+use Rattle.basics.specs.Refusals.{Answer, accepted, refused}
 use Rattle.basics.specs.RefusalLaws.{checks_first, checks_next, checks_none}
 use Rattle.network.specs.Threshold.{Net}
 use Rattle.network.specs.Record.{net_of, sound_record}

@@ -1,6 +1,6 @@
 -- What a comparison of two whole files answers, with the order as the first is read, as the second is read, 18, 19, and what it leaves in the lent
 -- numbers. Nothing is proved here.
-use Rattle.std.specs.Prelude.{◌≡◌, List, ◌∷◌, ℕ, length, get_or, drop}
+use Rattle.std.specs.Prelude.{◌≡◌, List, ◌∷◌, ℕ, get_or, drop}
 use Rattle.basics.specs.Refusals.{Answer, accepted, refused, bind}
 use Rattle.pmn_opening.specs.Files.{read_net, open_net}
 use Rattle.compare_theory.specs.Verdicts.{Pair, comparable, Verdict}

@@ -5,3 +5,4 @@ pub mod AnswerLaws
 pub mod Settled
 pub mod SettledLaws
 pub mod VerdictLaws
+pub mod StandingLaws

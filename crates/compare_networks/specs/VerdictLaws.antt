@@ -1,11 +1,11 @@
 -- What is settled of the joint of two networks is a verdict on them. Assumes nothing.
-use Rattle.std.specs.Prelude.{◌≡◌, refl, Bool, true, false, List, ℕ, ◌+◌, ◌^◌, ◌≤◌, ◌<◌, get_or}
+use Rattle.std.specs.Prelude.{◌≡◌, refl, Bool, false, List, ℕ, ◌+◌, ◌≤◌, ◌<◌, get_or}
 use Rattle.std.proofs.Common.{sym, ap, ◌∙◌, arith}
 use Rattle.std.proofs.Math.ListN.{length}
 use Rattle.basics.specs.ListLaws.{each_get_or, length_tab}
 use Rattle.basics.specs.TableLaws.{get_d_map}
 use Rattle.basics.specs.TestLaws.{T_is, is_true}
-use Rattle.network.specs.Threshold.{Net, Assignment, frame, fits_frame, output_bits}
+use Rattle.network.specs.Threshold.{Net, Assignment, frame, output_bits}
 use Rattle.network.specs.Record.{net_of, sound_record}
 use Rattle.network.specs.RecordLaws.{count_gates, count_outputs, output_within, sound_net}
 use Rattle.network.specs.SoundLaws.{sized_of}
@@ -22,8 +22,9 @@ use Rattle.compare_theory.specs.Wiring.{StandsFor}
 use Rattle.compare_theory.proofs.WiringLaws.{outputs_same}
 use Rattle.compare_theory.specs.Verdicts.{Verdict}
 use Rattle.compare_lanes.specs.Reading.{SameOutputs}
-use Rattle.compare_networks.specs.Settled.{Outputs, Settled}
-use Rattle.compare_networks.specs.declared.Found.{Found}
+use Rattle.compare_networks.specs.Settled.{Outputs, Settled, verdict_of, frame_of}
+use Rattle.compare_networks.specs.declared.Finding.{Finding}
+use Rattle.compare_networks.specs.declared.Finding.TheVariants.{Alike, Apart, Undecided}
 
 module _ (a b : Network) (pair : Comparable a b) where
   abbrev A : Net
@@ -96,17 +97,30 @@ module _ (a b : Network) (pair : Comparable a b) where
             ∙ sym (as_joint ρ f i (get_or outs j 0) (both_outputs.wired.low j h));
       }
 
-    pub settled_verdict : (budget steps : ℕ) (found : Found) → Settled J a.drivers outs a.outputs found → steps ≤ budget
-        → Verdict A B budget found.verdict found.frame steps
+    pub settled_verdict : (budget steps : ℕ) (finding : Finding) → Settled J a.drivers outs a.outputs finding → steps ≤ budget
+        → Verdict A B budget (verdict_of finding) (frame_of finding) steps
     unfolding net_of
-    settled_verdict budget steps found t l = record {
-      one_of_three = t.one_of_three;
-      alike = λ e x f. same_alike x (t.same e x (rw own ((fits_below a.inputs x).0 (T_is _ f))));
-      apart = λ e. record {
-        fits = is_true _ ((fits_below a.inputs found.frame).1 (rw own at (t.below e)));
-        differ = λ same. t.apart e (alike_same found.frame same);
-      };
-      no_frame = t.no_frame;
-      decided = λ k. t.decided (omega (arith, own));
+    settled_verdict budget steps Alike t l = record {
+      one_of_three = omega arith;
+      alike = λ e x f. same_alike x (t x (rw own ((fits_below a.inputs x).0 (T_is _ f))));
+      apart = λ e. absurd (omega arith);
+      no_frame = λ e. refl;
+      decided = λ k e. omega arith;
+      few_steps = l;
+    }
+    settled_verdict budget steps (Apart frame) t l = record {
+      one_of_three = omega arith;
+      alike = λ e. absurd (omega arith);
+      apart = λ e. record { fits = is_true _ ((fits_below a.inputs frame).1 (rw own at t.0)); differ = λ same. t.1 (alike_same frame same) };
+      no_frame = λ e. absurd (e refl);
+      decided = λ k e. omega arith;
+      few_steps = l;
+    }
+    settled_verdict budget steps Undecided t l = record {
+      one_of_three = omega arith;
+      alike = λ e. absurd (omega arith);
+      apart = λ e. absurd (omega arith);
+      no_frame = λ e. refl;
+      decided = λ k e. t (omega (arith, own));
       few_steps = l;
     }

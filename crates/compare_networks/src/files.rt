@@ -6,13 +6,6 @@ use crate::unchecked::compare_sound;
 use pmn_opening::unchecked::places::put_three;
 use pmn_opening::unchecked::refusal;
 
-// A byte as a number.
-fn number(x: u8) -> u64
-    ensures { result ≡ x }
-{
-    x as u64
-}
-
 // Two files compared with at most so many steps: the verdict goes into place 0 of the answer, a frame on which they are apart into place 1, and the
 // steps used into place 2. Refusals: as the first file is read, as the second is read, 18 where there are fewer than 3 places, 19 for unlike networks.
 pub fn compare_of_files(first: &[u8], second: &[u8], budget: u64, answer: &mut [u64]) -> u8
@@ -29,11 +22,11 @@ pub fn compare_of_files(first: &[u8], second: &[u8], budget: u64, answer: &mut [
     if second_code != 0 {
         return second_code;
     }
-    let compared = compare_sound(one.network, other.network, budget);
+    let compared = compare_sound(&one.network, &other.network, budget);
     put_three(
         answer,
         compared.code,
-        number(compared.verdict),
+        u64::from(compared.verdict),
         compared.frame,
         compared.steps,
     )

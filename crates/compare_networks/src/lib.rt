@@ -20,12 +20,18 @@ pub struct Compared {
     pub steps: u64,
 }
 
-// What is settled of the outputs' signals: the verdict, a frame on which some output's two signals are apart if it is 1, and what is left of the
-// budget.
+// What is settled of the outputs' signals: both of each have one bit on every frame, or some output's are apart on this frame, or neither.
 #[derive(Clone, Copy)]
-pub struct Found {
-    pub verdict: u8,
-    pub frame: u64,
+pub(crate) enum Finding {
+    Alike,
+    Apart(u64),
+    Undecided,
+}
+
+// What is settled, and what is left of the budget.
+#[derive(Clone, Copy)]
+pub(crate) struct Found {
+    pub finding: Finding,
     pub left: u64,
 }
 
@@ -33,8 +39,8 @@ pub struct Found {
 pub fn compare(first: Network, second: Network, budget: u64) -> Compared
     ensures { ComparedAs (compare_answer first second) budget result }
 {
-    if !(is_sound(first) & is_sound(second)) {
+    if !is_sound(first) || !is_sound(second) {
         return refusal(20);
     }
-    compare_sound(first, second, budget)
+    compare_sound(&first, &second, budget)
 }

@@ -2,14 +2,15 @@
 ghost use Rattle.std.specs.Prelude.{◌≡◌, true, ◌&&◌, ◌≤◌, eqb};
 ghost use Rattle.network.specs.Record.{net_of, sound_record};
 ghost use Rattle.compare_theory.specs.Verdicts.{comparable};
-ghost use Rattle.compare_theory.specs.Joint.{joint};
+ghost use Rattle.compare_theory.specs.Tables.{joint_of};
 ghost use Rattle.compare_networks.specs.Answers.{ComparedAs};
-ghost use Rattle.compare_networks.specs.Settled.{Outputs, Settled};
+ghost use Rattle.compare_networks.specs.Settled.{Outputs, Settled, verdict_of, frame_of};
 
-use crate::{Compared, Found};
+use crate::{Compared, Finding, Found};
 use compare_joint::unchecked::rows::{joint_outputs, lay};
 use compare_lanes::unchecked::{frame_count, read_frames};
 use compare_merging::unchecked::match_outputs;
+use compare_theory::Tables;
 use network::Network;
 
 // A refusal: its number, and 0 for every other number.
@@ -25,9 +26,14 @@ pub fn refusal(code: u8) -> Compared
 }
 
 // A verdict.
-fn given(verdict: u8, frame: u64, steps: u64) -> Compared
-    ensures { result ≡ record { code = 0; verdict = verdict; frame = frame; steps = steps } }
+fn given(finding: Finding, steps: u64) -> Compared
+    ensures { result ≡ record { code = 0; verdict = verdict_of finding; frame = frame_of finding; steps = steps } }
 {
+    let (verdict, frame) = match finding {
+        Finding::Alike => (0, 0),
+        Finding::Apart(frame) => (1, frame),
+        Finding::Undecided => (2, 0),
+    };
     Compared {
         code: 0,
         verdict,
@@ -37,10 +43,10 @@ fn given(verdict: u8, frame: u64, steps: u64) -> Compared
 }
 
 // Whether two networks have equal input and output counts.
-fn same_counts(inputs: usize, outputs: usize, inputs2: usize, outputs2: usize) -> bool
-    ensures { result ≡ (eqb inputs inputs2 && eqb outputs outputs2) }
+fn same_counts(first: &Network, second: &Network) -> bool
+    ensures { result ≡ (eqb first.now.inputs second.now.inputs && eqb first.now.outputs second.now.outputs) }
 {
-    (inputs == inputs2) & (outputs == outputs2)
+    first.inputs == second.inputs && first.outputs == second.outputs
 }
 
 // The steps that a refutation is given: with at most 20 inputs no more than reading every frame, 32 at a time, would take.
@@ -48,133 +54,81 @@ fn steps_given(inputs: usize, budget: u64) -> u64
     requires { inputs ≤ 40 }
     ensures { result ≤ budget }
 {
-    if 21 <= inputs {
+    if 20 < inputs {
         return budget;
     }
-    let passes = frame_count(inputs) / 32;
-    if passes < budget { passes } else { budget }
+    budget.min(frame_count(inputs) / 32)
 }
 
-// The two signals of each output: matched in the joint, or apart on a frame that is worth reading or on one of the 31 after it, or, with at most 20
-// inputs, read on every frame. The first network has `start` gates.
-fn settle<'a>(
-    inputs: usize,
-    gates: usize,
-    wires: &mut [[u16; 17]; 256],
-    weights: &'a [[i32; 17]; 256],
-    drivers: &'a [u8; 16],
+// The two signals of each output: apart on a frame that is worth reading or on one of the 31 after it, or, with at most 20 inputs, read on every
+// frame.
+fn read(joint: &Tables, drivers: &[u8; 16], outs: &[u16; 16], outputs: usize, worth: u64) -> Finding
+    requires { Outputs (joint_of joint.now) drivers.now outs.now outputs }
+    ensures { Settled (joint_of joint.now) drivers.now outs.now outputs result }
+{
+    let frames = frame_count(joint.inputs);
+    let near = worth % frames;
+    if let Some(frame) = read_frames(joint, drivers, outs, outputs, near, near + 1) {
+        return Finding::Apart(frame);
+    }
+    if 20 < joint.inputs {
+        return Finding::Undecided;
+    }
+    match read_frames(joint, drivers, outs, outputs, 0, frames) {
+        Some(frame) => Finding::Apart(frame),
+        None => Finding::Alike,
+    }
+}
+
+// The two signals of each output, matched in the joint or read. The first network has `start` gates.
+fn settle(
+    joint: &mut Tables,
+    drivers: &[u8; 16],
     outs: &mut [u16; 16],
     outputs: usize,
     start: usize,
     budget: u64,
 ) -> Found
-    requires { Outputs (joint inputs gates wires.old weights.now) drivers.now outs.old outputs × (start ≤ gates) }
-    ensures { Settled (joint inputs gates wires.old weights.now) drivers.now outs.old outputs result
-        × (result.left ≤ budget) }
+    requires { Outputs (joint_of joint.old) drivers.now outs.old outputs × (start ≤ joint.old.gates) }
+    ensures settled { Settled (joint_of joint.old) drivers.now outs.old outputs result.finding }
+    ensures few_steps { result.left ≤ budget }
 {
-    let given = steps_given(inputs, budget);
-    let outcome = match_outputs(
-        inputs, gates, wires, weights, drivers, outs, outputs, start, given,
-    );
-    let left = budget - given + outcome.left;
-    if outcome.matched {
-        return Found {
-            verdict: 0,
-            frame: 0,
-            left,
-        };
-    }
-    let frames = frame_count(inputs);
-    let frame = outcome.frame % frames;
-    let near = read_frames(
-        inputs,
-        gates,
-        wires,
-        weights,
-        drivers,
-        outs,
-        outputs,
-        frame,
-        frame + 1,
-    );
-    if near.found {
-        return Found {
-            verdict: 1,
-            frame: near.frame,
-            left,
-        };
-    }
-    if 20 < inputs {
-        return Found {
-            verdict: 2,
-            frame: 0,
-            left,
-        };
-    }
-    let all = read_frames(
-        inputs, gates, wires, weights, drivers, outs, outputs, 0, frames,
-    );
-    if all.found {
-        return Found {
-            verdict: 1,
-            frame: all.frame,
-            left,
-        };
-    }
+    let given = steps_given(joint.inputs, budget);
+    let outcome = match_outputs(joint, drivers, outs, outputs, start, given);
+    let finding = match outcome.worth {
+        Some(frame) => read(joint, drivers, outs, outputs, frame),
+        None => Finding::Alike,
+    };
     Found {
-        verdict: 0,
-        frame: 0,
-        left,
+        finding,
+        left: budget - given + outcome.left,
     }
 }
 
 // Two sound networks compared with at most so many steps. Refusals: 19.
-pub fn compare_sound(first: Network, second: Network, budget: u64) -> Compared
-    requires { (sound_record first ≡ true) × (sound_record second ≡ true) }
-    ensures { ComparedAs (comparable (net_of first) (net_of second)) budget result }
+pub fn compare_sound(first: &Network, second: &Network, budget: u64) -> Compared
+    requires { (sound_record first.now ≡ true) × (sound_record second.now ≡ true) }
+    ensures { ComparedAs (comparable (net_of first.now) (net_of second.now)) budget result }
 {
-    let inputs = first.inputs;
-    let outputs = first.outputs;
-    if !same_counts(inputs, outputs, second.inputs, second.outputs) {
+    if !same_counts(first, second) {
         return refusal(19);
     }
-    let start = first.gates;
-    let gates = start + second.gates;
-    let mut wires = [[0u16; 17]; 256];
-    let mut weights = [[0i32; 17]; 256];
-    lay(
-        &first.fanins,
-        &first.thresholds,
-        &first.signals,
-        &first.weights,
-        inputs,
-        start,
-        0,
-        &mut wires,
-        &mut weights,
-    );
-    lay(
-        &second.fanins,
-        &second.thresholds,
-        &second.signals,
-        &second.weights,
-        second.inputs,
-        second.gates,
-        start,
-        &mut wires,
-        &mut weights,
-    );
-    let mut outs = joint_outputs(&second.drivers, second.outputs, inputs, start);
+    let mut joint = Tables {
+        inputs: first.inputs,
+        gates: first.gates + second.gates,
+        wires: [[0; 17]; 256],
+        weights: [[0; 17]; 256],
+    };
+    lay(first, 0, &mut joint);
+    lay(second, first.gates, &mut joint);
+    let mut outs = joint_outputs(second, first.gates);
     let found = settle(
-        inputs,
-        gates,
-        &mut wires,
-        &weights,
+        &mut joint,
         &first.drivers,
         &mut outs,
-        outputs,
-        start,
+        first.outputs,
+        first.gates,
         budget,
     );
-    given(found.verdict, found.frame, budget - found.left)
+    given(found.finding, budget - found.left)
 }

@@ -1,153 +1,113 @@
-// Which signal to try next, and the frame that a partial assignment shows. Nothing is promised but that each call is safe and ends: a refutation
-// holds whatever the advice.
-ghost use Rattle.std.specs.Prelude.{◌≤◌, ◌<◌};
-ghost use Rattle.compare_theory.specs.Joint.{joint, Summable, Ready};
+// Which signal to try next, and the frame that a partial assignment shows. Nothing is promised but that each call is safe and ends, and that a choice
+// is a signal: a refutation holds whatever the advice.
+ghost use Rattle.std.specs.Prelude.{◌≤◌, ◌<◌, IfSome};
+ghost use Rattle.compare_theory.specs.Joint.{Summable, Ready};
+ghost use Rattle.compare_theory.specs.Tables.{joint_of};
 
-use crate::Choice;
 use crate::rules::ends_of;
-use basics::magnitude;
-use compare_theory::signal_index;
-
-// No signal.
-fn none() -> Choice {
-    Choice {
-        signal: 296,
-        lit: false,
-    }
-}
-
-// The first of two that is a signal.
-fn first_of(one: Choice, other: Choice) -> Choice {
-    if one.signal < 296 { one } else { other }
-}
+use crate::{Choice, Held};
+use compare_theory::Tables;
 
 // What lifts a gate's signal above every input's.
-fn lift(gate: bool) -> u32
-    ensures { result ≤ 10000000 }
-{
-    if gate { 10000000 } else { 0 }
-}
+const LIFT: u32 = 10000000;
 
 // The heaviest open feed of a gate, with the bit that goes with the gate's. Signals from `from` on come first.
-fn heaviest<'a>(
-    wires: &'a [u16; 17],
-    weights: &'a [i32; 17],
-    bits: &'a [u8; 296],
+fn heaviest(
+    wires: &[u16; 17],
+    weights: &[i32; 17],
+    held: &Held,
     lit: bool,
     from: usize,
-) -> Choice
+) -> Option<Choice>
     requires { Summable wires.now weights.now }
+    ensures { IfSome result (λ c. c.signal < 296) }
 {
-    let count = signal_index(wires[0]);
-    let mut best = none();
+    let mut best = None;
     let mut heavy: u32 = 0;
-    let mut i: usize = 0;
-    while i < count {
-        let place = 1 + i;
-        let signal = signal_index(wires[place]);
-        let weight = weights[place];
-        let size = magnitude(weight) + lift(from <= signal);
-        if (2 <= bits[signal]) & (heavy < size) {
+    for i in 0..usize::from(wires[0]) {
+        let signal = usize::from(wires[1 + i]);
+        let weight = weights[1 + i];
+        let lift = if from <= signal { LIFT } else { 0 };
+        let size = weight.unsigned_abs() + lift;
+        if 2 <= held.bits[signal] && heavy < size {
             heavy = size;
-            best = Choice {
+            best = Some(Choice {
                 signal,
                 lit: (0 < weight) == lit,
-            };
+            });
         }
-        i = i + 1;
     }
     best
 }
 
 // The heaviest open feed of the gate with signal `own`, if the gate's bit is known and does not follow from its feeds yet.
-fn open_feed<'a>(
-    wires: &'a [u16; 17],
-    weights: &'a [i32; 17],
-    bits: &'a [u8; 296],
-    rests: &'a [u64; 296],
+fn open_feed(
+    wires: &[u16; 17],
+    weights: &[i32; 17],
+    held: &Held,
     own: usize,
     from: usize,
-) -> Choice
+) -> Option<Choice>
     requires summable { Summable wires.now weights.now }
     requires own_bound { own < 296 }
+    ensures { IfSome result (λ c. c.signal < 296) }
 {
-    let known = bits[own];
+    let known = held.bits[own];
     if 2 <= known {
-        return none();
+        return None;
     }
     let threshold = weights[0];
-    let ends = ends_of(wires, weights, bits, rests);
-    if (threshold <= ends.least) | (ends.most < threshold) {
-        return none();
+    let ends = ends_of(wires, weights, held);
+    if threshold <= ends.least || ends.most < threshold {
+        return None;
     }
-    heaviest(wires, weights, bits, known == 1, from)
+    heaviest(wires, weights, held, known == 1, from)
 }
 
 // The same for a listed gate; a number that is no gate's has no feed.
-fn listed_feed<'a>(
-    inputs: usize,
-    gates: usize,
-    wires: &'a [[u16; 17]; 256],
-    weights: &'a [[i32; 17]; 256],
-    bits: &'a [u8; 296],
-    rests: &'a [u64; 296],
-    g: usize,
-    from: usize,
-) -> Choice
-    requires { Ready (joint inputs gates wires.now weights.now) }
+fn listed_feed(joint: &Tables, held: &Held, g: usize, from: usize) -> Option<Choice>
+    requires { Ready (joint_of joint.now) }
+    ensures { IfSome result (λ c. c.signal < 296) }
 {
-    if gates <= g {
-        return none();
+    if joint.gates <= g {
+        return None;
     }
-    open_feed(&wires[g], &weights[g], bits, rests, inputs + g, from)
-}
-
-// Where the signals begin that come before others: at the first gate, or nowhere.
-fn first_signal(inputs: usize, gates_first: bool) -> usize {
-    if gates_first { inputs } else { 296 }
+    open_feed(
+        &joint.wires[g],
+        &joint.weights[g],
+        held,
+        joint.inputs + g,
+        from,
+    )
 }
 
 // The heaviest open feed of the first listed gate that has one to offer. `gates_first`: one that is a gate, if there is any.
-pub(crate) fn pick<'a>(
-    inputs: usize,
-    gates: usize,
-    wires: &'a [[u16; 17]; 256],
-    weights: &'a [[i32; 17]; 256],
-    list: &'a [u16; 256],
-    count: usize,
-    bits: &'a [u8; 296],
-    rests: &'a [u64; 296],
-    gates_first: bool,
-) -> Choice
-    requires { Ready (joint inputs gates wires.now weights.now) × (count ≤ 256) }
+pub(crate) fn pick(joint: &Tables, list: &[u16], held: &Held, gates_first: bool) -> Option<Choice>
+    requires { Ready (joint_of joint.now) }
+    ensures { IfSome result (λ c. c.signal < 296) }
 {
-    let from = first_signal(inputs, gates_first);
-    let mut spare = none();
-    let mut k: usize = 0;
-    while k < count {
-        let g = signal_index(list[k]);
-        let choice = listed_feed(inputs, gates, wires, weights, bits, rests, g, from);
-        let signal = choice.signal;
-        if (signal < 296) & (!gates_first | (from <= signal)) {
-            return choice;
+    let from = if gates_first { joint.inputs } else { 296 };
+    let mut spare = None;
+    for g in list {
+        if let Some(choice) = listed_feed(joint, held, usize::from(*g), from) {
+            if !gates_first || from <= choice.signal {
+                return Some(choice);
+            }
+            spare = spare.or(Some(choice));
         }
-        spare = first_of(spare, choice);
-        k = k + 1;
     }
     spare
 }
 
 // The frame with the inputs that are lit.
-pub(crate) fn frame_of(bits: &[u8; 296], inputs: usize) -> u64
+pub(crate) fn frame_of(held: &Held, inputs: usize) -> u64
     requires { inputs ≤ 40 }
 {
     let mut frame: u64 = 0;
-    let mut i: usize = 0;
-    while i < inputs {
-        if bits[i] == 1 {
-            frame = frame | (1 << i);
+    for i in 0..inputs {
+        if held.bits[i] == 1 {
+            frame |= 1 << i;
         }
-        i = i + 1;
     }
     frame
 }

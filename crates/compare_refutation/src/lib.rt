@@ -7,13 +7,28 @@ mod decisions;
 mod rules;
 pub mod unchecked;
 
-// What a refutation answers: 0 refuted, 1 a frame worth reading, 2 levels or budget spent; the frame, input i in bit i; and what is left of the
-// budget.
+// How a refutation ends: refuted; with a frame worth reading, input i in bit i; or with levels or budget spent.
+#[derive(Clone, Copy)]
+pub enum Ending {
+    Refuted,
+    Worth(u64),
+    Spent,
+}
+
+// What a refutation answers: how it ends, and what is left of the budget.
 #[derive(Clone, Copy)]
 pub struct Refutation {
-    pub code: u8,
-    pub frame: u64,
+    pub ending: Ending,
     pub left: u64,
+}
+
+// A partial assignment: a byte for each signal, 0 dark, 1 lit, any other open; and a word for each, with the decisions on which the byte rests, a bit
+// for each.
+// Kept: bytes, since a promise is stated over them (`compare_theory`: Allows, Extends, Rests).
+#[derive(Drop)]
+pub(crate) struct Held {
+    pub bits: [u8; 296],
+    pub rests: [u64; 296],
 }
 
 // The least and the greatest sum of a gate, and the decisions on which each rests: a bit for each decision.
@@ -25,14 +40,15 @@ pub(crate) struct Ends {
     pub down: u64,
 }
 
-// What a rule answers: 0 nothing moved, 1 a signal was set, 2 a contradiction, with the decisions on which it rests.
+// What a rule does: nothing, a signal is set, or it meets a contradiction, which rests on these decisions.
 #[derive(Clone, Copy)]
-pub(crate) struct Step {
-    pub code: u8,
-    pub why: u64,
+pub(crate) enum Step {
+    Still,
+    Moved,
+    Clash(u64),
 }
 
-// A signal to try, and the bit to try first; 296 is no signal.
+// A signal to try, and whether to try it lit first.
 #[derive(Clone, Copy)]
 pub(crate) struct Choice {
     pub signal: usize,

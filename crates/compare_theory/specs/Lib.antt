@@ -1,5 +1,6 @@
 pub mod Verdicts
 pub mod Joint
+pub mod Tables
 pub mod Spans
 pub mod SideBySide
 pub mod Wiring

@@ -4,7 +4,7 @@ use mathlib.Core.Bool.{Bool, true, false}
 use mathlib.Core.List.{List, [], ◌∷◌, ◌++◌, map}
 use Prim.Native.Nat.{ℕ, zero, suc, ◌+◌, ◌≤◌, ◌<◌}
 use native.Mathlib.Omega.{arith}
-use lib.IntN.{ℤ, pos}
+use lib.IntN.{ℤ}
 use lib.ListN.{length, get_or, take, set, replicate, length-map, length-append}
 use lib.Seq.{take_all}
 use Rattle.basics.specs.Lists.{Each}
@@ -17,11 +17,12 @@ use Rattle.network.specs.Limits.{signals_of}
 use Rattle.network.specs.Sound.{Sound}
 use Rattle.network.specs.LimitLaws.{gates_at, rise_below}
 use Rattle.network.specs.RecordLaws.{sound_net, count_gates, gate_within}
-use Rattle.network.specs.Record.{gate_of, net_of, layout, sound_record, no_feed, no_gate, nth_gate, drivers_of, gate_record}
-use Rattle.network.specs.Places.{GateStored, ArraysOf}
+use Rattle.network.specs.Record.{gate_of, net_of, layout, blank_record, sound_record, no_feed, no_gate, nth_gate, drivers_of, gate_record}
+use Rattle.network.specs.Places.{ArraysOf}
 use Rattle.network.specs.PlaceLaws.{changed_end, no_arrays, no_drivers, drivers_end}
 use Rattle.network.specs.declared.Network.{Network}
 use Rattle.network.specs.declared.GateRecord.{GateRecord}
+use Rattle.network_places.specs.Parts.{StoredIn}
 use Rattle.network_places.specs.StoreLaws.{stored_gates}
 use Rattle.cut_theory.specs.Cut.{picked, new_signal, renamed_feed, renamed_gate, cut_by}
 use Rattle.cut_theory.proofs.CopyLaws.{new_zero, picked_kept, picked_gone}
@@ -68,21 +69,46 @@ renamed_record f x e er =
 abbrev copies : Net → List Bool → ℕ → List Gate
 copies N ms g = map (renamed_gate (new_signal N.inputs ms)) (picked (take g ms) N.gates)
 
--- after g gates the arrays hold those that are marked, with new signals
-pub record Copied (N : Net) (ms : List Bool) (fanins signals : List ℕ) (weights thresholds : List ℤ) (kept g : ℕ) : Type 0 where
-  pub few : kept ≤ g
+-- after g gates the record of the cut holds those that are marked, with new signals, and one output, which names the signal driver
+pub record Copied (N : Net) (ms : List Bool) (driver : ℕ) (cut : Network) (g : ℕ) : Type 0 where
+  pub few : cut.gates ≤ g
   pub within : g ≤ length N.gates
   pub taken : List Gate
   pub taken_are : copies N ms g ≡ taken
-  pub many : length taken ≡ kept
-  pub arrays : ArraysOf taken fanins thresholds signals weights
+  pub many : length taken ≡ cut.gates
+  pub arrays : ArraysOf taken cut.fanins cut.thresholds cut.signals cut.weights
+  pub board_is : cut.board ≡ N.board
+  pub inputs_are : cut.inputs ≡ N.inputs
+  pub outputs_are : cut.outputs ≡ 1
+  pub drivers_are : cut.drivers ≡ set (replicate 16 0) 0 driver
 
-pub copied_none : (N : Net) (ms : List Bool) → Copied N ms (replicate 128 0) (replicate 2048 0) (replicate 2048 (pos 0)) (replicate 128 (pos 0)) 0 0
-unfolding picked
-copied_none N ms = record { few = omega arith; within = omega arith; taken = []; taken_are = refl; many = refl; arrays = no_arrays }
+pub copied_none : (N : Net) (ms : List Bool) (driver : ℕ) (blank : Network) → blank ≡ blank_record
+    → Copied N ms driver (record {
+      board = N.board;
+      inputs = N.inputs;
+      gates = blank.gates;
+      outputs = 1;
+      fanins = blank.fanins;
+      signals = blank.signals;
+      weights = blank.weights;
+      thresholds = blank.thresholds;
+      drivers = set blank.drivers 0 driver;
+    }) 0
+unfolding picked blank_record
+copied_none N ms driver blank e = rw e (record {
+  few = omega arith;
+  within = omega arith;
+  taken = [];
+  taken_are = refl;
+  many = refl;
+  arrays = no_arrays;
+  board_is = refl;
+  inputs_are = refl;
+  outputs_are = refl;
+  drivers_are = refl;
+})
 
-module _ {N : Net} {ms : List Bool} {fanins signals : List ℕ} {weights thresholds : List ℤ} {kept g : ℕ}
-    (c : Copied N ms fanins signals weights thresholds kept g) where
+module _ {N : Net} {ms : List Bool} {driver : ℕ} {cut : Network} {g : ℕ} (c : Copied N ms driver cut g) where
   abbrev f : ℕ → ℕ
   f = new_signal N.inputs ms
 
@@ -90,7 +116,7 @@ module _ {N : Net} {ms : List Bool} {fanins signals : List ℕ} {weights thresho
   next = ap (copies N ms) (let p : g + 1 ≡ suc g = omega arith in p)
 
   -- gate g is passed over
-  pub copied_gone : g < length N.gates → get_or ms g false ≡ false → Copied N ms fanins signals weights thresholds kept (g + 1)
+  pub copied_gone : g < length N.gates → get_or ms g false ≡ false → Copied N ms driver cut (g + 1)
   copied_gone h e = record {
     few = omega (arith, c.few);
     within = omega arith;
@@ -98,56 +124,65 @@ module _ {N : Net} {ms : List Bool} {fanins signals : List ℕ} {weights thresho
     taken_are = next ∙ ap (map (renamed_gate f)) (picked_gone g ms N.gates e) ∙ c.taken_are;
     many = c.many;
     arrays = c.arrays;
+    board_is = c.board_is;
+    inputs_are = c.inputs_are;
+    outputs_are = c.outputs_are;
+    drivers_are = c.drivers_are;
   }
 
   -- gate g, which is x, is stored with new signals
-  pub copied_more : {x : Gate} {gate : GateRecord} {fanins' signals' : List ℕ} {weights' thresholds' : List ℤ} → g < length N.gates → g < 128
+  pub copied_more : {x : Gate} {gate : GateRecord} {new : Network} → g < length N.gates → g < 128
       → get_or ms g false ≡ true → get_or N.gates g no_gate ≡ x → gate ≡ gate_record (renamed_gate (new_signal N.inputs ms) x)
-      → GateStored kept gate fanins thresholds signals weights fanins' thresholds' signals' weights'
-      → Copied N ms fanins' signals' weights' thresholds' (kept + 1) (g + 1)
-  copied_more {x} {gate} h l on here e st =
+      → StoredIn cut.gates gate cut new
+      → Copied N ms driver (record {
+        board = new.board;
+        inputs = new.inputs;
+        gates = new.gates + 1;
+        outputs = new.outputs;
+        fanins = new.fanins;
+        signals = new.signals;
+        weights = new.weights;
+        thresholds = new.thresholds;
+        drivers = new.drivers;
+      }) (g + 1)
+  copied_more {x} {gate} {new} h l on here e st =
       let gs = c.taken in
       let y = renamed_gate f x in
       let before = picked (take g ms) N.gates in
-      let new = picked_kept no_gate g ms N.gates h on ∙ ap (λ (z : Gate). before ++ (z ∷ [])) here in
+      let kept = picked_kept no_gate g ms N.gates h on ∙ ap (λ (z : Gate). before ++ (z ∷ [])) here in
+      let gates_same : new.gates ≡ cut.gates = ap (λ (n : Network). n.gates) st.rest in
       record {
-        few = omega (arith, c.few);
+        few = omega (arith, c.few, gates_same);
         within = omega arith;
         taken = gs ++ (y ∷ []);
-        taken_are = next ∙ ap (map (renamed_gate f)) new ∙ map_last (renamed_gate f) before x ∙ ap (λ (zs : List Gate). zs ++ (y ∷ [])) c.taken_are;
-        many = length-append gs (y ∷ []) ∙ ap (λ (n : ℕ). n + 1) c.many;
-        arrays = stored_gates (changed_end gs kept y c.many) (omega (arith, c.few)) c.arrays (rw e at st);
+        taken_are = next ∙ ap (map (renamed_gate f)) kept ∙ map_last (renamed_gate f) before x ∙ ap (λ (zs : List Gate). zs ++ (y ∷ [])) c.taken_are;
+        many = length-append gs (y ∷ []) ∙ ap (λ (n : ℕ). n + 1) (c.many ∙ sym gates_same);
+        arrays = stored_gates (changed_end gs cut.gates y c.many) (omega (arith, c.few)) c.arrays (rw e at st.arrays);
+        board_is = ap (λ (n : Network). n.board) st.rest ∙ c.board_is;
+        inputs_are = ap (λ (n : Network). n.inputs) st.rest ∙ c.inputs_are;
+        outputs_are = ap (λ (n : Network). n.outputs) st.rest ∙ c.outputs_are;
+        drivers_are = ap (λ (n : Network). n.drivers) st.rest ∙ c.drivers_are;
       }
 
   -- all gates were looked at
-  pub copied_all : (d d' : ℕ) → length ms ≡ length N.gates → length N.gates ≤ g → d' ≡ new_signal N.inputs ms d → ◌≡◌ {A = Network} (record {
-    board = N.board;
-    inputs = N.inputs;
-    gates = kept;
-    outputs = 1;
-    fanins = fanins;
-    signals = signals;
-    weights = weights;
-    thresholds = thresholds;
-    drivers = set (replicate 16 0) 0 d';
-  }) (layout (cut_by N ms d))
+  pub copied_all : (d : ℕ) → length ms ≡ length N.gates → length N.gates ≤ g → driver ≡ new_signal N.inputs ms d → cut ≡ layout (cut_by N ms d)
   unfolding layout cut_by
-  copied_all d d' long h e =
+  copied_all d long h e =
       let whole : c.taken ≡ map (renamed_gate f) (picked ms N.gates) =
       sym c.taken_are ∙ ap (λ (l : List Bool). map (renamed_gate f) (picked l N.gates)) (take_all g ms (omega arith)) in
-      let one : set (replicate 16 0) 0 d' ≡ drivers_of (f d ∷ []) =
-      ap (λ (ds : List ℕ). set ds 0 d') (sym no_drivers) ∙ sym (drivers_end [] 0 d' refl (omega arith)) ∙ ap (λ (s : ℕ). drivers_of (s ∷ [])) e in
-      let arrays = subst (λ (gs : List Gate). ArraysOf gs fanins thresholds signals weights) whole c.arrays in
+      let one : set (replicate 16 0) 0 driver ≡ drivers_of (f d ∷ []) =
+      ap (λ (ds : List ℕ). set ds 0 driver) (sym no_drivers) ∙ sym (drivers_end [] 0 driver refl (omega arith)) ∙ ap (λ (s : ℕ). drivers_of (s ∷ [])) e in
+      let arrays = subst (λ (gs : List Gate). ArraysOf gs cut.fanins cut.thresholds cut.signals cut.weights) whole c.arrays in
       λ x. record {
-        board = N.board;
-        inputs = N.inputs;
+        board = c.board_is x;
+        inputs = c.inputs_are x;
         gates = (sym c.many ∙ ap length whole) x;
-        outputs = 1;
+        outputs = c.outputs_are x;
         fanins = arrays.fanins_are x;
         signals = arrays.signals_are x;
         weights = arrays.weights_are x;
         thresholds = arrays.thresholds_are x;
-        drivers = one x;
+        drivers = (c.drivers_are ∙ one) x;
       }
 
 -- ---- the gates of a sound record

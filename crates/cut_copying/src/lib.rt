@@ -1,4 +1,4 @@
-// The marked gates of a network copied into the arrays of a new one. Its call asks for what `unchecked` says.
+// The marked gates of a network copied into a new one. Its call asks for what `unchecked` says.
 #![tactic(auto)]
 
 pub mod unchecked;

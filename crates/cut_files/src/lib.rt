@@ -28,6 +28,6 @@ pub fn cut_file(file: &[u8], output: u64, out: &mut [u8], answer: &mut [u64]) ->
     if outputs as u64 <= output {
         return 8;
     }
-    let pin = cut_sound(read.network, output as usize);
+    let pin = cut_sound(&read.network, output as usize);
     put_file(pin, out, answer)
 }

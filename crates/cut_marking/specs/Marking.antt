@@ -36,10 +36,10 @@ module _ (fanins signals : List ℕ) (inputs : ℕ) where
     pub closed : Closed (g + 1) after
     pub above : (h : ℕ) → g < h → get_or after h false ≡ get_or before h false
 
-  -- the gates behind the first `left` feeds of gate g are marked with all that they need; neither g's mark nor one above it changes
-  pub record FeedsMarked (g left : ℕ) (before after : List Bool) : Type 0 where
+  -- the gates behind the feeds of gate g from feed i on are marked with all that they need; neither g's mark nor one above it changes
+  pub record FeedsMarked (g i : ℕ) (before after : List Bool) : Type 0 where
     pub grown : Grown g before after
-    pub here : (h : ℕ) (b : BehindFeed g h) → b.feed < left → IsMarked after h
+    pub here : (h : ℕ) (b : BehindFeed g h) → i ≤ b.feed → IsMarked after h
     pub closed : Closed g after
     pub above : (h : ℕ) → g ≤ h → get_or after h false ≡ get_or before h false
 

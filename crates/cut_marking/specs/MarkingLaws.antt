@@ -45,10 +45,6 @@ module _ {fanins signals : List ℕ} {inputs : ℕ} where
   }
 
   -- ---- a gate
-  pub marked_already : (g : ℕ) (marks : List Bool) → IsMarked marks g
-      → Closed fanins signals inputs (g + 1) marks → GateMarked fanins signals inputs g marks marks
-  marked_already g marks o c = record { grown = grown_none g marks; here = o; closed = c; above = λ h l. refl }
-
   -- gate g gets its mark before its feeds are gone into
   pub closed_entered : (g : ℕ) (marks : List Bool) → g < length marks → Closed fanins signals inputs (g + 1) marks
       → Closed fanins signals inputs g (set marks g true)
@@ -65,61 +61,65 @@ module _ {fanins signals : List ℕ} {inputs : ℕ} where
     ];
   }
 
-  pub gate_marked : (g : ℕ) (marks after : List Bool) → g < length marks → FeedsMarked fanins signals inputs g (get_or fanins g 0) (set marks g true) after
+  pub gate_marked : (g : ℕ) (marks after : List Bool) → g < length marks → FeedsMarked fanins signals inputs g 0 (set marks g true) after
       → GateMarked fanins signals inputs g marks after
   gate_marked g marks after l f = record {
     grown = grown_then (entered_grown g marks l) f.grown;
     here = f.above g (omega arith) ∙ get_or-set_same marks g true false l;
     closed = record {
       all_feeds = λ v h k o b. elim (ℕ_discrete v g) as (λ d. IsMarked after h) [
-        | yes e ↦ let b' = subst (λ (n : ℕ). BehindFeed fanins signals inputs n h) e b in f.here h b' b'.used
+        | yes e ↦ let b' = subst (λ (n : ℕ). BehindFeed fanins signals inputs n h) e b in f.here h b' (omega arith)
         | no n ↦ f.closed.all_feeds v h (omega arith) o b
       ];
     };
     above = λ h k. f.above h (omega arith) ∙ get_or-set_other marks g h true false (λ e. omega arith);
   }
 
-  -- ---- a gate's feeds
-  pub no_feeds : (g left : ℕ) (marks : List Bool) → left ≡ 0 → Closed fanins signals inputs g marks → FeedsMarked fanins signals inputs g left marks marks
-  no_feeds g left marks e c = record { grown = grown_none g marks; here = λ h b l. absurd (omega arith); closed = c; above = λ h l. refl }
+  -- ---- a gate's feeds, the highest first
+  pub no_feeds : (g i : ℕ) (marks : List Bool) → get_or fanins g 0 ≤ i → Closed fanins signals inputs g marks → FeedsMarked fanins signals inputs g i marks marks
+  no_feeds g i marks e c = record {
+    grown = grown_none g marks;
+    here = λ h b l. let u = b.used in absurd (omega arith);
+    closed = c;
+    above = λ h l. refl;
+  }
 
-  -- the last feed is an input
-  pub input_passed : {g left rest : ℕ} {marks after : List Bool} → left ≡ rest + 1 → get_or signals (16 * g + rest) 0 < inputs
-      → FeedsMarked fanins signals inputs g rest marks after → FeedsMarked fanins signals inputs g left marks after
-  input_passed {g} {left} {rest} {marks} {after} e l f = record {
+  -- the next feed is an input
+  pub input_passed : {g i j : ℕ} {marks after : List Bool} → i ≡ j + 1 → get_or signals (16 * g + j) 0 < inputs
+      → FeedsMarked fanins signals inputs g i marks after → FeedsMarked fanins signals inputs g j marks after
+  input_passed {g} {i} {j} {marks} {after} e s f = record {
     grown = f.grown;
-    here = λ h b k. elim (ℕ_discrete b.feed rest) as (λ d. IsMarked after h) [
-      | yes x ↦ absurd (let y = ap (λ (n : ℕ). get_or signals (16 * g + n) 0) (sym x) ∙ b.there in omega (arith, y))
+    here = λ h b l. elim (ℕ_discrete b.feed j) as (λ d. IsMarked after h) [
+      | yes x ↦ let y = ap (λ (n : ℕ). get_or signals (16 * g + n) 0) (sym x) ∙ b.there in absurd (omega arith)
       | no n ↦ f.here h b (omega arith)
     ];
     closed = f.closed;
     above = f.above;
   }
 
-  -- the last feed is gate k's: what is marked for k keeps the lower gates closed, and then the other feeds follow
-  pub closed_after : {g k : ℕ} {marks mid : List Bool} → k < g → Closed fanins signals inputs g marks → GateMarked fanins signals inputs k marks mid
-      → Closed fanins signals inputs g mid
-  closed_after {g} {k} {marks} {mid} l c m = record {
-    all_feeds = λ v h j o b. elim (dec_lt k v) as (λ d. IsMarked mid h) [
+  -- the next feed is gate k's: what is marked for k keeps the lower gates closed
+  closed_after : {g k : ℕ} {mid after : List Bool} → k < g → Closed fanins signals inputs g mid → GateMarked fanins signals inputs k mid after
+      → Closed fanins signals inputs g after
+  closed_after {g} {k} {mid} {after} l c m = record {
+    all_feeds = λ v h j o b. elim (dec_lt k v) as (λ d. IsMarked after h) [
       | yes x ↦ m.grown.kept h (c.all_feeds v h j (sym (m.above v x) ∙ o) b)
       | no x ↦ m.closed.all_feeds v h (omega arith) o b
     ];
   }
 
-  pub gate_entered : {g k left rest : ℕ} {marks mid after : List Bool} → left ≡ rest + 1 → left ≤ get_or fanins g 0
-      → get_or signals (16 * g + rest) 0 ≡ inputs + k → k < g
-      → GateMarked fanins signals inputs k marks mid → FeedsMarked fanins signals inputs g rest mid after → FeedsMarked fanins signals inputs g left marks after
-  gate_entered {g} {k} {left} {rest} {marks} {mid} {after} e u s l m f = record {
-    grown = grown_then (grown_behind (record { feed = rest; used = omega arith; there = s }) m.grown) f.grown;
-    here = λ h b j. elim (ℕ_discrete b.feed rest) as (λ d. IsMarked after h) [
+  pub gate_entered : {g k i j : ℕ} {marks mid after : List Bool} → i ≡ j + 1 → j < get_or fanins g 0 → get_or signals (16 * g + j) 0 ≡ inputs + k → k < g
+      → FeedsMarked fanins signals inputs g i marks mid → GateMarked fanins signals inputs k mid after → FeedsMarked fanins signals inputs g j marks after
+  gate_entered {g} {k} {i} {j} {marks} {mid} {after} e u s l f m = record {
+    grown = grown_then f.grown (grown_behind (record { feed = j; used = u; there = s }) m.grown);
+    here = λ h b q. elim (ℕ_discrete b.feed j) as (λ d. IsMarked after h) [
       | yes x ↦
           let y = ap (λ (n : ℕ). get_or signals (16 * g + n) 0) (sym x) ∙ b.there in
           let same : k ≡ h = omega (arith, y) in
-          f.grown.kept h (subst (IsMarked mid) same m.here)
-      | no n ↦ f.here h b (omega arith)
+          subst (IsMarked after) same m.here
+      | no n ↦ m.grown.kept h (f.here h b (omega arith))
     ];
-    closed = f.closed;
-    above = λ h j. f.above h j ∙ m.above h (omega arith);
+    closed = closed_after l f.closed m;
+    above = λ h q. m.above h (omega arith) ∙ f.above h q;
   }
 
   -- ---- all that a gate needs

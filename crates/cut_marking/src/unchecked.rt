@@ -1,70 +1,37 @@
 // From a gate one goes to its feeds, and from each feed to the gate behind it. The marks go by value, one for each gate, and the
-// record's arrays are lent. A gate that is marked is not gone into again, and a gate's highest feed is tried first, so that at most
-// about two calls for each gate are under way at a time.
-ghost use Rattle.std.specs.Prelude.{◌+◌, ◌≤◌, ◌<◌, get_or};
+// network is lent. A gate that is marked is not gone into again, so that at most one call for each gate is under way at a time, and a
+// gate's highest feed is tried first.
+ghost use Rattle.std.specs.Prelude.{◌+◌, ◌<◌};
 ghost use Rattle.cut_marks.specs.Marks.{marks_of};
-ghost use Rattle.cut_marking.specs.Marking.{Wired, Closed, GateMarked, FeedsMarked, Needed};
+ghost use Rattle.cut_marking.specs.Marking.{Wired, Closed, GateMarked, Needed};
 
-use basics::wide;
 use cut_marks::Marks;
-use cut_marks::unchecked::{is_marked, with_mark};
+use network::Network;
 
 // The marks with gate g and every gate that it needs.
-#[cycle(mark_feeds_mark_gate)]
-pub fn mark_gate<'a>(
-    fanins: &'a [u8; 128],
-    signals: &'a [u8; 2048],
-    inputs: usize,
-    marks: Marks,
-    g: usize,
-) -> Marks
-    requires { (g < 128) × Wired fanins.now signals.now inputs (g + 1) × Closed fanins.now signals.now inputs (g + 1) (marks_of marks) }
-    ensures { GateMarked fanins.now signals.now inputs g (marks_of marks) (marks_of result) }
+fn mark_gate(network: &Network, marks: Marks, g: usize) -> Marks
+    requires { (g < 128)
+        × Wired network.now.fanins network.now.signals network.now.inputs (g + 1)
+        × Closed network.now.fanins network.now.signals network.now.inputs (g + 1) (marks_of marks) }
+    ensures { GateMarked network.now.fanins network.now.signals network.now.inputs g (marks_of marks) (marks_of result) }
 {
-    if is_marked(marks, g) {
+    if marks.has(g) {
         return marks;
     }
-    let entered = with_mark(marks, g);
-    let count = wide(fanins[g]);
-    mark_feeds(fanins, signals, inputs, entered, g, count)
-}
-
-// The marks with the gates behind the first `left` feeds of gate g, the highest first, and every gate that they need.
-#[cycle(mark_feeds_mark_gate)]
-pub fn mark_feeds<'a>(
-    fanins: &'a [u8; 128],
-    signals: &'a [u8; 2048],
-    inputs: usize,
-    marks: Marks,
-    g: usize,
-    left: usize,
-) -> Marks
-    requires { (g < 128) × (left ≤ get_or fanins.now g 0) × Wired fanins.now signals.now inputs (g + 1)
-        × Closed fanins.now signals.now inputs g (marks_of marks) }
-    ensures { FeedsMarked fanins.now signals.now inputs g left (marks_of marks) (marks_of result) }
-{
-    if left == 0 {
-        return marks;
+    let mut marked = marks.with(g);
+    for i in (0..usize::from(network.fanins[g])).rev() {
+        let signal = usize::from(network.signals[16 * g + i]);
+        if network.inputs <= signal {
+            marked = mark_gate(network, marked, signal - network.inputs);
+        }
     }
-    let rest = left - 1;
-    let signal = wide(signals[16 * g + rest]);
-    if signal < inputs {
-        return mark_feeds(fanins, signals, inputs, marks, g, rest);
-    }
-    let marked = mark_gate(fanins, signals, inputs, marks, signal - inputs);
-    mark_feeds(fanins, signals, inputs, marked, g, rest)
+    marked
 }
 
 // Gate g and every gate that it needs, marked.
-pub fn needed_gates<'a>(
-    fanins: &'a [u8; 128],
-    signals: &'a [u8; 2048],
-    inputs: usize,
-    g: usize,
-) -> Marks
-    requires { (g < 128) × Wired fanins.now signals.now inputs (g + 1) }
-    ensures { Needed fanins.now signals.now inputs g (marks_of result) }
+pub fn needed_gates(network: &Network, g: usize) -> Marks
+    requires { (g < 128) × Wired network.now.fanins network.now.signals network.now.inputs (g + 1) }
+    ensures { Needed network.now.fanins network.now.signals network.now.inputs g (marks_of result) }
 {
-    let marks = Marks { low: 0, high: 0 };
-    mark_gate(fanins, signals, inputs, marks, g)
+    mark_gate(network, Marks::none(), g)
 }

@@ -1,8 +1,8 @@
--- Marks as the bits of two words: no mark at first, the mark of a gate, and a mark more. Assumes nothing.
-use Rattle.std.specs.Prelude.{◌≡◌, Bool, ◌≢◌, ℕ, zero, suc, ◌+◌, ◌*◌, ◌-◌, ◌/◌, ◌%◌, ◌^◌, ◌≤◌, ◌<◌, eqb, ltb, get_or, set, length, replicate}
+-- Marks as the bits of a word: no mark at first, the mark of a gate, and a mark more. Assumes nothing.
+use Rattle.std.specs.Prelude.{◌≡◌, ◌≢◌, ℕ, zero, suc, ◌+◌, ◌*◌, ◌-◌, ◌/◌, ◌%◌, ◌^◌, ◌<◌, eqb, get_or, set, length, replicate}
 use Rattle.std.proofs.Math.Path.{refl}
-use Rattle.std.proofs.Common.{sym, ap, ◌∙◌, one-mul, mul_assoc, mod-lt, arith, lt-ltb, le-ltb, pow-add, shl_exact}
-use Rattle.std.proofs.Math.Bool.{true, false, cond}
+use Rattle.std.proofs.Common.{sym, ap, ◌∙◌, one-mul, mul_assoc, mod-lt, arith, pow-add, shl_exact}
+use Rattle.std.proofs.Math.Bool.{true, false}
 use Rattle.std.proofs.Math.Nat.{div-eq_of_lt}
 use Rattle.std.proofs.Math.Decide.{dec_lt}
 use Rattle.std.specs.Int.Bits.{bit_or, or_zero_r, shifted_even}
@@ -56,48 +56,22 @@ kept_bit x g i n =
 
 -- ---- marks
 
--- the mark of gate g
-abbrev mark : Marks → ℕ → Bool
-mark m g = cond (ltb g 64) (frame m.low g) (frame m.high (g - 64))
-
 -- there are 128, and none is set at first
 pub length_marks : (m : Marks) → length (marks_of m) ≡ 128
 unfolding marks_of
-length_marks m = length_tab 128 (mark m)
+length_marks m = length_tab 128 (frame m.bits)
 
-pub blank_marks : marks_of (record { low = 0; high = 0 }) ≡ replicate 128 false
+pub blank_marks : marks_of (record { bits = 0 }) ≡ replicate 128 false
 unfolding marks_of frame range
 blank_marks = refl
 
 -- in its word
-module _ (m : Marks) (g : ℕ) where
-  pub mark_low : g < 64 → get_or (marks_of m) g false ≡ eqb (m.low / 2 ^ g % 2) 1
-  unfolding marks_of frame
-  mark_low h = get_or_tab false 128 (mark m) g (omega arith) ∙ rw (lt-ltb g 64 h)
+pub mark_at : (m : Marks) (g : ℕ) → g < 128 → get_or (marks_of m) g false ≡ eqb (m.bits / 2 ^ g % 2) 1
+unfolding marks_of frame
+mark_at m g h = get_or_tab false 128 (frame m.bits) g h
 
-  pub mark_high : 64 ≤ g → g < 128 → get_or (marks_of m) g false ≡ eqb (m.high / 2 ^ (g - 64) % 2) 1
-  unfolding marks_of frame
-  mark_high h k = get_or_tab false 128 (mark m) g k ∙ rw (le-ltb g 64 h)
-
-  -- with that mark
-  pub more_low : g < 64 → marks_of (record { low = bit_or m.low (1 * 2 ^ g % 2 ^ 64); high = m.high }) ≡ set (marks_of m) g true
-  unfolding marks_of
-  more_low h =
-      let m' : Marks = record { low = bit_or m.low (1 * 2 ^ g); high = m.high } in
-      rw (shl_exact {a = 1} 1 g 64 (omega arith) (omega arith))
-      (tab_set false 128 g (mark m') (mark m) true (omega arith) (rw (lt-ltb g 64 h) (set_bit m.low g))
-      λ i n. elim (ltb i 64) as (λ b. cond b (frame m'.low i) (frame m.high (i - 64)) ≡ cond b (frame m.low i) (frame m.high (i - 64))) [
-        | true ↦ kept_bit m.low g i n
-        | false ↦ refl
-      ])
-
-  pub more_high : 64 ≤ g → g < 128 → marks_of (record { low = m.low; high = bit_or m.high (1 * 2 ^ (g - 64) % 2 ^ 64) }) ≡ set (marks_of m) g true
-  unfolding marks_of
-  more_high h k =
-      let m' : Marks = record { low = m.low; high = bit_or m.high (1 * 2 ^ (g - 64)) } in
-      rw (shl_exact {a = 1} 1 (g - 64) 64 (omega arith) (omega arith))
-      (tab_set false 128 g (mark m') (mark m) true k (rw (le-ltb g 64 h) (set_bit m.high (g - 64)))
-      λ i n. elim (dec_lt i 64) as (λ d. mark m' i ≡ mark m i) [
-        | yes l ↦ rw (lt-ltb i 64 l)
-        | no l ↦ rw (le-ltb i 64 (omega arith)) (kept_bit m.high (g - 64) (i - 64) (λ e. n (omega arith)))
-      ])
+-- with that mark
+pub more_marks : (m : Marks) (g : ℕ) → g < 128 → marks_of (record { bits = bit_or m.bits (1 * 2 ^ g % 2 ^ 128) }) ≡ set (marks_of m) g true
+unfolding marks_of
+more_marks m g h = rw (shl_exact {a = 1} 1 g 128 (omega arith) (omega arith))
+    (tab_set false 128 g (frame (bit_or m.bits (1 * 2 ^ g))) (frame m.bits) true h (set_bit m.bits g) λ i n. kept_bit m.bits g i n)

@@ -33,7 +33,7 @@ pub fn cut(held: Record, output: usize) -> CutAnswer
             after: held,
         };
     }
-    let network = cut_sound(held.network, output);
+    let network = cut_sound(&held.network, output);
     let after = journal::just_read(network);
     CutAnswer { code: 0, after }
 }

@@ -1,14 +1,13 @@
 -- Records with some of their gates merged: what the loop over the readers has after so many gates. Assumes nothing.
 use mathlib.Core.Path.{◌≡◌, refl, sym, ap, ap₂, ◌∙◌, subst}
 use mathlib.Core.Bool.{true, false, cond}
-use mathlib.Core.List.{List, map}
+use mathlib.Core.List.{map}
 use mathlib.Core.Logic.{◌≢◌}
 use Prim.Native.Nat.{ℕ, zero, suc, ◌+◌, ◌-◌, ◌≤◌, ◌<◌}
 use native.Mathlib.Decide.{dec_lt}
 use native.Mathlib.Omega.{arith}
 use borrow.Author.Tests.{lt-ltb, le-ltb}
 use lib.Dec.{T, ltb}
-use lib.IntN.{ℤ}
 use lib.ListN.{length, get_or, set}
 use Rattle.basics.specs.Lists.{range, tab, all}
 use Rattle.basics.specs.TestLaws.{is_true, T_is}
@@ -20,25 +19,26 @@ use Rattle.network.specs.Limits.{is_gate, keeps}
 use Rattle.network.specs.SoundLaws.{sound_board}
 use Rattle.network.specs.Record.{gate_of, net_of, layout, no_gate, nth_gate, sound_record, gate_record}
 use Rattle.network.specs.Changes.{with_gates, without}
-use Rattle.network.specs.Places.{GateStored, SoundGate}
+use Rattle.network.specs.Places.{SoundGate}
 use Rattle.basics.specs.TableLaws.{tab_set}
 use Rattle.network.specs.RecordLaws.{ArrayLengths, shaped_layout, net_of_layout, layout_net_of, count_gates, gate_within, gate_number, sound_net, sound_layout}
-use Rattle.network_places.specs.StoreLaws.{with_arrays, stored_record}
+use Rattle.network_places.specs.Parts.{StoredIn}
+use Rattle.network_places.specs.StoreLaws.{stored_record}
 use Rattle.network.specs.declared.Network.{Network}
-use Rattle.network.specs.declared.GateRecord.{GateRecord}
 use Rattle.fold_theory.specs.Merge.{Edge, edge_of, reads, merged, narrow}
 use Rattle.fold_theory.specs.Pair.{qualifies}
 use Rattle.fold_theory.proofs.SoundLaws.{resized_sound}
-use Rattle.pair_theory.specs.Alignments.{alignment_of, merged_of, Mergeable}
+use Rattle.pair_theory.specs.Alignments.{alignment_of, merged_of}
 use Rattle.fold_reader_pairs.specs.declared.Pairs.{Pairs}
-use Rattle.fold_readers.specs.Arrays.{SoundArrays}
+use Rattle.fold_readers.specs.Arrays.{SoundGates}
 use Rattle.fold_readers.specs.ArrayLaws.{lent_of, lent_gate}
-use Rattle.fold_edges.specs.Edges.{edge_in, GateReads}
+use Rattle.fold_edges.specs.Edges.{edge_at, ReadsIn}
 use Rattle.fold_edges.specs.EdgeLaws.{joined_ok}
 use Rattle.fold_merge.specs.AlignedLaws.{qualified_mergeable, merged_of_is}
 use Rattle.fold_reader_pairs.specs.Collapsing.{edge_to, with_pair, pair_at, AllPairs, gates_with_pairs, collapsed_by}
 use Rattle.fold_reader_pairs.specs.CollapsingLaws.{own_silent, Merges, pair_merges, with_pair_zero, with_pair_silent, with_pair_merged}
 use Rattle.fold_reader_pairs.specs.CollapsingLaws.{gate_collapsed_ok, gate_collapsed_keeps}
+use Rattle.fold_collapse.specs.Merging.{MergesIn}
 
 -- ---- gates of which the first are new
 
@@ -176,11 +176,15 @@ module _ (r : Network) (u : ℕ) (p : Pairs) (s : SoundGate r u) (found : AllPai
     pub part_shape : ArrayLengths c
     part_shape = subst ArrayLengths (sym same) (shaped_layout (part_net r u p done))
 
+    part_board : c.board ≡ r.board
+    unfolding net_of
+    part_board = ap (λ (N : Net). N.board) part_net_lem
+
     part_inputs : c.inputs ≡ r.inputs
     unfolding net_of
     part_inputs = ap (λ (N : Net). N.inputs) part_net_lem
 
-    part_gates : c.gates ≡ r.gates
+    pub part_gates : c.gates ≡ r.gates
     part_gates = sym (count_gates c) ∙ ap (λ (N : Net). length N.gates) part_net_lem ∙ length_tab r.gates (mixed (gate_of r) (with_pair_in r u p) done)
 
     part_gate : (g : ℕ) → g < r.gates → gate_of c g ≡ mixed (gate_of r) (with_pair_in r u p) done g
@@ -201,24 +205,21 @@ module _ (r : Network) (u : ℕ) (p : Pairs) (s : SoundGate r u) (found : AllPai
     unfolding collapsed_by
     part_left e = ap (λ (N : Net). layout (without N u)) (part_net_lem ∙ ap (part_net r u p) e ∙ part_all)
 
-    -- its arrays, and gates u and done in them
-    pub part_lent : SoundArrays c.fanins c.thresholds c.signals c.weights r.inputs r.gates
-    part_lent = subst (λ n. SoundArrays c.fanins c.thresholds c.signals c.weights n r.gates) part_inputs
-        (subst (λ n. SoundArrays c.fanins c.thresholds c.signals c.weights c.inputs n) part_gates (lent_of c (T_is (sound_record c) part_record)))
+    -- its gates, and gates u and done of them
+    part_lent : SoundGates c
+    part_lent = lent_of c (T_is (sound_record c) part_record)
 
-    part_edge : done < r.gates
-        → edge_in r.board c.fanins c.thresholds c.signals c.weights r.inputs u (r.inputs + done)
-        ≡ edge_to r.board (gate_of r) r.inputs u done
-    part_edge h = ap₂ (edge_of r.board u (r.inputs + done))
+    part_edge : done < r.gates → edge_at c u (c.inputs + done) ≡ edge_to r.board (gate_of r) r.inputs u done
+    part_edge h = rw (part_board, part_inputs) (ap₂ (edge_of r.board u (r.inputs + done))
         (part_gate (u - r.inputs) at.1
         ∙ mixed_case (gate_of r) (with_pair_in r u p) (λ y. y ≡ gate_of r (u - r.inputs)) done (u - r.inputs) own_collapsed refl)
         (ap (gate_of c) (let e : r.inputs + done - r.inputs ≡ done = omega arith in e) ∙ part_gate done h
-        ∙ mixed_old (gate_of r) (with_pair_in r u p) done done (omega arith))
+        ∙ mixed_old (gate_of r) (with_pair_in r u p) done done (omega arith)))
 
     module _ (within : done < r.gates) (reader : get_or p.ks done 0 ≢ 0) where
-      -- gates u and done as they stand in the arrays, and as they were
+      -- gates u and done as they stand in the record, and as they were
       abbrev now_edge : Edge
-      now_edge = edge_in r.board c.fanins c.thresholds c.signals c.weights r.inputs u (r.inputs + done)
+      now_edge = edge_at c u (c.inputs + done)
 
       abbrev was_edge : Edge
       was_edge = edge_to r.board (gate_of r) r.inputs u done
@@ -226,40 +227,43 @@ module _ (r : Network) (u : ℕ) (p : Pairs) (s : SoundGate r u) (found : AllPai
       merging : Merges was_edge (pair_at p done)
       merging = pair_merges was_edge (pair_at p done) (found.each done within) reader
 
-      -- what a merge asks
-      pub part_joined : GateReads c.fanins c.thresholds c.signals c.weights r.inputs r.gates u (r.inputs + done)
+      part_joined : ReadsIn c u (c.inputs + done)
       part_joined = record {
-        u_gate = (at.0, omega (arith, at));
-        v_gate = (omega arith, omega arith);
+        u_gate = (omega (arith, at, part_inputs), omega (arith, at, part_inputs, part_gates));
+        v_gate = (omega arith, omega (arith, part_gates));
         joined = subst (λ (e : Edge). T (reads e.u e.gate_v)) (sym (part_edge within)) merging.reader;
       }
 
       part_narrow : T (narrow now_edge)
       part_narrow = subst (λ (e : Edge). T (narrow e)) (sym (part_edge within)) merging.few
 
-      -- their merged gate can be made, and is made of the aligned gates
-      pub part_mergeable : Mergeable (alignment_of now_edge) (pair_at p done).k (pair_at p done).l
-      part_mergeable =
-          qualified_mergeable now_edge (joined_ok part_lent part_joined (sound_board r s.sound)) (pair_at p done).k (pair_at p done).l part_narrow
-          (subst (λ (e : Edge). T (qualifies e (pair_at p done))) (sym (part_edge within)) merging.qualified)
+      -- what a merge asks: the merged gate can be made
+      pub part_merges : MergesIn c u done (get_or p.ks done 0) (get_or p.ls done 0)
+      part_merges = record {
+        lent = part_lent;
+        joined = part_joined;
+        board_ok_lem = sound_board c part_record;
+        mergeable = qualified_mergeable now_edge (joined_ok part_lent part_joined (sound_board c part_record)) (pair_at p done).k (pair_at p done).l part_narrow
+            (subst (λ (e : Edge). T (qualifies e (pair_at p done))) (sym (part_edge within)) merging.qualified);
+        place = omega (arith, at);
+      }
 
-      pub part_made : gate_record (merged_of (alignment_of now_edge) (pair_at p done).k (pair_at p done).l)
-          ≡ gate_record (merged now_edge (pair_at p done).k (pair_at p done).l)
-      part_made = merged_of_is now_edge (joined_ok part_lent part_joined (sound_board r s.sound)) (pair_at p done).k (pair_at p done).l part_narrow
+      -- it is what becomes of gate done
+      part_made : gate_record (merged_of (alignment_of now_edge) (pair_at p done).k (pair_at p done).l) ≡ gate_record (with_pair_in r u p done)
+      part_made =
+          merged_of_is now_edge (joined_ok part_lent part_joined (sound_board c part_record)) (pair_at p done).k (pair_at p done).l part_narrow
+          ∙ ap gate_record (ap (λ (e : Edge). merged e (get_or p.ks done 0) (get_or p.ls done 0)) (part_edge within)
+          ∙ sym (with_pair_merged was_edge (pair_at p done) (found.each done within) reader))
+
+      net_next : with_gates (net_of c) (set (net_of c).gates done (with_pair_in r u p done)) ≡ part_net r u p (done + 1)
+      net_next = ap (λ (N : Net). with_gates N (set N.gates done (with_pair_in r u p done))) part_net_lem
+          ∙ ap (with_gates (net_of r)) (sym (mixed_next (gate_of r) (with_pair_in r u p) r.gates done within))
 
       -- the record with the merged gate stored
-      module _ (gate : GateRecord) (made : gate ≡ gate_record (merged now_edge (get_or p.ks done 0) (get_or p.ls done 0))) where
-        made_collapsed : gate ≡ gate_record (with_pair_in r u p done)
-        made_collapsed = made ∙ ap gate_record (ap (λ (e : Edge). merged e (get_or p.ks done 0) (get_or p.ls done 0)) (part_edge within)
-            ∙ sym (with_pair_merged was_edge (pair_at p done) (found.each done within) reader))
-
-        net_next : with_gates (net_of c) (set (net_of c).gates done (with_pair_in r u p done)) ≡ part_net r u p (done + 1)
-        net_next = ap (λ (N : Net). with_gates N (set N.gates done (with_pair_in r u p done))) part_net_lem
-            ∙ ap (with_gates (net_of r)) (sym (mixed_next (gate_of r) (with_pair_in r u p) r.gates done within))
-
-        pub part_next : {fanins signals : List ℕ} {thresholds weights : List ℤ}
-            → GateStored done gate c.fanins c.thresholds c.signals c.weights fanins thresholds signals weights
-            → with_arrays c fanins thresholds signals weights ≡ layout (part_net r u p (done + 1))
-        part_next st =
-            stored_record c done (with_pair_in r u p done) part_shape part_record (omega (arith, part_gates)) (rw made_collapsed at st)
-            ∙ ap layout net_next
+      pub part_next : {c' : Network}
+          → StoredIn done (gate_record (merged_of (alignment_of now_edge) (get_or p.ks done 0) (get_or p.ls done 0))) c c'
+          → c' ≡ layout (part_net r u p (done + 1))
+      part_next m =
+          m.rest
+          ∙ stored_record c done (with_pair_in r u p done) part_shape part_record (omega (arith, part_gates)) (rw part_made at m.arrays)
+          ∙ ap layout net_next

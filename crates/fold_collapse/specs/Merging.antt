@@ -1,15 +1,15 @@
--- Internal: what a merge into a reader asks for in lent arrays. Nothing is proved here.
-use Rattle.std.specs.Prelude.{List, ℕ, ◌+◌, ◌<◌, T, ℤ}
+-- Internal: what a merge into a reader asks for. Nothing is proved here.
+use Rattle.std.specs.Prelude.{ℕ, ◌+◌, ◌<◌, T}
 use Rattle.network.specs.Limits.{board_ok}
-use Rattle.network_places.specs.declared.Head.{Head}
+use Rattle.network.specs.declared.Network.{Network}
 use Rattle.pair_theory.specs.Alignments.{alignment_of, Mergeable}
-use Rattle.fold_readers.specs.Arrays.{SoundArrays}
-use Rattle.fold_edges.specs.Edges.{edge_in, GateReads}
+use Rattle.fold_readers.specs.Arrays.{SoundGates}
+use Rattle.fold_edges.specs.Edges.{edge_at, ReadsIn}
 
--- gate u can be merged with k and l into its reader with number g, in lent arrays
-pub record MergesIn (head : Head) (fanins : List ℕ) (thresholds : List ℤ) (signals : List ℕ) (weights : List ℤ) (u g k l : ℕ) : Type 0 where
-  pub lent : SoundArrays fanins thresholds signals weights head.inputs head.gates
-  pub joined : GateReads fanins thresholds signals weights head.inputs head.gates u (head.inputs + g)
-  pub board_ok_lem : T (board_ok head.board)
-  pub mergeable : Mergeable (alignment_of (edge_in head.board fanins thresholds signals weights head.inputs u (head.inputs + g))) k l
+-- gate u can be merged with k and l into its reader with number g
+pub record MergesIn (r : Network) (u g k l : ℕ) : Type 0 where
+  pub lent : SoundGates r
+  pub joined : ReadsIn r u (r.inputs + g)
+  pub board_ok_lem : T (board_ok r.board)
+  pub mergeable : Mergeable (alignment_of (edge_at r u (r.inputs + g))) k l
   pub place : g < 128

@@ -1,4 +1,4 @@
-// The tests of a drop in the arrays of a record, which are lent. Its call asks for what `unchecked` says.
+// The tests of a drop on a record. Its call asks for what `unchecked` says.
 #![tactic(auto)]
 
 pub mod unchecked;

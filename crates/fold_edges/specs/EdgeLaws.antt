@@ -1,4 +1,4 @@
--- Laws of two gates in lent arrays: what they have, that they can be aligned, and that those of a sound record are those of its
+-- Laws of two gates in arrays: what they have, that they can be aligned, and that those of a sound record are those of its
 -- network. Assumes nothing.
 use Rattle.std.specs.Prelude.{◌≡◌, Bool, ◌&&◌, List, [], ◌∷◌, ℕ, ◌+◌, ◌-◌, ◌<◌, T, ℤ}
 use Rattle.std.proofs.Math.Path.{refl, sym, ap, ap₂}
@@ -26,7 +26,7 @@ use Rattle.fold_readers.specs.ArrayLaws.{lent_gate}
 use Rattle.fold_edges.specs.Edges.{edge_in, GateReads}
 use Rattle.fold_edges.specs.Codes.{first_failing, edge_tests, edge_tests_in}
 
--- ---- gates in lent arrays
+-- ---- gates in arrays
 
 module _ {fanins : List ℕ} {thresholds : List ℤ} {signals : List ℕ} {weights : List ℤ} {inputs gates : ℕ}
     (l : SoundArrays fanins thresholds signals weights inputs gates) where

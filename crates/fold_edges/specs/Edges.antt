@@ -1,8 +1,9 @@
--- Internal: two gates in the lent arrays of a sound record. Nothing is proved here.
+-- Internal: two gates in the arrays of a sound record. Nothing is proved here.
 use Rattle.std.specs.Prelude.{List, ℕ, ◌-◌, T, ℤ}
 use Rattle.network.specs.Record.{gate_from}
 use Rattle.network.specs.Sound.{HasSignal}
 use Rattle.network.specs.declared.Board.{Board}
+use Rattle.network.specs.declared.Network.{Network}
 use Rattle.fold_theory.specs.Merge.{Edge, edge_of, reads}
 
 -- gates u and v, by their signals, as an edge on a board
@@ -15,3 +16,11 @@ pub record GateReads (fanins : List ℕ) (thresholds : List ℤ) (signals : List
   pub u_gate : HasSignal inputs gates u
   pub v_gate : HasSignal inputs gates v
   pub joined : T (reads u (gate_from fanins thresholds signals weights (v - inputs)))
+
+-- ---- the same on a record
+
+abbrev pub edge_at : Network → ℕ → ℕ → Edge
+edge_at r u v = edge_in r.board r.fanins r.thresholds r.signals r.weights r.inputs u v
+
+abbrev pub ReadsIn : Network → ℕ → ℕ → Type 0
+ReadsIn r u v = GateReads r.fanins r.thresholds r.signals r.weights r.inputs r.gates u v

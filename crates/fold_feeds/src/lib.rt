@@ -7,7 +7,7 @@ pub mod unchecked;
 ghost use Rattle.std.specs.Prelude.{◌≡◌};
 ghost use Rattle.fold_feeds.specs.Feeds.{distinct_feeds};
 
-use fold_edges::unchecked::{aligned_at, edge_code};
+use fold_edges::unchecked::{aligned_at, test_edge};
 use network::Network;
 use network_soundness::is_sound;
 use unchecked::{listed, no_feeds};
@@ -28,32 +28,9 @@ pub fn distinct_feeds(network: Network, u: usize, v: usize) -> DistinctFeeds
     if !is_sound(network) {
         return no_feeds(20);
     }
-    let inputs = network.inputs;
-    let gates = network.gates;
-    let apart = edge_code(
-        &network.fanins,
-        &network.thresholds,
-        &network.signals,
-        &network.weights,
-        inputs,
-        gates,
-        u,
-        v,
-    );
-    if apart != 0 {
-        return no_feeds(apart);
+    if let Err(refusal) = test_edge(&network, u, v) {
+        return no_feeds(refusal.number());
     }
-    let board = network.board;
-    let a = aligned_at(
-        board,
-        &network.fanins,
-        &network.thresholds,
-        &network.signals,
-        &network.weights,
-        inputs,
-        gates,
-        u,
-        v,
-    );
+    let a = aligned_at(&network, u, v);
     listed(a)
 }

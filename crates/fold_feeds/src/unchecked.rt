@@ -6,33 +6,31 @@ ghost use Rattle.fold_feeds.specs.Feeds.{as_feeds};
 ghost use Rattle.fold_feeds.specs.Parts.{feeds_of_alignment, feed_places};
 
 use crate::DistinctFeeds;
-use basics::wide;
 use pair_theory::Alignment;
 
 // A refusal: no feeds.
 pub fn no_feeds(code: u8) -> DistinctFeeds
     ensures { result ≡ as_feeds (refused code) }
 {
-    let signals = [0u8; 16];
     DistinctFeeds {
         code,
         count: 0,
-        signals,
+        signals: [0; 16],
     }
 }
 
 // The distinct feeds of two gates. Refusal: 7 too wide.
+#[tactic(auto, unfolding(crate::specs::Parts::feeds_of_alignment))]
 pub fn listed(a: Alignment) -> DistinctFeeds
     ensures { result ≡ feeds_of_alignment a }
 {
-    let count = a.count;
-    if 16 < count {
+    if a.count > 16 {
         return no_feeds(7);
     }
     let signals = a.signals;
     DistinctFeeds {
         code: 0,
-        count,
+        count: a.count,
         signals,
     }
 }
@@ -51,9 +49,9 @@ pub fn put_feeds(answer: &mut [u64], listed: DistinctFeeds) -> u8
     }
     let count = listed.count;
     answer[0] = count as u64;
+    // Kept: after a loop over `iter_mut().zip(..)` a proof knows the answer's length, and not its places.
     for i in 0..count {
-        let signal = wide(listed.signals[i]);
-        answer[1 + i] = signal as u64;
+        answer[1 + i] = u64::from(listed.signals[i]);
     }
     code
 }

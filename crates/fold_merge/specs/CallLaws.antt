@@ -1,16 +1,18 @@
 -- Laws of a merge, and of any call on two gates, on a record: the answer by the number of the first test that fails. Assumes nothing.
-use Rattle.std.specs.Prelude.{◌≡◌, refl, true, false, ℕ, T}
-use Rattle.std.proofs.Common.{sym, ◌∙◌}
+use Rattle.std.specs.Prelude.{◌≡◌, refl, true, false, ℕ, T, Result, Ok, Err, IsErrAnd}
+use Rattle.std.proofs.Common.{sym, ◌∙◌, subst}
 use Rattle.std.proofs.Math.Path.{ap}
+use Rattle.std.proofs.lemmas.Result.{err_from_is_err_and}
 use native.Mathlib.Omega.{arith}
 use Rattle.basics.specs.Refusals.{Answer, accepted, refused, checks, code_of, Passed}
 use Rattle.basics.specs.RefusalLaws.{passed_checks}
-use Rattle.basics.specs.TestLaws.{is_true, T_and, and_left}
+use Rattle.basics.specs.TestLaws.{is_true, T_is, T_and, and_left}
 use Rattle.network.specs.Threshold.{Gate}
 use Rattle.network.specs.Limits.{scale_ok, sound, is_gate}
 use Rattle.network.specs.Changes.{with_gate}
-use Rattle.network.specs.Record.{net_of, sound_record, spare_clear, no_gate, gate_in, gate_record}
+use Rattle.network.specs.Record.{net_of, sound_record, spare_clear, gate_in, gate_record}
 use Rattle.network.specs.Places.{SoundGate}
+use Rattle.network.specs.SoundLaws.{sound_board}
 use Rattle.network.specs.PlaceLaws.{gate_in_gate_record}
 use Rattle.network.specs.declared.Network.{Network}
 use Rattle.network.specs.declared.GateRecord.{GateRecord}
@@ -19,15 +21,19 @@ use Rattle.fold_theory.proofs.LimitLaws.{PairSearched, narrow_few}
 use Rattle.fold_theory.proofs.PairLaws.{dial_of}
 use Rattle.fold_theory.proofs.SoundLaws.{merged_ok}
 use Rattle.fold_theory.proofs.AlignedLaws.{EdgeOk}
-use Rattle.pair_theory.specs.Alignments.{alignment_of, merged_of, Mergeable}
-use Rattle.pair_theory.proofs.AlignmentLaws.{merged_is, mergeable}
-use Rattle.fold_edges.specs.Edges.{edge_in, GateReads}
-use Rattle.fold_edges.specs.Codes.{first_failing, edge_tests, edge_tests_in}
+use Rattle.pair_theory.specs.Alignments.{alignment_of, merged_of, AlignmentOnScale, Mergeable}
+use Rattle.pair_theory.specs.declared.Alignment.{Alignment}
+use Rattle.pair_theory.proofs.AlignmentLaws.{aligned_fair, merged_is, mergeable}
+use Rattle.fold_readers.specs.Arrays.{SoundGates}
+use Rattle.fold_readers.specs.ArrayLaws.{lent_of}
+use Rattle.fold_edges.specs.Edges.{edge_in, edge_at, GateReads, ReadsIn}
+use Rattle.fold_edges.specs.Codes.{first_failing, edge_tests, edge_tests_in, edge_tests_at}
 use Rattle.fold_edges.specs.CodeLaws.{code_passed, code_refused, code_checks}
-use Rattle.fold_edges.specs.EdgeLaws.{joined_of, edge_is, tests_are}
+use Rattle.fold_edges.specs.EdgeLaws.{joined_of, joined_ok, edge_is, tests_are}
 use Rattle.fold_merge.specs.Answers.{on_record, merge_code}
-use Rattle.fold_merge.specs.Codes.{TriedMerge, merge_tests}
-use Rattle.fold_merge.specs.declared.MergedGate.{MergedGate}
+use Rattle.fold_merge.specs.Codes.{MergesTo, TriedMerge, merge_tests}
+use Rattle.refusals.specs.Numbers.{number_of}
+use Rattle.refusals.specs.declared.Refusal.{Refusal}
 
 -- a call on two gates of a record, of which u feeds v
 abbrev pub on_gates : {A : Type 0} → (Edge → Answer A) → Network → ℕ → ℕ → Answer A
@@ -121,6 +127,22 @@ module _ (r : Network) (s : sound_record r ≡ true) (u v : ℕ) where
       pub merge_accepted : (k l : ℕ) → Passed (merge_tests here k l) → merge (net_of r) u v k l ≡ accepted (with_gate (net_of r) v (merged here k l))
       merge_accepted k l p = merge_joined k l ∙ passed_checks (merge_tests here k l) _ p
 
+-- ---- a sound record, whose tests of u and v hold
+module _ (r : Network) (s : sound_record r ≡ true) where
+  pub sound_gates : SoundGates r
+  sound_gates = lent_of r (T_is _ s)
+
+  module _ (u v : ℕ) (passes : 0 ≡ first_failing (edge_tests_at r u v)) where
+    pub reads_in : ReadsIn r u v
+    reads_in = apart_none r s u v 0 passes refl
+
+    pub edge_fits : EdgeOk (edge_at r u v)
+    edge_fits = joined_ok sound_gates reads_in (sound_board r s)
+
+    -- the two gates by their distinct feeds
+    pub edge_fair : {a : Alignment} → a ≡ alignment_of (edge_at r u v) → AlignmentOnScale a
+    edge_fair e = subst AlignmentOnScale (sym e) (aligned_fair (edge_at r u v) edge_fits)
+
 -- ---- where the tests of a merge hold
 pub merge_passed : (e : Edge) (k l m : ℕ) → m ≡ first_failing (merge_tests e k l) → m ≡ 0 → Passed (merge_tests e k l)
 unfolding merge_tests
@@ -160,24 +182,19 @@ module _ (e : Edge) (k l : ℕ) (f : MergeFits e k l) where
 
 -- ---- what a merge would put in the place of v
 module _ (r : Network) (u v k l : ℕ) where
-  pub tried_none : (m : MergedGate) (c : ℕ) → m ≡ record { code = c; gate = gate_record no_gate } → (c ≡ 0 → ⊥) → merge (net_of r) u v k l ≡ refused c
-      → TriedMerge r u v k l m
-  tried_none m c e n h =
-      let code = ap (λ (x : MergedGate). x.code) e in
-      record {
-        refuses = λ x. h ∙ ap refused (sym code);
-        spare = λ x. ap (λ (y : MergedGate). y.gate) e;
-        accepts = λ z. absurd (n (sym code ∙ z));
-        own = λ z. absurd (n (sym code ∙ z));
-        packed = λ z. absurd (n (sym code ∙ z));
-      }
+  pub tried_refused : (m : Result GateRecord Refusal) (e : Refusal) → m ≡ Err e → merge (net_of r) u v k l ≡ refused (number_of e) → TriedMerge r u v k l m
+  tried_refused m e q h = record {
+    refuses = λ d p. h ∙ ap (λ (x : Refusal). refused (number_of x)) (let same : e ≡ d = cc in same);
+    merges = λ gate p. let no : ⊥ = cc in absurd no;
+  }
 
   pub tried_gate : (g : GateRecord) (x : Gate) → g ≡ gate_record x → gate_in g ≡ x → SoundGate r v → merge (net_of r) u v k l ≡ accepted (with_gate (net_of r) v x)
-      → TriedMerge r u v k l (record { code = 0; gate = g })
+      → TriedMerge r u v k l (Ok g)
   tried_gate g x e i own h = record {
-    refuses = λ n. absurd (n refl);
-    spare = λ n. absurd (n refl);
-    accepts = λ z. h ∙ ap (λ (y : Gate). accepted (with_gate (net_of r) v y)) (sym i);
-    own = λ z. own;
-    packed = λ z. e ∙ ap gate_record (sym i);
+    refuses = λ d p. let no : ⊥ = cc in absurd no;
+    merges = λ gate p. let same : g ≡ gate = cc in subst (MergesTo r u v k l) same (record {
+      accepts = h ∙ ap (λ (y : Gate). accepted (with_gate (net_of r) v y)) (sym i);
+      own = own;
+      packed = e ∙ ap gate_record (sym i);
+    });
   }

@@ -1,2 +1,2 @@
-// Calls on records that the caller has tested. Each public one asks for the lent arrays of a sound record.
+// Calls whose callers have tested what they ask for: a sound record, or two gates of one by their distinct feeds.
 pub mod merges;

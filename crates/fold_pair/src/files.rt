@@ -18,6 +18,6 @@ pub fn pair_of_file(file: &[u8], u: u64, v: u64, answer: &mut [u64]) -> u8
     if code != 0 {
         return code;
     }
-    let found = pair_sound(loaded.network, u as usize, v as usize);
+    let found = pair_sound(&loaded.network, u as usize, v as usize);
     put_two(answer, found.code, found.k as u64, found.l as u64)
 }

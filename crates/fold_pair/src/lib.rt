@@ -19,6 +19,13 @@ pub struct PairFound {
     pub l: usize,
 }
 
+// The multipliers with which one gate merges into another.
+#[derive(Clone, Copy)]
+pub struct Multipliers {
+    pub k: usize,
+    pub l: usize,
+}
+
 // The pair for u and v: the k and l with the least k + l, then the least k, whose merge is within the limits, keeps the margins and agrees. Refusals:
 // 20 broken record, 11 no such gate, 12 not a feed, 7 too wide, 16 no pair.
 pub fn pair(network: Network, u: usize, v: usize) -> PairFound
@@ -27,5 +34,5 @@ pub fn pair(network: Network, u: usize, v: usize) -> PairFound
     if !is_sound(network) {
         return no_pair(20);
     }
-    pair_sound(network, u, v)
+    pair_sound(&network, u, v)
 }

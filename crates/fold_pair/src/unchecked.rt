@@ -3,78 +3,61 @@ ghost use Rattle.std.specs.Prelude.{◌≡◌, true};
 ghost use Rattle.basics.specs.Refusals.{refused};
 ghost use Rattle.network.specs.Record.{sound_record};
 ghost use Rattle.pair_theory.specs.Alignments.{AlignmentOnScale};
-ghost use Rattle.pair_search.specs.Search.{found_as};
 ghost use Rattle.fold_pair.specs.Answers.{as_pair, pair_found};
-ghost use Rattle.fold_pair.specs.Parts.{pair_of_alignment};
+ghost use Rattle.fold_pair.specs.Parts.{pair_answer, pair_of_alignment};
 
-use crate::PairFound;
-use fold_edges::unchecked::{aligned_at, edge_code};
+use crate::{Multipliers, PairFound};
+use fold_edges::unchecked::{aligned_at, test_edge};
 use network::Network;
 use pair_search::Found;
 use pair_search::unchecked::find_pair;
 use pair_theory::Alignment;
+use refusals::Refusal;
 
 // A refused pair: 0 for both multipliers.
+#[tactic(auto, unfolding(crate::specs::Answers::as_pair))]
 pub fn no_pair(code: u8) -> PairFound
     ensures { result ≡ as_pair (refused code) }
 {
     PairFound { code, k: 0, l: 0 }
 }
 
-// What a search found, as an answer.
-fn answered(found: Found) -> PairFound
-    ensures { result ≡ as_pair (found_as found) }
-{
-    match found {
-        Found::At(k, l) => PairFound { code: 0, k, l },
-        Found::Nothing => no_pair(16),
-    }
-}
-
 // The pair of two gates by their distinct feeds. Refusals: 7 too wide, 16 no pair.
-pub fn pair_of(a: Alignment) -> PairFound
+#[tactic(auto, unfolding(basics::specs::Refusals::checks, refusals::specs::Numbers::number_of, pair_search::specs::Search::found_as, crate::specs::Parts::pair_of_alignment))]
+pub fn pair_of(a: Alignment) -> Result<Multipliers, Refusal>
     requires { AlignmentOnScale a }
-    ensures { result ≡ as_pair (pair_of_alignment a) }
+    ensures { pair_answer result ≡ pair_of_alignment a }
 {
-    let count = a.count;
-    if 16 < count {
-        return no_pair(7);
+    if a.count > 16 {
+        return Err(Refusal::TooWide);
     }
-    let found = find_pair(a);
-    answered(found)
+    match find_pair(a) {
+        Found::At(k, l) => Ok(Multipliers { k, l }),
+        Found::Nothing => Err(Refusal::NoPair),
+    }
 }
 
 // The pair for u and v of a sound record. Refusals: 11 no such gate, 12 not a feed, 7 too wide, 16 no pair.
-pub fn pair_sound(network: Network, u: usize, v: usize) -> PairFound
-    requires { sound_record network ≡ true }
-    ensures { result ≡ pair_found network u v }
+fn pair_at(network: &Network, u: usize, v: usize) -> Result<Multipliers, Refusal>
+    requires { sound_record network.now ≡ true }
+    ensures { as_pair (pair_answer result) ≡ pair_found network.now u v }
 {
-    let inputs = network.inputs;
-    let gates = network.gates;
-    let code = edge_code(
-        &network.fanins,
-        &network.thresholds,
-        &network.signals,
-        &network.weights,
-        inputs,
-        gates,
-        u,
-        v,
-    );
-    if code != 0 {
-        return no_pair(code);
+    test_edge(network, u, v)?;
+    pair_of(aligned_at(network, u, v))
+}
+
+// The same as an answer with a code.
+#[tactic(auto, unfolding(crate::specs::Answers::as_pair))]
+pub fn pair_sound(network: &Network, u: usize, v: usize) -> PairFound
+    requires { sound_record network.now ≡ true }
+    ensures { result ≡ pair_found network.now u v }
+{
+    match pair_at(network, u, v) {
+        Ok(pair) => PairFound {
+            code: 0,
+            k: pair.k,
+            l: pair.l,
+        },
+        Err(refusal) => no_pair(refusal.number()),
     }
-    let board = network.board;
-    let a = aligned_at(
-        board,
-        &network.fanins,
-        &network.thresholds,
-        &network.signals,
-        &network.weights,
-        inputs,
-        gates,
-        u,
-        v,
-    );
-    pair_of(a)
 }

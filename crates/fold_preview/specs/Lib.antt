@@ -1,4 +1,5 @@
 pub mod Preview
+pub mod Sizes
 pub mod Files
 pub mod PreviewLaws
 pub mod FileLaws

@@ -3,7 +3,7 @@ use Rattle.std.specs.Prelude.{◌≡◌, true, false, ℕ}
 use Rattle.std.proofs.Math.Path.{sym, ap}
 use Rattle.std.proofs.Common.{◌∙◌}
 use mathlib.Core.List.{[]}
-use Rattle.basics.specs.Refusals.{accepted, refused}
+use Rattle.basics.specs.Refusals.{Answer, accepted, refused}
 use Rattle.basics.specs.RefusalLaws.{checks_first, checks_next, checks_none}
 use Rattle.basics.specs.TestLaws.{is_true}
 use Rattle.network.specs.Threshold.{Net}
@@ -17,6 +17,11 @@ use Rattle.fold_theory.specs.Collapse.{collapse}
 use Rattle.fold_theory.proofs.StepLaws.{collapse_kept}
 use Rattle.fold_merge.specs.Answers.{on_record}
 use Rattle.fold_preview.specs.Preview.{previewed}
+
+-- the report of a sound record has code 0
+pub reported_code : (r : Network) → sound_record r ≡ true → (reported r).code ≡ 0
+unfolding reported report_of
+reported_code r e = ap (λ (a : Answer Net). (report_of a).code) (checks_next (sound_record r) 20 [] _ e ∙ checks_none (accepted (net_of r)))
 
 module _ (r : Network) (s : ℕ) where
   -- a broken record

@@ -4,7 +4,6 @@ ghost use Rattle.basics.specs.Refusals.{code_of, stored};
 ghost use Rattle.fold_preview.specs.Files.{preview_places};
 
 use crate::unchecked::preview_at;
-use network_places::Head;
 use pmn_opening::unchecked::places::put_three;
 use pmn_opening::unchecked::refusal;
 
@@ -19,22 +18,7 @@ pub fn preview_of_file(file: &[u8], signal: u64, answer: &mut [u64]) -> u8
     if code != 0 {
         return code;
     }
-    let board = loaded.network.board;
-    let head = Head {
-        board,
-        inputs: loaded.network.inputs,
-        gates: loaded.network.gates,
-        outputs: loaded.network.outputs,
-    };
-    let size = preview_at(
-        head,
-        &loaded.network.fanins,
-        &loaded.network.thresholds,
-        &loaded.network.signals,
-        &loaded.network.weights,
-        &loaded.network.drivers,
-        signal as usize,
-    );
+    let size = preview_at(&loaded.network, signal as usize);
     put_three(
         answer,
         size.code,

@@ -1,39 +1,33 @@
 -- Laws of the pairs as they are found, gate by gate. Assumes nothing.
-use mathlib.Core.Path.{◌≡◌, sym, ap, ◌∙◌, subst}
-use mathlib.Core.Bool.{true}
-use mathlib.Core.List.{List}
-use Prim.Native.Nat.{ℕ, ◌+◌, ◌-◌, ◌≤◌, ◌<◌}
-use native.Mathlib.Decide.{dec_lt}
-use native.Mathlib.Omega.{arith}
-use lib.Dec.{T}
-use lib.IntN.{ℤ}
-use lib.ListN.{length, get_or, set, replicate, length-set, length-replicate, get_or-replicate, get_or-eq_default}
-use lib.Seq.{get_or-set_same, get_or-set_other}
+use Rattle.std.specs.Prelude.{◌≡◌, true, List, ℕ, ◌+◌, ◌-◌, ◌≤◌, ◌<◌, T, length, get_or, set, replicate}
+use Rattle.std.proofs.Common.{sym, ap, ◌∙◌, subst, arith}
+use Rattle.std.proofs.Math.Decide.{dec_lt}
+use Rattle.std.proofs.Math.ListN.{length-set, length-replicate, get_or-replicate, get_or-eq_default}
+use Rattle.std.proofs.Math.Seq.{get_or-set_same, get_or-set_other}
 use Rattle.basics.specs.TestLaws.{T_is}
 use Rattle.basics.specs.Refusals.{accepted}
 use Rattle.network.specs.Threshold.{Gate}
 use Rattle.network.specs.Sound.{HasSignal}
-use Rattle.network.specs.Record.{gate_from}
+use Rattle.network.specs.Record.{gate_of}
+use Rattle.network.specs.declared.Network.{Network}
 use Rattle.network.specs.declared.Board.{Board}
 use Rattle.fold_theory.specs.Merge.{edge_of, reads}
-use Rattle.fold_edges.specs.Edges.{edge_in, GateReads}
+use Rattle.fold_edges.specs.Edges.{edge_at, ReadsIn}
 use Rattle.fold_theory.specs.Pair.{Pair}
 use Rattle.fold_reader_pairs.specs.Collapsing.{edge_to, no_pair, reader_pair}
 
--- ---- gates u and g of lent arrays
-module _ (board : Board) (fs : List ℕ) (ts : List ℤ) (ss : List ℕ) (ws : List ℤ) (inputs gates u g : ℕ) where
+-- ---- gates u and g of a record
+module _ (r : Network) (u g : ℕ) where
   -- by g's signal, and by its number
-  pub edge_number : edge_in board fs ts ss ws inputs u (inputs + g) ≡ edge_to board (gate_from fs ts ss ws) inputs u g
+  pub edge_number : edge_at r u (r.inputs + g) ≡ edge_to r.board (gate_of r) r.inputs u g
   edge_number =
-      ap (λ (i : ℕ). edge_of board u (inputs + g) (gate_from fs ts ss ws (u - inputs)) (gate_from fs ts ss ws i))
-      (let e : inputs + g - inputs ≡ g = omega arith in e)
+      ap (λ (i : ℕ). edge_of r.board u (r.inputs + g) (gate_of r (u - r.inputs)) (gate_of r i)) (let e : r.inputs + g - r.inputs ≡ g = omega arith in e)
 
-  pub joined_number : HasSignal inputs gates u → g < gates → reads u (gate_from fs ts ss ws g) ≡ true → GateReads fs ts ss ws inputs gates u (inputs + g)
+  pub joined_number : HasSignal r.inputs r.gates u → g < r.gates → reads u (gate_of r g) ≡ true → ReadsIn r u (r.inputs + g)
   joined_number w h t = record {
     u_gate = w;
     v_gate = (omega arith, omega arith);
-    joined = subst (λ (i : ℕ). T (reads u (gate_from fs ts ss ws i))) (let e : g ≡ inputs + g - inputs = omega arith in e)
-        (T_is (reads u (gate_from fs ts ss ws g)) t);
+    joined = subst (λ (i : ℕ). T (reads u (gate_of r i))) (let e : g ≡ r.inputs + g - r.inputs = omega arith in e) (T_is (reads u (gate_of r g)) t);
   }
 
 -- ---- the pairs found so far: those of the gates below g stand in two arrays, and 0 after them

@@ -1,6 +1,6 @@
 -- Internal: what becomes of each gate when gate u is collapsed into its readers, by the pairs that were found for them. The gates are given by
 -- their numbers: gate g has signal inputs + g. Nothing is proved here.
-use Rattle.std.specs.Prelude.{◌≡◌, cond, List, ◌≢◌, ℕ, ◌+◌, ◌-◌, ◌≤◌, ◌<◌, eqb, get_or}
+use Rattle.std.specs.Prelude.{◌≡◌, cond, List, Result, Ok, Err, ◌≢◌, ℕ, ◌+◌, ◌-◌, ◌≤◌, ◌<◌, eqb, get_or}
 use Rattle.basics.specs.Lists.{tab}
 use Rattle.basics.specs.Refusals.{Answer, accepted, refused}
 use Rattle.network.specs.Threshold.{Gate, Net}
@@ -13,6 +13,9 @@ use Rattle.fold_theory.specs.Merge.{Edge, edge_of, silent, merged}
 use Rattle.fold_theory.specs.Pair.{Pair, pair_of}
 use Rattle.fold_theory.specs.Collapse.{merged_readers, collapse}
 use Rattle.fold_reader_pairs.specs.declared.Pairs.{Pairs}
+use Rattle.fold_reader_pairs.specs.declared.Refuser.{Refuser}
+use Rattle.refusals.specs.Numbers.{number_of}
+use Rattle.refusals.specs.declared.Refusal.{Refusal}
 
 -- ---- one gate
 
@@ -46,23 +49,26 @@ pair_at p g = record { k = get_or p.ks g 0; l = get_or p.ls g 0 }
 pub record AllPairs (board : Board) (gate : ℕ → Gate) (inputs gates u : ℕ) (p : Pairs) : Type 0 where
   pub each : (g : ℕ) → g < gates → reader_pair (edge_to board gate inputs u g) ≡ accepted (pair_at p g)
 
--- gate `last` of p is one whose pair is refused, with p's code
-pub record ReaderRefuses (board : Board) (gate : ℕ → Gate) (inputs gates u : ℕ) (p : Pairs) : Type 0 where
-  pub within : p.last < gates
-  pub refusal : reader_pair (edge_to board gate inputs u p.last) ≡ refused p.code
+-- a gate by its number is one whose pair is refused
+pub record ReaderRefuses (board : Board) (gate : ℕ → Gate) (inputs gates u : ℕ) (x : Refuser) : Type 0 where
+  pub within : x.reader < gates
+  pub refusal_is : reader_pair (edge_to board gate inputs u x.reader) ≡ refused (number_of x.refusal)
 
--- p has the pair of every gate before `last` and no pair from there on; and with code 0 `last` is the number of gates, else the pair of
--- that gate is refused. Nothing in p is free
-pub record ReaderPairs (board : Board) (gate : ℕ → Gate) (inputs gates u : ℕ) (p : Pairs) : Type 0 where
-  pub found : (g : ℕ) → g < p.last → reader_pair (edge_to board gate inputs u g) ≡ accepted (pair_at p g)
-  pub spare : (g : ℕ) → p.last ≤ g → pair_at p g ≡ no_pair
-  pub all : p.code ≡ 0 → p.last ≡ gates
-  pub refuses : p.code ≢ 0 → ReaderRefuses board gate inputs gates u p
+-- no gate before the nth is refused its pair
+pub record PairedBelow (board : Board) (gate : ℕ → Gate) (inputs u n : ℕ) : Type 0 where
+  pub each : (g c : ℕ) → g < n → reader_pair (edge_to board gate inputs u g) ≢ refused c
 
--- p has the pair of every gate, or else a gate whose pair is refused, not always the first; then its pairs are free
-pub record TriedPairs (board : Board) (gate : ℕ → Gate) (inputs gates u : ℕ) (p : Pairs) : Type 0 where
-  pub found : p.code ≡ 0 → AllPairs board gate inputs gates u p
-  pub refuses : p.code ≢ 0 → ReaderRefuses board gate inputs gates u p
+-- m has the pair of every gate, and no pair past them; or the first gate whose pair is refused. Nothing in m is free
+pub record ReaderPairs (r : Network) (u : ℕ) (m : Result Pairs Refuser) : Type 0 where
+  pub found : (p : Pairs) → m ≡ Ok p → AllPairs r.board (gate_of r) r.inputs r.gates u p
+  pub spare : (p : Pairs) → m ≡ Ok p → (g : ℕ) → r.gates ≤ g → pair_at p g ≡ no_pair
+  pub refuses : (x : Refuser) → m ≡ Err x → ReaderRefuses r.board (gate_of r) r.inputs r.gates u x
+  pub first : (x : Refuser) → m ≡ Err x → PairedBelow r.board (gate_of r) r.inputs u x.reader
+
+-- m has the pair of every gate, or else a gate whose pair is refused, not always the first
+pub record TriedPairs (r : Network) (u : ℕ) (m : Result Pairs Refuser) : Type 0 where
+  pub found : (p : Pairs) → m ≡ Ok p → AllPairs r.board (gate_of r) r.inputs r.gates u p
+  pub refuses : (x : Refuser) → m ≡ Err x → ReaderRefuses r.board (gate_of r) r.inputs r.gates u x
 
 -- ---- a record
 
@@ -79,8 +85,8 @@ pub record CollapsesBy (r : Network) (u : ℕ) (p : Pairs) : Type 0 where
   pub own : SoundGate r u
   pub pairs : AllPairs r.board (gate_of r) r.inputs r.gates u p
 
--- p has the pairs with which the gate with signal s is collapsed, or the collapse's refusal
-pub record PairsTried (r : Network) (s : ℕ) (p : Pairs) : Type 0 where
-  pub refuses : p.code ≢ 0 → collapse (net_of r) s ≡ refused p.code
-  pub accepts : p.code ≡ 0 → collapse (net_of r) s ≡ accepted (collapsed_by r s p)
-  pub folds : p.code ≡ 0 → CollapsesBy r s p
+-- m has the pairs with which the gate with signal s is collapsed, or the collapse's refusal
+pub record PairsTried (r : Network) (s : ℕ) (m : Result Pairs Refusal) : Type 0 where
+  pub refuses : (e : Refusal) → m ≡ Err e → collapse (net_of r) s ≡ refused (number_of e)
+  pub accepts : (p : Pairs) → m ≡ Ok p → collapse (net_of r) s ≡ accepted (collapsed_by r s p)
+  pub folds : (p : Pairs) → m ≡ Ok p → CollapsesBy r s p

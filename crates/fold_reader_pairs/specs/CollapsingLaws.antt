@@ -23,31 +23,24 @@ use Rattle.network.specs.declared.Network.{Network}
 use Rattle.fold_theory.specs.Merge.{Edge, edge_of, edge, silent, reads, merged, narrow, merge_keeps}
 use Rattle.fold_theory.specs.Pair.{Pair, qualifies, pair_of}
 use Rattle.fold_theory.specs.Collapse.{merged_reader, merged_readers, collapsed}
-use Rattle.fold_theory.proofs.RefusalLaws.{Numbered}
-use Rattle.fold_theory.proofs.NumberLaws.{pair_of_numbered}
 use Rattle.fold_theory.proofs.SoundLaws.{merged_ok, reader_above}
 use Rattle.fold_theory.proofs.PairLaws.{qualified_of, dial_of, pair_of_found}
-use Rattle.fold_pair.specs.Answers.{as_pair}
-use Rattle.fold_reader_pairs.specs.Collapsing.{edge_to, no_pair, reader_pair, with_pair, all_merged, pair_at, AllPairs, ReaderPairs}
+use Rattle.fold_reader_pairs.specs.Collapsing.{edge_to, no_pair, reader_pair, with_pair, all_merged, pair_at, AllPairs, ReaderRefuses, PairedBelow}
 use Rattle.fold_reader_pairs.specs.Collapsing.{gates_with_pairs, collapsed_by}
-use Rattle.fold_pair.specs.declared.PairFound.{PairFound}
 use Rattle.fold_reader_pairs.specs.declared.Pairs.{Pairs}
+use Rattle.fold_reader_pairs.specs.declared.Refuser.{Refuser}
+use Rattle.refusals.specs.Numbers.{number_of}
 
--- ---- the number of a refusal
-pub reader_pair_numbered : (e : Edge) → Numbered (reader_pair e)
-unfolding reader_pair
-reader_pair_numbered e = cond_case Numbered (silent e.u e.gate_v) {x = accepted no_pair} {y = pair_of e} (λ t. tt) (λ t. pair_of_numbered e)
+-- ---- the pair in an answer
+unfoldable pub pair_in : Answer Pair → Pair
+pair_in (accepted p) = p
+pair_in (refused c) = no_pair
 
--- a pair's answer as a call gives it, by its code
-pub as_pair_accepted : (a : Answer Pair) (x : PairFound) → x ≡ as_pair a → Numbered a → x.code ≡ 0 → a ≡ accepted (record { k = x.k; l = x.l })
-unfolding as_pair
-as_pair_accepted (accepted p) x e n z = ap (λ (y : PairFound). accepted (record { k = y.k; l = y.l })) (sym e)
-as_pair_accepted (refused c) x e n z = absurd (n (ap (λ (y : PairFound). y.code) (sym e) ∙ z))
-
-pub as_pair_refused : (a : Answer Pair) (x : PairFound) → x ≡ as_pair a → x.code ≢ 0 → a ≡ refused x.code
-unfolding as_pair
-as_pair_refused (accepted p) x e h = absurd (h (ap (λ (y : PairFound). y.code) e))
-as_pair_refused (refused c) x e h = ap (λ (y : PairFound). refused y.code) (sym e)
+-- an answer that refuses nothing
+not_refused : (a : Answer Pair) → ((c : ℕ) → a ≢ refused c) → a ≡ accepted (pair_in a)
+unfolding pair_in
+not_refused (accepted p) h = refl
+not_refused (refused c) h = absurd (h c refl)
 
 -- ---- the pair of one gate
 
@@ -208,13 +201,13 @@ module _ (board : Board) (gate : ℕ → Gate) (inputs gates u : ℕ) where
       (omega arith) (omega arith)
       (λ i k. merged_reader_pair (edge_to board gate inputs u i) (q i) (h i k)) (fuse_refused (edge_to board gate inputs u g) c r)
 
-  -- by what the pairs of all readers say
-  module _ (p : Pairs) (h : ReaderPairs board gate inputs gates u p) where
-    pub pairs_all : p.code ≡ 0 → AllPairs board gate inputs gates u p
-    pairs_all z = record { each = λ g l. h.found g (omega (arith, h.all z)) }
-
-    pub pairs_first : p.code ≢ 0 → all_merged board gate inputs gates u ≡ refused p.code
-    pairs_first n = let r = h.refuses n in all_merged_first (pair_at p) p.last p.code r.within h.found r.refusal
+-- ---- the first gate of a record whose pair is refused
+pub pairs_first : (r : Network) (u : ℕ) (x : Refuser) → ReaderRefuses r.board (gate_of r) r.inputs r.gates u x → PairedBelow r.board (gate_of r) r.inputs u x.reader
+    → all_merged r.board (gate_of r) r.inputs r.gates u ≡ refused (number_of x.refusal)
+pairs_first r u x w b =
+    let pair = λ (i : ℕ). reader_pair (edge_to r.board (gate_of r) r.inputs u i) in
+    all_merged_first r.board (gate_of r) r.inputs r.gates u (λ i. pair_in (pair i)) x.reader (number_of x.refusal) w.within
+    (λ i k. not_refused (pair i) (λ c. b.each i c k)) w.refusal_is
 
 -- ---- a record's gate collapsed into its readers
 module _ (r : Network) (u : ℕ) (s : SoundGate r u) where

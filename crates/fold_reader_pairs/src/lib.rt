@@ -3,12 +3,18 @@
 
 pub mod unchecked;
 
-// The multipliers for the readers of a gate: 0 or a refusal; the gate whose pair was refused, or the number of gates where none was; and
-// by gate k and l for every reader before it, 0 for every other gate.
+use refusals::Refusal;
+
+// The multipliers for the readers of a gate: by gate k and l for every reader, 0 for every other gate.
 #[derive(Clone, Copy)]
 pub struct Pairs {
-    pub code: u8,
-    pub last: usize,
     pub ks: [u8; 128],
     pub ls: [u8; 128],
+}
+
+// A reader whose pair is refused, by its number, and the refusal.
+#[derive(Clone, Copy)]
+pub struct Refuser {
+    pub reader: usize,
+    pub refusal: Refusal,
 }

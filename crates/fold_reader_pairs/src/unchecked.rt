@@ -1,136 +1,67 @@
-// The pairs of a gate's readers in the arrays of a sound record, which are lent.
-ghost use Rattle.std.specs.Prelude.{◌≡◌, true, ◌<◌, T, replicate};
+// The pairs of a gate's readers in a sound record.
+ghost use Rattle.std.specs.Prelude.{◌≡◌, true, ◌<◌, T};
 ghost use Rattle.network.specs.Limits.{board_ok};
 ghost use Rattle.network.specs.Sound.{HasSignal};
-ghost use Rattle.network.specs.Record.{gate_from, sound_record};
-ghost use Rattle.network_places.specs.Parts.{from_parts};
-ghost use Rattle.fold_pair.specs.Answers.{as_pair};
-ghost use Rattle.fold_readers.specs.Arrays.{SoundArrays};
+ghost use Rattle.network.specs.Record.{gate_of, sound_record};
+ghost use Rattle.fold_pair.specs.Parts.{pair_answer};
+ghost use Rattle.fold_readers.specs.Arrays.{SoundGates};
 ghost use Rattle.fold_reader_pairs.specs.Collapsing.{edge_to, reader_pair, ReaderPairs, PairsTried};
 
-use crate::Pairs;
+use crate::{Pairs, Refuser};
 use fold_edges::unchecked::aligned_at;
-use fold_pair::PairFound;
+use fold_pair::Multipliers;
 use fold_pair::unchecked::pair_of;
 use fold_readers::unchecked::{is_output, reads_gate};
-use network::Board;
+use network::Network;
 use network_limits::is_gate;
-use network_places::Head;
+use refusals::Refusal;
 
-// No pairs: a refusal, and the reader that it came from.
-pub fn no_pairs(code: u8, last: usize) -> Pairs
-    ensures { result ≡ record { code = code; last = last; ks = replicate 128 0; ls = replicate 128 0 } }
+// The pair of gate g as a reader of u; 0 and 0 where it is none. Refusals: 7 too wide, 16 no pair.
+pub fn reader_pair(network: &Network, u: usize, g: usize) -> Result<Multipliers, Refusal>
+    requires { SoundGates network.now × HasSignal network.now.inputs network.now.gates u
+        × (g < network.now.gates) × T (board_ok network.now.board) }
+    ensures { pair_answer result
+        ≡ reader_pair (edge_to network.now.board (gate_of network.now) network.now.inputs u g) }
 {
-    let ks = [0u8; 128];
-    let ls = [0u8; 128];
-    Pairs { code, last, ks, ls }
-}
-
-// The pair of gate g as a reader of u; 0 and 0 where it is none.
-pub fn reader_pair<'a>(
-    board: Board,
-    fanins: &'a [u8; 128],
-    thresholds: &'a [i32; 128],
-    signals: &'a [u8; 2048],
-    weights: &'a [i32; 2048],
-    inputs: usize,
-    gates: usize,
-    u: usize,
-    g: usize,
-) -> PairFound
-    requires { SoundArrays fanins.now thresholds.now signals.now weights.now inputs gates
-        × HasSignal inputs gates u × (g < gates) × T (board_ok board) }
-    ensures { result ≡ as_pair (reader_pair (edge_to board
-        (gate_from fanins.now thresholds.now signals.now weights.now) inputs u g)) }
-{
-    if !reads_gate(fanins, signals, g, u) {
-        return PairFound {
-            code: 0,
-            k: 0,
-            l: 0,
-        };
+    if !reads_gate(network, g, u) {
+        return Ok(Multipliers { k: 0, l: 0 });
     }
-    let a = aligned_at(
-        board,
-        fanins,
-        thresholds,
-        signals,
-        weights,
-        inputs,
-        gates,
-        u,
-        inputs + g,
-    );
-    pair_of(a)
+    pair_of(aligned_at(network, u, network.inputs + g))
 }
 
-// The pairs of all readers of u, in rising order, up to the first refusal.
-pub fn reader_pairs<'a>(
-    board: Board,
-    fanins: &'a [u8; 128],
-    thresholds: &'a [i32; 128],
-    signals: &'a [u8; 2048],
-    weights: &'a [i32; 2048],
-    inputs: usize,
-    gates: usize,
-    u: usize,
-) -> Pairs
-    requires { SoundArrays fanins.now thresholds.now signals.now weights.now inputs gates × HasSignal inputs gates u × T (board_ok board) }
-    ensures { ReaderPairs board
-        (gate_from fanins.now thresholds.now signals.now weights.now) inputs gates u result }
+// The pairs of all readers of u, in rising order, or the first reader whose pair is refused.
+pub fn reader_pairs(network: &Network, u: usize) -> Result<Pairs, Refuser>
+    requires { SoundGates network.now × HasSignal network.now.inputs network.now.gates u
+        × T (board_ok network.now.board) }
+    ensures { ReaderPairs network.now u result }
 {
-    let mut ks = [0u8; 128];
-    let mut ls = [0u8; 128];
-    for g in 0..gates {
-        let found = reader_pair(
-            board, fanins, thresholds, signals, weights, inputs, gates, u, g,
-        );
-        let code = found.code;
-        if code != 0 {
-            return Pairs {
-                code,
-                last: g,
-                ks,
-                ls,
-            };
+    let mut pairs = Pairs {
+        ks: [0; 128],
+        ls: [0; 128],
+    };
+    for g in 0..network.gates {
+        match reader_pair(network, u, g) {
+            Ok(pair) => {
+                pairs.ks[g] = pair.k as u8;
+                pairs.ls[g] = pair.l as u8;
+            }
+            Err(refusal) => return Err(Refuser { reader: g, refusal }),
         }
-        ks[g] = found.k as u8;
-        ls[g] = found.l as u8;
     }
-    Pairs {
-        code: 0,
-        last: gates,
-        ks,
-        ls,
-    }
+    Ok(pairs)
 }
 
-// The pairs with which the gate with signal s can be collapsed into all of its readers, or the refusal of its collapse: 11 no such gate, 17 still read
+// The pairs with which the gate with signal s can be collapsed into all of its readers. Refusals of its collapse: 11 no such gate, 17 still read
 // (an output), then the first reader's 7 or 16.
-pub fn collapse_pairs<'a>(
-    head: Head,
-    fanins: &'a [u8; 128],
-    thresholds: &'a [i32; 128],
-    signals: &'a [u8; 2048],
-    weights: &'a [i32; 2048],
-    drivers: &[u8; 16],
-    s: usize,
-) -> Pairs
-    requires { sound_record (from_parts head fanins.now thresholds.now signals.now weights.now drivers.now) ≡ true }
-    ensures { PairsTried
-        (from_parts head fanins.now thresholds.now signals.now weights.now drivers.now) s result }
+pub fn collapse_pairs(network: &Network, s: usize) -> Result<Pairs, Refusal>
+    requires { sound_record network.now ≡ true }
+    ensures { PairsTried network.now s result }
 {
-    let inputs = head.inputs;
-    let gates = head.gates;
-    let outputs = head.outputs;
-    if !is_gate(inputs, gates, s) {
-        return no_pairs(11, 0);
+    if !is_gate(network.inputs, network.gates, s) {
+        return Err(Refusal::NoSuchGate);
     }
-    if is_output(drivers, outputs, s) {
-        return no_pairs(17, 0);
+    if is_output(network, s) {
+        return Err(Refusal::StillRead);
     }
-    let board = head.board;
-    reader_pairs(
-        board, fanins, thresholds, signals, weights, inputs, gates, s,
-    )
+    reader_pairs(network, s).map_err(|refuser| refuser.refusal)
 }

@@ -1,4 +1,4 @@
--- The lent arrays of a sound record: what each gate in them has. Assumes nothing.
+-- The arrays of a sound record: what each gate in them has. Assumes nothing.
 use Rattle.std.proofs.Common.{subst, arith}
 use Rattle.std.specs.Prelude.{List, ℕ, ◌+◌, ◌<◌, T, ℤ}
 use Rattle.basics.specs.ListLaws.{length_tab, get_or_tab}

@@ -1,9 +1,10 @@
--- Internal: the gates in the lent arrays of a sound record. Nothing is proved here.
+-- Internal: the gates in the arrays of a sound record. Nothing is proved here.
 use Rattle.std.specs.Prelude.{◌≡◌, List, ℕ, ◌≤◌, ◌<◌, ℤ}
 use Rattle.basics.specs.Lists.{tab}
 use Rattle.network.specs.Threshold.{Gate}
 use Rattle.network.specs.Record.{gate_from, gate_record, row_at}
 use Rattle.network.specs.Sound.{GatesOk}
+use Rattle.network.specs.declared.Network.{Network}
 
 -- the gates
 abbrev pub gates_in : List ℕ → List ℤ → List ℕ → List ℤ → ℕ → List Gate
@@ -16,3 +17,7 @@ pub record SoundArrays (fanins : List ℕ) (thresholds : List ℤ) (signals : Li
   pub few_gates : gates ≤ 128
   pub all_gates : GatesOk inputs (gates_in fanins thresholds signals weights gates)
   pub rows : (g : ℕ) → g < gates → row_at fanins thresholds signals weights g ≡ gate_record (gate_from fanins thresholds signals weights g)
+
+-- the same of a record
+abbrev pub SoundGates : Network → Type 0
+SoundGates r = SoundArrays r.fanins r.thresholds r.signals r.weights r.inputs r.gates

@@ -1,4 +1,4 @@
-// Which gates read a signal, and whether an output names it, in the arrays of a record, which are lent. Its calls ask for what `unchecked` says.
+// Which gates of a record read a signal, and whether an output names it. Its calls ask for what `unchecked` says.
 #![tactic(auto)]
 
 pub mod unchecked;

@@ -1,14 +1,17 @@
 -- One turn of a sweep: the gates that are refused and passed over, and the gate that is taken. Assumes nothing.
 use mathlib.Core.Path.{◌≡◌, refl, sym, ap, ◌∙◌, subst}
-use mathlib.Core.Bool.{Bool, true, false, cond, ◌||◌}
+use mathlib.Core.Bool.{true, false, cond}
+use mathlib.Core.List.{List}
 use Prim.Native.Nat.{ℕ, zero, suc, ◌+◌, ◌-◌, ◌≤◌, ◌<◌}
 use native.Mathlib.Decide.{dec_lt}
 use native.Mathlib.Omega.{arith}
-use borrow.Author.Tests.{ltb-false, lt-ltb, le-leb, lt-leb}
-use lib.Dec.{leb, ltb, ltb→lt}
+use Rattle.std.specs.Prelude.{Some, None}
+use Rattle.std.proofs.lemmas.Option.{none-some, same_Some}
+use borrow.Author.Tests.{lt-ltb, le-leb, lt-leb}
+use lib.Dec.{leb, ltb}
 use Rattle.basics.specs.Refusals.{Answer, accepted, refused, checks}
 use Rattle.basics.specs.RefusalLaws.{Refused}
-use Rattle.basics.specs.TestLaws.{is_true, T_is, both_true, or_case, or_false}
+use Rattle.basics.specs.TestLaws.{both_true}
 use Rattle.network.specs.Threshold.{Net}
 use Rattle.network.specs.Record.{gate_of, net_of, sound_record}
 use Rattle.network.specs.Places.{SoundGate}
@@ -25,7 +28,9 @@ use Rattle.fold_reader_pairs.specs.Collapsing.{AllPairs, collapsed_by}
 use Rattle.fold_reader_pairs.specs.CollapsingLaws.{collapsed_pairs}
 use Rattle.fold_readers.specs.RecordLaws.{sound_gate}
 use Rattle.fold_reader_pairs.specs.TriedLaws.{collapse_output, collapse_collapsed}
-use Rattle.fold_sweep.specs.Sweeping.{asked, LowerRefused, NextCollapse}
+use Rattle.fold_sweep.specs.declared.Choice.{Choice}
+use Rattle.fold_sweep.specs.Memory.{Remembered, RememberedAfter}
+use Rattle.fold_sweep.specs.Sweeping.{asked, LowerRefused, NextCollapse, Chosen}
 
 -- ---- the gates from u on
 or_else_next : {A : Type 0} (r q : Answer A) → Refused r → or_else r q ≡ q
@@ -103,12 +108,9 @@ module _ (r : Network) (b : ℕ) where
   sweep_none g h k l = subst Refused (sym (sweep_lower g h l)) (turn_end (net_of r) b r.inputs r.gates g k)
 
 module _ (r : Network) (b g : ℕ) (whole : sound_record r ≡ true) (within : g < r.gates) where
-  -- gate g, by its signal, and what the code asks first: has it too many readers, or is it an output
+  -- gate g, by its signal
   abbrev signal : ℕ
   signal = r.inputs + g
-
-  abbrev barred : Bool
-  barred = ltb b (readers (net_of r) signal) || occurs r.drivers 0 r.outputs signal
 
   is_gate_lem : gate_signal r.inputs r.gates signal ≡ true
   unfolding gate_signal
@@ -118,21 +120,19 @@ module _ (r : Network) (b g : ℕ) (whole : sound_record r ≡ true) (within : g
   pub own_gate : SoundGate r signal
   own_gate = sound_gate r signal whole is_gate_lem
 
-  -- it is refused
-  pub barred_refused : barred ≡ true → Refused (asked (net_of r) b signal)
-  barred_refused h = or_case (ltb b (readers (net_of r) signal)) (occurs r.drivers 0 r.outputs signal) (T_is barred h)
-      (λ t. many (net_of r) b signal (ltb→lt b (readers (net_of r) signal) t))
-      (λ t. not_taken (net_of r) b signal
-      (subst Refused (sym (collapse_output r signal whole is_gate_lem (is_true (occurs r.drivers 0 r.outputs signal) t))) tt))
+  -- a gate with too many readers is refused, and so is an output
+  pub crowded_refused : b < readers (net_of r) signal → Refused (asked (net_of r) b signal)
+  crowded_refused = many (net_of r) b signal
+
+  pub output_refused : occurs r.drivers 0 r.outputs signal ≡ true → Refused (asked (net_of r) b signal)
+  output_refused t = not_taken (net_of r) b signal (subst Refused (sym (collapse_output r signal whole is_gate_lem t)) tt)
 
   -- it is taken
-  pub taken : barred ≡ false → (p : Pairs) → AllPairs r.board (gate_of r) r.inputs r.gates signal p → LowerRefused (net_of r) b r.inputs g
-      → NextCollapse r b signal p
-  taken free p h lower =
-      let parts = or_false (ltb b (readers (net_of r) signal)) (occurs r.drivers 0 r.outputs signal) free in
-      let few = ltb-false b (readers (net_of r) signal) parts.0 in
+  pub taken : readers (net_of r) signal ≤ b → occurs r.drivers 0 r.outputs signal ≡ false → (p : Pairs)
+      → AllPairs r.board (gate_of r) r.inputs r.gates signal p → LowerRefused (net_of r) b r.inputs g → NextCollapse r b signal p
+  taken few inner p h lower =
       let fold : collapse (net_of r) signal ≡ accepted (collapsed_by r signal p) =
-      collapse_collapsed r signal whole is_gate_lem parts.1 ∙ collapsed_pairs r signal own_gate p h in
+      collapse_collapsed r signal whole is_gate_lem inner ∙ collapsed_pairs r signal own_gate p h in
       record {
         own = own_gate;
         pairs = h;
@@ -141,3 +141,22 @@ module _ (r : Network) (b g : ℕ) (whole : sound_record r ≡ true) (within : g
         few = few;
         lower = subst (LowerRefused (net_of r) b r.inputs) (let z : g ≡ signal - r.inputs = omega arith in z) lower;
       }
+
+-- ---- what a sweep answers
+module _ (r : Network) (b : ℕ) where
+  -- a gate is chosen
+  pub chosen_some : (x : Choice) → NextCollapse r b x.u x.pairs → Chosen r b (Some x)
+  chosen_some x n = record {
+    next = λ y e. subst (λ (z : Choice). NextCollapse r b z.u z.pairs) (same_Some x y e) n;
+    none = λ e. absurd (none-some x (sym e));
+  }
+
+  pub after_some : (x : Choice) {refusers : List ℕ} → Remembered (collapsed_by r x.u x.pairs) refusers → RememberedAfter r (Some x) refusers
+  after_some x {refusers} m = record { next = λ y e. subst (λ (z : Choice). Remembered (collapsed_by r z.u z.pairs) refusers) (same_Some x y e) m }
+
+  -- no gate is left
+  pub chosen_none : Refused (sweep_once (net_of r) b) → Chosen r b None
+  chosen_none h = record { next = λ y e. absurd (none-some y e); none = λ e. h }
+
+  pub after_none : (refusers : List ℕ) → RememberedAfter r None refusers
+  after_none refusers = record { next = λ y e. absurd (none-some y e) }

@@ -1,5 +1,5 @@
 -- Internal: what a sweep remembers: for each gate, by its number, a reader that refuses it. Nothing is proved here.
-use Rattle.std.specs.Prelude.{◌≡◌, true, List, ℕ, ◌+◌, ◌<◌, length, get_or}
+use Rattle.std.specs.Prelude.{◌≡◌, Option, Some, List, ℕ, ◌+◌, ◌<◌, length, get_or}
 use Rattle.network.specs.Threshold.{Net}
 use Rattle.network.specs.declared.Network.{Network}
 use Rattle.fold_unchanged.specs.Unchanged.{RefusedBy}
@@ -12,5 +12,5 @@ pub record Remembered (N : Net) (refusers : List ℕ) : Type 0 where
   pub each : (g : ℕ) → g < length N.gates → get_or refusers g 0 < 128 → RefusedBy N (N.inputs + g) (N.inputs + get_or refusers g 0)
 
 -- where a gate is chosen, the same of the network after its collapse
-pub record RememberedAfter (r : Network) (x : Choice) (refusers : List ℕ) : Type 0 where
-  pub next : x.found ≡ true → Remembered (collapsed_by r x.u x.pairs) refusers
+pub record RememberedAfter (r : Network) (m : Option Choice) (refusers : List ℕ) : Type 0 where
+  pub next : (x : Choice) → m ≡ Some x → Remembered (collapsed_by r x.u x.pairs) refusers

@@ -25,6 +25,8 @@ use Rattle.fold_unchanged.proofs.UnchangedLaws.{collapse_inputs, refusal_stands}
 use Rattle.fold_reader_pairs.specs.Collapsing.{edge_to, pair_at, AllPairs, ReaderRefuses, collapsed_by}
 use Rattle.fold_reader_pairs.specs.CollapsingLaws.{pair_zero, pair_refused, edge_to_net}
 use Rattle.fold_reader_pairs.specs.declared.Pairs.{Pairs}
+use Rattle.fold_reader_pairs.specs.declared.Refuser.{Refuser}
+use Rattle.refusals.specs.Numbers.{number_of}
 use Rattle.fold_sweep.specs.Sweeping.{NextCollapse}
 use Rattle.fold_memory.specs.Keeping.{RefusersKept}
 use Rattle.fold_memory.specs.KeepingLaws.{at_set}
@@ -56,11 +58,11 @@ module _ (r : Network) {refusers : List ℕ} (m : Remembered (net_of r) refusers
 -- ---- gate u of a sound record
 module _ (r : Network) (u : ℕ) (own : SoundGate r u) where
   -- the reader whose pair is refused refuses it
-  pub refused_of : (p : Pairs) → ReaderRefuses r.board (gate_of r) r.inputs r.gates u p → RefusedBy (net_of r) u (r.inputs + p.last)
+  pub refused_of : (p : Refuser) → ReaderRefuses r.board (gate_of r) r.inputs r.gates u p → RefusedBy (net_of r) u (r.inputs + p.reader)
   unfolding net_of edge
   refused_of p x =
-      let same = edge_to_net r u own p.last x.within in
-      let f = pair_refused (edge_to r.board (gate_of r) r.inputs u p.last) p.code x.refusal in
+      let same = edge_to_net r u own p.reader x.within in
+      let f = pair_refused (edge_to r.board (gate_of r) r.inputs u p.reader) (number_of p.refusal) x.refusal_is in
       record {
         gate = omega (arith, gate_number r u own, count_gates r);
         reader = omega (arith, x.within, count_gates r);

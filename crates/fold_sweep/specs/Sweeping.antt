@@ -1,5 +1,5 @@
 -- Internal: what is claimed of one step of a sweep on a record. Nothing is proved here.
-use Rattle.std.specs.Prelude.{◌≡◌, true, false, [], ◌∷◌, ℕ, ◌+◌, ◌-◌, ◌≤◌, ◌<◌, leb}
+use Rattle.std.specs.Prelude.{◌≡◌, Option, Some, None, [], ◌∷◌, ℕ, ◌+◌, ◌-◌, ◌≤◌, ◌<◌, leb}
 use Rattle.basics.specs.Refusals.{Answer, accepted, ◌else◌, checks}
 use Rattle.basics.specs.RefusalLaws.{Refused}
 use Rattle.network.specs.Threshold.{Net}
@@ -30,6 +30,6 @@ pub record NextCollapse (r : Network) (b u : ℕ) (p : Pairs) : Type 0 where
   pub lower : LowerRefused (net_of r) b r.inputs (u - r.inputs)
 
 -- a choice is the next gate, or there is none
-pub record Chosen (r : Network) (b : ℕ) (x : Choice) : Type 0 where
-  pub next : x.found ≡ true → NextCollapse r b x.u x.pairs
-  pub none : x.found ≡ false → Refused (sweep_once (net_of r) b)
+pub record Chosen (r : Network) (b : ℕ) (m : Option Choice) : Type 0 where
+  pub next : (x : Choice) → m ≡ Some x → NextCollapse r b x.u x.pairs
+  pub none : m ≡ None → Refused (sweep_once (net_of r) b)

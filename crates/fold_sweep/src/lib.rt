@@ -5,10 +5,9 @@ pub mod unchecked;
 
 use fold_reader_pairs::Pairs;
 
-// The gate that a sweep folds next, by its signal, and the pairs of its readers; found is false where no gate is left to fold.
+// The gate that a sweep folds next, by its signal, and the pairs of its readers.
 #[derive(Clone, Copy)]
 pub struct Choice {
-    pub found: bool,
     pub u: usize,
     pub pairs: Pairs,
 }

@@ -6,7 +6,7 @@ pub mod unchecked;
 
 ghost use Rattle.fold_witness.specs.Witness.{WitnessOf};
 
-use fold_edges::unchecked::{aligned_at, edge_code};
+use fold_edges::unchecked::{aligned_at, test_edge};
 use network::Network;
 use network_soundness::is_sound;
 use unchecked::{none, witness_of};
@@ -28,32 +28,9 @@ pub fn witness(network: Network, u: usize, v: usize, k: usize, l: usize) -> Witn
     if !is_sound(network) {
         return none(20);
     }
-    let inputs = network.inputs;
-    let gates = network.gates;
-    let apart = edge_code(
-        &network.fanins,
-        &network.thresholds,
-        &network.signals,
-        &network.weights,
-        inputs,
-        gates,
-        u,
-        v,
-    );
-    if apart != 0 {
-        return none(apart);
+    if let Err(refusal) = test_edge(&network, u, v) {
+        return none(refusal.number());
     }
-    let board = network.board;
-    let a = aligned_at(
-        board,
-        &network.fanins,
-        &network.thresholds,
-        &network.signals,
-        &network.weights,
-        inputs,
-        gates,
-        u,
-        v,
-    );
+    let a = aligned_at(&network, u, v);
     witness_of(a, k, l)
 }

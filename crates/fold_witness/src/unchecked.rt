@@ -4,13 +4,14 @@ ghost use Rattle.pair_theory.specs.Alignments.{AlignmentOnScale};
 ghost use Rattle.fold_witness.specs.Parts.{no_witness, as_witness, WitnessOfAlignment};
 
 use crate::Witnessed;
-use fold_merge::unchecked::merges::limit_code;
+use fold_merge::unchecked::merges::test_limits;
 use pair_agreement::unchecked::without_margins;
 use pair_theory::Alignment;
 use pair_witness::Unclear;
 use pair_witness::unchecked::fewest_of;
 
 // No setting, with a number that is not 15.
+#[tactic(auto, unfolding(crate::specs::Parts::no_witness))]
 pub fn none(code: u8) -> Witnessed
     ensures { result ≡ no_witness code }
 {
@@ -18,6 +19,7 @@ pub fn none(code: u8) -> Witnessed
 }
 
 // What a pass found, as an answer: 15 and the setting, or 0.
+#[tactic(auto, unfolding(crate::specs::Parts::as_witness))]
 fn shown(found: Unclear) -> Witnessed
     ensures { result ≡ as_witness found }
 {
@@ -34,9 +36,8 @@ pub fn witness_of(a: Alignment, k: usize, l: usize) -> Witnessed
     requires { AlignmentOnScale a }
     ensures { WitnessOfAlignment a k l result }
 {
-    let code = limit_code(a, k, l);
-    if code != 0 {
-        return none(code);
+    if let Err(refusal) = test_limits(a, k, l) {
+        return none(refusal.number());
     }
     shown(fewest_of(without_margins(a), k, l))
 }

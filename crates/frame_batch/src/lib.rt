@@ -20,5 +20,5 @@ pub fn read_frames(network: Network, frames: &[u64], answers: &mut [u64]) -> u8
     if !is_sound(network) {
         return 20;
     }
-    read_sound(network, frames, answers)
+    read_sound(&network, frames, answers)
 }

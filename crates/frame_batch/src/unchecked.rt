@@ -7,6 +7,7 @@ ghost use Rattle.network.specs.Record.{sound_record};
 ghost use Rattle.frame_batch.specs.Frames.{frames_answer};
 
 use frame_pass::unchecked::frame_words;
+use frame_reading::unchecked::fits_frame;
 use network::Network;
 
 // Whether no frame has a bit past the inputs.
@@ -14,38 +15,23 @@ fn frames_fit(inputs: usize, frames: &[u64]) -> bool
     requires { inputs ≤ 40 }
     ensures { result ≡ all (fits_frame inputs) frames.now }
 {
-    let mut ok = true;
-    for f in 0..frames.len() {
-        ok = ok & ((frames[f] >> inputs) == 0);
-    }
-    ok
-}
-
-// The first count words, put into the front of the lent places.
-fn put_words(words: &[u64; 64], answers: &mut [u64], count: usize)
-    requires { (length words.now ≡ 64) × (count ≤ 64) × (count ≤ length answers.old) }
-    ensures { answers.new ≡ take count words.now ++ drop count answers.old }
-{
-    for f in 0..count {
-        answers[f] = words[f];
-    }
+    frames.iter().all(|frame| fits_frame(inputs, *frame))
 }
 
 // The output words of up to 64 frames, of a sound record. Refusals: 26 too many frames or too few places, 10 long frame.
-pub fn read_sound(network: Network, frames: &[u64], answers: &mut [u64]) -> u8
-    requires { sound_record network ≡ true }
-    ensures value { result ≡ code_of (frames_answer network frames.now answers.old) }
-    ensures answers_after { answers.new ≡ stored (frames_answer network frames.now answers.old) answers.old }
+pub fn read_sound(network: &Network, frames: &[u64], answers: &mut [u64]) -> u8
+    requires { sound_record network.now ≡ true }
+    ensures value { result ≡ code_of (frames_answer network.now frames.now answers.old) }
+    ensures answers_after { answers.new ≡ stored (frames_answer network.now frames.now answers.old) answers.old }
 {
     let count = frames.len();
-    if (64 < count) | (answers.len() < count) {
+    if 64 < count || answers.len() < count {
         return 26;
     }
-    let inputs = network.inputs;
-    if !frames_fit(inputs, frames) {
+    if !frames_fit(network.inputs, frames) {
         return 10;
     }
     let words = frame_words(network, frames);
-    put_words(&words, answers, count);
+    answers[..count].copy_from_slice(&words[..count]);
     0
 }

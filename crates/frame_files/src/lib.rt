@@ -21,7 +21,7 @@ pub fn read_file_frame(file: &[u8], frame: u64, answer: &mut [u64]) -> u8
         return code;
     }
     let reading = frame_reading::unchecked::read_sound(loaded.network, frame);
-    put_two(answer, reading.code, reading.bits, reading.ones as u64)
+    put_two(answer, reading.code, reading.bits, u64::from(reading.ones))
 }
 
 // The outputs of a file's network on each frame. Refusals: as read, 26 too many frames or too few places, 10 long frame.
@@ -34,5 +34,5 @@ pub fn read_file_frames(file: &[u8], frames: &[u64], answers: &mut [u64]) -> u8
     if code != 0 {
         return code;
     }
-    read_sound(loaded.network, frames, answers)
+    read_sound(&loaded.network, frames, answers)
 }

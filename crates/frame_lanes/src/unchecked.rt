@@ -4,12 +4,12 @@
 ghost use Rattle.std.specs.Prelude.{◌≡◌, cond, ◌+◌, ◌*◌, ◌≤◌, pos, ◌+ℤ◌, get_or};
 ghost use Rattle.std.specs.Int.Signed.{le_z};
 ghost use Rattle.network.specs.Threshold.{bit};
-ghost use Rattle.network.specs.Record.{gate_from};
+ghost use Rattle.network.specs.Record.{gate_of};
 ghost use Rattle.network.specs.Places.{Pasted};
 ghost use Rattle.frame_reading.specs.Evaluation.{bits_in};
 ghost use Rattle.frame_lanes.specs.Lanes.{mask_of, is_on, lane, LaneSums, CanAdd, CanSum, CanPut};
 
-use basics::wide;
+use network::Network;
 
 // The mask of a bit.
 pub fn mask_of(on: bool) -> i32
@@ -33,32 +33,27 @@ fn add_feed(masks: &[i32; 16384], sums: &mut [i32; 32], from: usize, weight: i32
         (λ f. get_or sums.old f (pos 0) +ℤ cond (is_on (get_or masks.now (from + f) (pos 0))) weight (pos 0))
         sums.old sums.new }
 {
-    let mut f: usize = 0;
-    while f < 32 {
-        sums[f] = sums[f] + kept(masks[from + f], weight);
-        f = f + 1;
+    for (f, sum) in sums.iter_mut().enumerate() {
+        *sum += kept(masks[from + f], weight);
     }
 }
 
 // The sums of count feeds from place base on, in 32 lanes from lane block on.
-fn lane_sums<'a>(
-    signals: &'a [u8; 2048],
-    weights: &'a [i32; 2048],
+fn lane_sums(
+    network: &Network,
     masks: &[i32; 16384],
     base: usize,
     count: usize,
     block: usize,
 ) -> [i32; 32]
-    requires { CanSum weights.now masks.now base count block }
-    ensures { LaneSums masks.now signals.now weights.now base count block result }
+    requires { CanSum network.now.weights masks.now base count block }
+    ensures { LaneSums masks.now network.now.signals network.now.weights base count block result }
 {
-    let mut sums = [0i32; 32];
-    let mut i: usize = 0;
-    while i < count {
-        let place = base + i;
-        let signal = wide(signals[place]);
-        add_feed(masks, &mut sums, 64 * signal + block, weights[place]);
-        i = i + 1;
+    let signals = &network.signals[base..base + count];
+    let weights = &network.weights[base..base + count];
+    let mut sums = [0; 32];
+    for (signal, weight) in signals.iter().zip(weights) {
+        add_feed(masks, &mut sums, 64 * usize::from(*signal) + block, *weight);
     }
     sums
 }
@@ -68,31 +63,19 @@ fn put_bits(masks: &mut [i32; 16384], sums: &[i32; 32], threshold: i32, from: us
     requires { from + 32 ≤ 16384 }
     ensures { Pasted (pos 0) from 32 (λ f. mask_of (le_z threshold (get_or sums.now f (pos 0)))) masks.old masks.new }
 {
-    let mut f: usize = 0;
-    while f < 32 {
-        masks[from + f] = mask_of(threshold <= sums[f]);
-        f = f + 1;
+    for (f, sum) in sums.iter().enumerate() {
+        masks[from + f] = mask_of(threshold <= *sum);
     }
 }
 
 // Gate g, with signal own, in 32 lanes from lane block on.
-pub fn put_block<'a>(
-    fanins: &'a [u8; 128],
-    thresholds: &'a [i32; 128],
-    signals: &'a [u8; 2048],
-    weights: &'a [i32; 2048],
-    masks: &mut [i32; 16384],
-    g: usize,
-    own: usize,
-    block: usize,
-)
-    requires { CanPut fanins.now weights.now masks.old g own block }
+pub fn put_block(network: &Network, masks: &mut [i32; 16384], g: usize, own: usize, block: usize)
+    requires { CanPut network.now.fanins network.now.weights masks.old g own block }
     ensures { Pasted (pos 0) (64 * own + block) 32
-        (λ f. mask_of (bit (bits_in (lane masks.old (block + f)))
-        (gate_from fanins.now thresholds.now signals.now weights.now g)))
+        (λ f. mask_of (bit (bits_in (lane masks.old (block + f))) (gate_of network.now g)))
         masks.old masks.new }
 {
-    let count = wide(fanins[g]);
-    let sums = lane_sums(signals, weights, masks, 16 * g, count, block);
-    put_bits(masks, &sums, thresholds[g], 64 * own + block);
+    let count = usize::from(network.fanins[g]);
+    let sums = lane_sums(network, masks, 16 * g, count, block);
+    put_bits(masks, &sums, network.thresholds[g], 64 * own + block);
 }

@@ -1,3 +1,4 @@
 pub mod SumLaws
 pub mod SignalLaws
 pub mod OutputLaws
+pub mod FeedLaws

@@ -8,10 +8,11 @@ use native.Mathlib.Numerals.{add-one}
 use native.Mathlib.Omega.{arith}
 use lib.IntN.{ℤ, pos, nat_abs, ◌+ℤ◌, ◌*ℤ◌, +ℤ_assoc, +ℤ_idl, +ℤ_idr, one, *ℤ_comm, *ℤ-one, zero-*ℤ}
 use lib.ListN.{get_or}
-use mir.Syntax.{w64}
-use mir.Val.{SFits, bool_byte, to_z}
+use mir.Syntax.{w32, w64}
+use mir.Val.{SFits, bool_byte, to_z, of_z}
+use mir.Facts.{to_z-of_z}
 use Rattle.basics.specs.Lists.{range}
-use Rattle.basics.specs.SizeLaws.{size_add, size_fits}
+use Rattle.basics.specs.SizeLaws.{size_add, size_fits, fits_size}
 use Rattle.network.specs.Threshold.{Assignment, sum}
 use Rattle.network.specs.Record.{feed_at, feeds_from}
 use Rattle.frame_reading.specs.Evaluation.{bits_in}
@@ -81,3 +82,15 @@ module _ {size : ℕ} {ρ : Assignment} {ss : List ℕ} {ws : List ℤ} {base co
 pub added_fits : {ρ : Assignment} {ss : List ℕ} {ws : List ℤ} {base count i : ℕ} {a : ℤ} → Added 2147483648 ρ ss ws base count i a → count ≤ 16
     → SFits w64 a
 added_fits {ρ} {ss} {ws} {base} {count} {i} {a} h k = size_fits w64 a (omega (arith, h.small, h.within))
+
+-- a feed more, as the code adds it: a bit as a number times a weight, in 64 bits
+pub added_more : {ρ : Assignment} {ss : List ℕ} {ws : List ℤ} {base count i j : ℕ} {a x w : ℤ} {b : Bool}
+    → Added 2147483648 ρ ss ws base count i a → count ≤ 16 → i < count → j ≡ i + 1
+    → x ≡ pos (bool_byte b) → b ≡ ρ (get_or ss (base + i) 0) → w ≡ get_or ws (base + i) (pos 0) → SFits w32 w
+    → Added 2147483648 ρ ss ws base count j (to_z w64 (of_z w64 (a +ℤ to_z w64 (of_z w64 (to_z w64 (of_z w64 x) *ℤ to_z w64 (of_z w64 (to_z w32 (of_z w32 w))))))))
+added_more {ρ} {ss} {ws} {base} {count} {i} {j} {a} {x} {w} {b} h few k e p q r f =
+    let size = fits_size f in
+    let small : nat_abs (get_or ws (base + i) (pos 0)) ≤ 2147483648 = rw r at size in
+    let next = added_next h k small in
+    rw (p, to_z-of_z f, to_z-of_z (size_fits w64 w (omega arith)), bit_times b w, q, r, to_z-of_z (share_fits ρ ss ws (base + i) small), to_z-of_z (added_fits next few), e)
+    next

@@ -3,12 +3,11 @@ ghost use Rattle.std.specs.Prelude.{◌≡◌, true, map, ◌+◌, ◌≤◌, �
 ghost use Rattle.basics.specs.Lists.{tab};
 ghost use Rattle.basics.specs.Refusals.{accepted};
 ghost use Rattle.network.specs.Threshold.{sum, bit, run, frame, fits_frame, output_bits, word_of};
-ghost use Rattle.network.specs.Record.{feeds_from, gate_from, net_of, sound_record};
+ghost use Rattle.network.specs.Record.{feeds_from, gate_of, net_of, sound_record};
 ghost use Rattle.frame_reading.specs.Reading.{as_reading, reading};
 ghost use Rattle.frame_reading.specs.Evaluation.{bits_in, CanRun};
 
 use crate::Reading;
-use basics::{wide, widened};
 use network::Network;
 
 // The bits of the inputs on frame x; every other place is 0.
@@ -17,76 +16,43 @@ fn input_values(x: u64, inputs: usize) -> [bool; 256]
     ensures { bits_in result ≡ frame x }
 {
     let mut values = [false; 256];
-    let mut i: usize = 0;
-    while i < inputs {
+    for i in 0..inputs {
         values[i] = (x >> i) % 2 == 1;
-        i = i + 1;
     }
     values
 }
 
 // The sum of the weights whose signals are 1, over the feeds at count places from base on.
-fn gate_sum<'a>(
-    signals: &'a [u8; 2048],
-    weights: &'a [i32; 2048],
-    values: &[bool; 256],
-    base: usize,
-    count: usize,
-) -> i64
+fn gate_sum(network: &Network, values: &[bool; 256], base: usize, count: usize) -> i64
     requires { (base + count ≤ 2048) × (count ≤ 16) }
-    ensures { result ≡ sum (bits_in values.now) (feeds_from signals.now weights.now base count) }
+    ensures { result ≡ sum (bits_in values.now) (feeds_from network.now.signals network.now.weights base count) }
 {
-    let mut total: i64 = 0;
-    let mut i: usize = 0;
-    while i < count {
-        let place = base + i;
-        let signal = wide(signals[place]);
-        let weight = widened(weights[place]);
-        total = total + (values[signal] as i64) * weight;
-        i = i + 1;
+    let signals = &network.signals[base..base + count];
+    let weights = &network.weights[base..base + count];
+    let mut total = 0;
+    for (signal, weight) in signals.iter().zip(weights) {
+        total += i64::from(values[usize::from(*signal)]) * i64::from(*weight);
     }
     total
 }
 
 // Gate g's bit, given the bits of the signals below it.
-fn gate_bit<'a>(
-    fanins: &'a [u8; 128],
-    thresholds: &'a [i32; 128],
-    signals: &'a [u8; 2048],
-    weights: &'a [i32; 2048],
-    values: &[bool; 256],
-    g: usize,
-) -> bool
-    requires { (g < 128) × (get_or fanins.now g 0 ≤ 16) }
-    ensures { result ≡ bit (bits_in values.now)
-        (gate_from fanins.now thresholds.now signals.now weights.now g) }
+fn gate_bit(network: &Network, values: &[bool; 256], g: usize) -> bool
+    requires { (g < 128) × (get_or network.now.fanins g 0 ≤ 16) }
+    ensures { result ≡ bit (bits_in values.now) (gate_of network.now g) }
 {
-    let threshold = widened(thresholds[g]);
-    let count = wide(fanins[g]);
-    let total = gate_sum(signals, weights, values, 16 * g, count);
-    threshold <= total
+    let count = usize::from(network.fanins[g]);
+    i64::from(network.thresholds[g]) <= gate_sum(network, values, 16 * g, count)
 }
 
 // The bits of all signals on frame x.
-fn signal_values<'a>(
-    fanins: &'a [u8; 128],
-    thresholds: &'a [i32; 128],
-    signals: &'a [u8; 2048],
-    weights: &'a [i32; 2048],
-    inputs: usize,
-    gates: usize,
-    x: u64,
-) -> [bool; 256]
-    requires { CanRun fanins.now inputs gates x }
-    ensures { bits_in result ≡ run inputs
-        (tab gates (gate_from fanins.now thresholds.now signals.now weights.now)) (frame x) }
+fn signal_values(network: &Network, x: u64) -> [bool; 256]
+    requires { CanRun network.now.fanins network.now.inputs network.now.gates x }
+    ensures { bits_in result ≡ run network.now.inputs (tab network.now.gates (gate_of network.now)) (frame x) }
 {
-    let mut values = input_values(x, inputs);
-    let mut g: usize = 0;
-    while g < gates {
-        let b = gate_bit(fanins, thresholds, signals, weights, &values, g);
-        values[inputs + g] = b;
-        g = g + 1;
+    let mut values = input_values(x, network.inputs);
+    for g in 0..network.gates {
+        values[network.inputs + g] = gate_bit(network, &values, g);
     }
     values
 }
@@ -96,44 +62,31 @@ fn output_word(drivers: &[u8; 16], values: &[bool; 256], outputs: usize) -> u64
     requires { outputs ≤ 16 }
     ensures { result ≡ word_of (map (bits_in values.now) (tab outputs (λ j. get_or drivers.now j 0))) }
 {
-    let mut word: u64 = 0;
-    let mut j = outputs;
-    while 0 < j {
-        j = j - 1;
-        let driver = wide(drivers[j]);
-        word = 2 * word + values[driver] as u64;
+    let mut word = 0;
+    for j in (0..outputs).rev() {
+        word = 2 * word + u64::from(values[usize::from(drivers[j])]);
     }
     word
 }
 
 // The outputs on frame x.
-fn read_outputs(network: Network, x: u64) -> Reading
-    requires network_value { sound_record network ≡ true }
-    requires x_value { fits_frame network.inputs x ≡ true }
-    ensures { result ≡ as_reading (accepted (output_bits (net_of network) (frame x))) }
+fn read_outputs(network: &Network, x: u64) -> Reading
+    requires network_value { sound_record network.now ≡ true }
+    requires x_value { fits_frame network.now.inputs x ≡ true }
+    ensures { result ≡ as_reading (accepted (output_bits (net_of network.now) (frame x))) }
 {
-    let inputs = network.inputs;
-    let gates = network.gates;
-    let outputs = network.outputs;
-    let values = signal_values(
-        &network.fanins,
-        &network.thresholds,
-        &network.signals,
-        &network.weights,
-        inputs,
-        gates,
-        x,
-    );
-    let word = output_word(&network.drivers, &values, outputs);
+    let values = signal_values(network, x);
+    let bits = output_word(&network.drivers, &values, network.outputs);
     Reading {
         code: 0,
-        bits: word,
-        ones: u64::count_ones(word),
+        bits,
+        ones: bits.count_ones(),
     }
 }
 
 // Whether a frame has no bit at an input's number or above.
-fn fits_frame(inputs: usize, frame: u64) -> bool
+#[tactic(auto, unfolding(network::specs::Threshold::fits_frame))]
+pub fn fits_frame(inputs: usize, frame: u64) -> bool
     requires { inputs ≤ 40 }
     ensures { result ≡ fits_frame inputs frame }
 {
@@ -156,9 +109,8 @@ pub fn read_sound(network: Network, frame: u64) -> Reading
     requires { sound_record network ≡ true }
     ensures { result ≡ reading network frame }
 {
-    let inputs = network.inputs;
-    if !fits_frame(inputs, frame) {
+    if !fits_frame(network.inputs, frame) {
         return refused(10);
     }
-    read_outputs(network, frame)
+    read_outputs(&network, frame)
 }

@@ -156,16 +156,3 @@ module _ (f h : ℕ → ℤ) (n m : ℕ) (floor ceiling : ℤ) where
 pub one_broken : {X : Type 0} (a b : Bool) → a && b ≡ false → (a ≡ false → X) → (b ≡ false → X) → X
 one_broken true b e f g = g e
 one_broken false b e f g = f refl
-
--- a test as 1 or 0
-pub digit_few : (b : Bool) {r : ℕ} → r ≡ cond b 1 0 → r ≤ 1
-digit_few true e = omega arith
-digit_few false e = omega arith
-
--- fewer members are left after a turn
-pub falls : {n m i j p q r o : ℕ} → i < n → q < m → 0 < j → 0 < p → r ≤ 1 → o ≤ 1
-    → n - (i + (1 - r)) + (m - (q + (1 - o))) + (p - o) + (j - r) < n - i + (m - q) + p + j
-falls {n} {m} {i} {j} {p} {q} {r} {o} a b c d e f =
-    let x : n - (i + (1 - r)) + (j - r) < n - i + j = omega arith in
-    let y : m - (q + (1 - o)) + (p - o) < m - q + p = omega arith in
-    omega arith

@@ -1,3 +1,4 @@
 pub mod TableLaws
 pub mod Merging
 pub mod Weaving
+pub mod Choice

@@ -9,11 +9,10 @@ use lib.Dec.{T}
 use lib.IntN.{ℤ}
 use lib.Signed.{le_z}
 use Rattle.basics.specs.Lists.{below}
-use Rattle.basics.specs.ListLaws.{below_more, below_at, at_below}
+use Rattle.basics.specs.ListLaws.{below_more, below_at, at_below, below_same}
 use Rattle.basics.specs.IntegerLaws.{#, of_le, le_of}
 use Rattle.basics.specs.TestLaws.{T_and, and_T, and_true, and_assoc, test_same}
 use Rattle.gate_rising.specs.Tables.{AtMost}
-use Rattle.gate_rising.proofs.TableLaws.{below_same}
 
 -- g has the first a members of f and the first b of h, in the order R, and no others; where two are equal, f's comes first
 pub record Merged (R : ℤ → ℤ → Type 0) (f h : ℕ → ℤ) (n a b : ℕ) (g : ℕ → ℤ) : Type 0 where

@@ -18,12 +18,6 @@ use Rattle.gate_rising.specs.Sums.{every_sum}
 use Rattle.gate_rising.specs.SumLaws.{listed_small, drop_small}
 use Rattle.gate_rising.specs.Tables.{SumsWithin, Growable, Grown, HoldsSums}
 
--- two tests that are equal at each number
-pub below_same : (n : ℕ) (p q : ℕ → Bool) → ((i : ℕ) → i < n → p i ≡ q i) → below n p ≡ below n q
-below_same n p q h = test_same (below n p) (below n q)
-    (λ t. at_below n q λ i k. subst T (h i k) (below_at n p t i k))
-    (λ t. at_below n p λ i k. subst T (sym (h i k)) (below_at n q t i k))
-
 -- no weight has one sum, 0
 holds_none : HoldsSums [] 1 (replicate 512 (pos 0))
 holds_none = record {
@@ -49,11 +43,11 @@ pub record Filling (weights : List ℤ) (i n : ℕ) (sums : List ℤ) : Type 0 w
   pub many : n ≡ 2 ^ (length weights - i)
   pub part : HoldsSums (drop i weights) n sums
 
-pub filling_none : (weights : List ℤ) → Filling weights (length weights) 1 (replicate 512 (pos 0))
-filling_none weights = record {
+pub filling_none : (weights : List ℤ) (i : ℕ) → i ≡ length weights → Filling weights i 1 (replicate 512 (pos 0))
+filling_none weights i e = record {
   left = omega arith;
-  many = rw (let e : length weights - length weights ≡ 0 = omega arith in e);
-  part = rw (drop_of_length-le weights {i = length weights} (omega arith)) holds_none;
+  many = rw (let d : length weights - i ≡ 0 = omega arith in d);
+  part = rw (drop_of_length-le weights {i = i} (omega arith)) holds_none;
 }
 
 module _ (weights : List ℤ) (i n : ℕ) (sums : List ℤ) (s : Filling weights i n sums) (few : length weights ≤ 8) (small : SizesWithin 1000000 weights) where

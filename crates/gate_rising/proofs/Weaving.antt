@@ -1,7 +1,7 @@
 -- The list of n sums being doubled: what the table has after some members were put at the front and some at the back, and a member more
 -- at either end. Assumes nothing.
 use mathlib.Core.Path.{◌≡◌, refl, sym, ap, ◌∙◌, subst}
-use mathlib.Core.Bool.{Bool, true, false}
+use mathlib.Core.Bool.{true, false}
 use mathlib.Core.List.{List}
 use mathlib.Core.Logic.{◌≢◌}
 use Prim.Native.Nat.{ℕ, ◌+◌, ◌*◌, ◌-◌, ◌≤◌, ◌<◌}
@@ -251,8 +251,3 @@ module _ (n : ℕ) (w : ℤ) (before : List ℤ) (ok : Growable n w before) wher
       doubled = both_same f h n f_rises h_rises a b c d (member after (2 * n)) s.front s.back (omega arith) (omega arith);
       rising = both_rise f h n f_rises h_rises a b c d (member after (2 * n)) s.front s.back (omega arith) (omega arith);
     }
-
--- an answer is 0 or 1
-pub told_few : (first : Bool) {x y : ℤ} {place : ℕ} {before after : List ℤ} {answer : ℕ} → ChosenPut first x y place before after answer → answer ≤ 1
-told_few true p = omega (arith, p.told)
-told_few false p = omega (arith, p.told)

@@ -1,4 +1,4 @@
-// The sums of some weights as a rising list, in lent places. Its call asks for what `unchecked` says.
+// The sums of some weights as a rising list. Its call asks for what `unchecked` says.
 #![tactic(auto)]
 
 pub mod unchecked;

@@ -13,13 +13,8 @@ fn put_front(sums: &mut [i32; 512], n: usize, weight: i32, a: usize, b: usize) -
     let x = sums[n + a];
     let y = weight + sums[n + b];
     let place = 2 * n + (a + b);
-    if x <= y {
-        sums[place] = x;
-        1
-    } else {
-        sums[place] = y;
-        0
-    }
+    sums[place] = x.min(y);
+    usize::from(x <= y)
 }
 
 // Puts the higher of the last two members at the back, c being those that are left without the weight and d those with it. Answers 1
@@ -31,13 +26,8 @@ fn put_back(sums: &mut [i32; 512], n: usize, weight: i32, c: usize, d: usize) ->
     let x = sums[n + (c - 1)];
     let y = weight + sums[n + (d - 1)];
     let place = 2 * n + (c + d - 1);
-    if x <= y {
-        sums[place] = y;
-        1
-    } else {
-        sums[place] = x;
-        0
-    }
+    sums[place] = x.max(y);
+    usize::from(x <= y)
 }
 
 // The list of n sums doubled by a weight: the n sums, and the n sums with the weight, as one rising list, made from both ends to the
@@ -50,6 +40,7 @@ fn grow(sums: &mut [i32; 512], n: usize, weight: i32)
     let mut b: usize = 0;
     let mut c = n;
     let mut d = n;
+    // Kept: a turn goes by the four places that it moves, and k only counts the turns.
     for k in 0..n {
         let front = put_front(sums, n, weight, a, b);
         a += front;
@@ -68,11 +59,9 @@ pub fn table(weights: &[i32]) -> [i32; 512]
 {
     let mut sums = [0i32; 512];
     let mut n: usize = 1;
-    let mut i = weights.len();
-    while 0 < i {
-        i -= 1;
-        grow(&mut sums, n, weights[i]);
-        n = 2 * n;
+    for weight in weights.iter().rev() {
+        grow(&mut sums, n, *weight);
+        n *= 2;
     }
     sums
 }

@@ -16,10 +16,7 @@ pub fn settings(count: usize) -> usize
 pub fn high_feeds(count: usize) -> usize
     ensures { result ≡ count - 8 }
 {
-    if count < 8 {
-        return 0;
-    }
-    count - 8
+    count.saturating_sub(8)
 }
 
 // Doubles the settings that a table has by those on which weight `bit` of each half is 1 too.
@@ -32,6 +29,7 @@ fn extend(weights: &[i32; 16], bit: usize, sums: &mut [i32; 512])
     let low = weights[bit];
     let high = weights[8 + bit];
     let filled = settings(bit);
+    // Kept: a turn reads place j of both halves and writes place filled + j of both; iterators over four parts are no plainer.
     for j in 0..filled {
         let x = sums[j] + low;
         let y = sums[256 + j] + high;

@@ -1,63 +1,48 @@
--- Internal: a record by its parts, where its arrays are lent, and what a call of a list leaves of them. Nothing is proved here.
-use Rattle.std.specs.Prelude.{◌≡◌, true, List, ℕ, ℤ}
+-- Internal: what a call of a list on a record that is lent answers and leaves. Nothing is proved here.
+use Rattle.std.specs.Prelude.{◌≡◌, true, ℕ, Result, Ok, Err}
+use Rattle.refusals.specs.Numbers.{number_of}
+use Rattle.refusals.specs.declared.Refusal.{Refusal}
+use Rattle.network.specs.RecordLaws.{ArrayLengths}
 use Rattle.network.specs.declared.Network.{Network}
-use Rattle.network_places.specs.Parts.{from_parts, counting, Lengths}
-use Rattle.network_places.specs.declared.Head.{Head}
+use Rattle.call_theory.specs.declared.Figures.{Figures}
 use Rattle.journal.specs.Records.{sound_whole}
 use Rattle.journal.specs.declared.CallAnswer.{CallAnswer}
-use Rattle.journal.specs.declared.CallLeft.{CallLeft}
 use Rattle.journal.specs.declared.Journal.{Journal}
 use Rattle.journal.specs.declared.Record.{Record}
+use Rattle.journal.specs.declared.StepKind.{StepKind}
+use Rattle.journal.specs.declared.StepKind.TheVariants as kinds
 
--- the journal of a count and arrays
-abbrev pub journal_parts : ℕ → List ℕ → List ℕ → List ℕ → List ℤ → List ℕ → List ℤ → Journal
-journal_parts count kinds signals fanins thresholds feeds weights = record {
-  count = count;
-  kinds = kinds;
-  signals = signals;
-  fanins = fanins;
-  thresholds = thresholds;
-  feeds = feeds;
-  weights = weights;
-}
+-- the number of a kind in a journal
+abbrev pub kind_number : StepKind → ℕ
+kind_number kinds.Merge = 0
+kind_number kinds.Drop = 1
 
--- the record of a network's parts and a journal's
-abbrev pub record_parts : Head → List ℕ → List ℤ → List ℕ → List ℤ → List ℕ → ℕ → List ℕ → List ℕ → List ℕ → List ℤ → List ℕ → List ℤ → Record
-record_parts head fanins thresholds signals weights drivers count kinds step_signals step_fanins step_thresholds feeds step_weights = record {
-  network = from_parts head fanins thresholds signals weights drivers;
-  journal = journal_parts count kinds step_signals step_fanins step_thresholds feeds step_weights;
-}
+-- the number of collapses of a sweep, and 0 and 0
+abbrev pub counted : ℕ → Figures
+counted collapses = record { first = collapses; second = 0; third = 0 }
 
--- the answer of a call that leaves these numbers and arrays
-abbrev pub answer_parts : CallLeft → Head → List ℕ → List ℤ → List ℕ → List ℤ → List ℕ → List ℕ → List ℕ → List ℕ → List ℤ → List ℕ → List ℤ → CallAnswer
-answer_parts o head fanins thresholds signals weights drivers kinds step_signals step_fanins step_thresholds feeds step_weights = record {
-  code = o.code;
-  after = record_parts (counting head o.gates) fanins thresholds signals weights drivers o.count
-      kinds step_signals step_fanins step_thresholds feeds step_weights;
-  figures = o.figures;
-}
+-- the code of what a call gives, and its three numbers; 0 on refusal
+abbrev pub code_given : Result Figures Refusal → ℕ
+code_given (Ok f) = 0
+code_given (Err e) = number_of e
 
--- the arrays are those of a sound record
-pub record SoundParts (head : Head) (fanins : List ℕ) (thresholds : List ℤ) (signals : List ℕ) (weights : List ℤ) (drivers : List ℕ)
-    (count : ℕ) (kinds step_signals step_fanins : List ℕ) (step_thresholds : List ℤ) (feeds : List ℕ) (step_weights : List ℤ) : Type 0 where
-  pub lengths : Lengths fanins thresholds signals weights drivers
-  pub whole : sound_whole (record_parts head fanins thresholds signals weights drivers count
-      kinds step_signals step_fanins step_thresholds feeds step_weights) ≡ true
+abbrev pub figures_given : Result Figures Refusal → Figures
+figures_given (Ok f) = f
+figures_given (Err e) = counted 0
 
--- ---- the answers
-
--- a code, the numbers of gates and of steps, and the number of collapses of a sweep
-abbrev pub leaving : ℕ → ℕ → ℕ → ℕ → CallLeft
-leaving code gates count collapses = record { code = code; gates = gates; count = count; figures = record { first = collapses; second = 0; third = 0 } }
+-- what a call gives, and the record that it leaves, as an answer
+abbrev pub left_by : Result Figures Refusal → Record → CallAnswer
+left_by m r = record { code = code_given m; after = r; figures = figures_given m }
 
 -- a refusal: the record stays
 abbrev pub refusing : ℕ → Record → CallAnswer
-refusing code r = record { code = code; after = r; figures = record { first = 0; second = 0; third = 0 } }
+refusing code r = record { code = code; after = r; figures = counted 0 }
 
 -- the network and the journal that an accepted call leaves, and the number of collapses of a sweep
 abbrev pub answered : Network → Journal → ℕ → CallAnswer
-answered n j collapses = record {
-  code = 0;
-  after = record { network = n; journal = j };
-  figures = record { first = collapses; second = 0; third = 0 };
-}
+answered n j collapses = record { code = 0; after = record { network = n; journal = j }; figures = counted collapses }
+
+-- a sound record, whose network's arrays have their lengths
+pub record SoundHeld (r : Record) : Type 0 where
+  pub shape : ArrayLengths r.network
+  pub whole : sound_whole r ≡ true

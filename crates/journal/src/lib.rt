@@ -1,4 +1,4 @@
-// The record: a network with the journal of its last 64 accepted steps, by value; and what a call of a list on it answers.
+// The record: a network with the journal of its last 64 accepted steps; and what a call of a list on it answers.
 #![tactic(auto)]
 
 pub mod unchecked;
@@ -12,7 +12,7 @@ use network::Network;
 
 // A journal: the number of steps, and for each of 64 places its kind (0 a merge, else a drop), its signal, and the gate that stood there: feed
 // count, threshold, and 16 feed places. The newest step stands at place 0, step i's feed f at place 16 i + f; spare places hold 0.
-#[derive(Clone, Copy)]
+#[derive(Clone, Copy, PartialEq, Eq)]
 pub struct Journal {
     pub count: usize,
     pub kinds: [u8; 64],
@@ -24,7 +24,7 @@ pub struct Journal {
 }
 
 // A record: a network, and the journal of the steps that led to it.
-#[derive(Clone, Copy)]
+#[derive(Clone, Copy, PartialEq, Eq)]
 pub struct Record {
     pub network: Network,
     pub journal: Journal,
@@ -38,67 +38,59 @@ pub struct CallAnswer {
     pub figures: Figures,
 }
 
-// What a call of a list answers where the arrays of its record are lent: 0 or the refusal, the numbers of gates and of steps that it leaves, and its
-// three numbers.
-#[derive(Clone, Copy)]
-pub struct CallLeft {
-    pub code: u8,
-    pub gates: usize,
-    pub count: usize,
-    pub figures: Figures,
+// The kind of a step, in the order of their numbers in a journal.
+#[derive(Clone, Copy, Debug, PartialEq, Eq)]
+pub enum StepKind {
+    Merge,
+    Drop,
 }
 
 // The journal of a read.
+#[tactic(auto, unfolding(crate::specs::Journals::empty_journal))]
 pub fn empty() -> Journal
     ensures { result ≡ empty_journal }
 {
-    let kinds = [0u8; 64];
-    let signals = [0u8; 64];
-    let fanins = [0u8; 64];
-    let thresholds = [0i32; 64];
-    let feeds = [0u8; 1024];
-    let weights = [0i32; 1024];
     Journal {
         count: 0,
-        kinds,
-        signals,
-        fanins,
-        thresholds,
-        feeds,
-        weights,
+        kinds: [0; 64],
+        signals: [0; 64],
+        fanins: [0; 64],
+        thresholds: [0; 64],
+        feeds: [0; 1024],
+        weights: [0; 1024],
     }
 }
 
 // The record of a network just read: its journal is empty.
+#[tactic(auto, unfolding(crate::specs::Records::just_read))]
 pub fn just_read(network: Network) -> Record
     ensures { result ≡ just_read network }
 {
-    let journal = empty();
-    Record { network, journal }
+    Record {
+        network,
+        journal: empty(),
+    }
 }
 
 // Whether a record is sound: its network is, and its journal claims at most 64 steps.
+#[tactic(auto, unfolding(crate::specs::Records::sound_whole))]
 pub fn is_sound(held: Record) -> bool
     ensures { result ≡ sound_whole held }
 {
-    let network = held.network;
-    let journal = held.journal;
-    let count = journal.count;
-    network_soundness::is_sound(network) & (count <= 64)
+    network_soundness::is_sound(held.network) && held.journal.count <= 64
 }
 
 // A refusal, with the record that came in.
 pub fn refusal(code: u8, held: Record) -> CallAnswer
     ensures { result ≡ record { code = code; after = held; figures = record { first = 0; second = 0; third = 0 } } }
 {
-    let figures = Figures {
-        first: 0,
-        second: 0,
-        third: 0,
-    };
     CallAnswer {
         code,
         after: held,
-        figures,
+        figures: Figures {
+            first: 0,
+            second: 0,
+            third: 0,
+        },
     }
 }

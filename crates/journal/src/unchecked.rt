@@ -1,23 +1,16 @@
-// What a call of a list leaves in lent arrays, as numbers.
+// The three numbers of a call of a list that shows no size.
 ghost use Rattle.std.specs.Prelude.{◌≡◌};
-ghost use Rattle.journal.specs.Parts.{leaving};
+ghost use Rattle.journal.specs.Parts.{counted};
 
-use crate::CallLeft;
 use call_theory::Figures;
 
-// What a call leaves: its code, the numbers of gates and of steps, and the number of collapses of a sweep.
-pub fn call_left(code: u8, gates: usize, count: usize, collapses: usize) -> CallLeft
-    ensures { result ≡ leaving code gates count collapses }
+// The number of collapses of a sweep, and 0 and 0.
+pub fn collapses_made(collapses: usize) -> Figures
+    ensures { result ≡ counted collapses }
 {
-    let figures = Figures {
+    Figures {
         first: collapses as u64,
         second: 0,
         third: 0,
-    };
-    CallLeft {
-        code,
-        gates,
-        count,
-        figures,
     }
 }

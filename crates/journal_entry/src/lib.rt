@@ -1,4 +1,4 @@
-// A step entered into a journal whose arrays are lent. Its calls ask for what `unchecked` says.
+// A step entered into a journal.
 #![tactic(auto)]
 
 pub mod unchecked;

@@ -5,9 +5,7 @@ ghost use Rattle.network.specs.Changes.{inserted};
 ghost use Rattle.network_insertion.specs.Insertions.{Insertable};
 
 use network::{GateRecord, Network};
-use network_gaps::unchecked::{
-    fanins_with_gap, raised_drivers, signals_with_gap, thresholds_with_gap, weights_with_gap,
-};
+use network_gaps::unchecked::{open_gap, raise_all};
 use network_places::unchecked::store_gate;
 
 // The record with a gate put in at signal u, which nothing reads; the signals at or above u rise by one.
@@ -16,22 +14,14 @@ pub fn insert_gate(network: Network, u: usize, gate: GateRecord) -> Network
     ensures { result ≡ layout (inserted (net_of network) u (gate_in gate)) }
 {
     let g = u - network.inputs;
-    let first = 16 * g;
-    let gates = network.gates + 1;
     let mut result = network;
-    result.gates = gates;
-    result.fanins = fanins_with_gap(&result.fanins, g);
-    result.thresholds = thresholds_with_gap(&result.thresholds, g);
-    result.signals = signals_with_gap(&result.signals, first, u);
-    result.weights = weights_with_gap(&result.weights, first);
-    result.drivers = raised_drivers(result.drivers, u);
-    store_gate(
-        &mut result.fanins,
-        &mut result.thresholds,
-        &mut result.signals,
-        &mut result.weights,
-        g,
-        gate,
-    );
+    open_gap(&mut result.fanins, g, 1, 0);
+    open_gap(&mut result.thresholds, g, 1, 0);
+    open_gap(&mut result.signals, 16 * g, 16, 0);
+    open_gap(&mut result.weights, 16 * g, 16, 0);
+    raise_all(&mut result.signals, u);
+    raise_all(&mut result.drivers, u);
+    result.gates += 1;
+    store_gate(&mut result, g, gate);
     result
 }

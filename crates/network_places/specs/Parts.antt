@@ -1,30 +1,25 @@
--- Internal: a record by its parts: what it holds beside its arrays, and the arrays, where these are lent. Nothing is proved here.
-use Rattle.std.specs.Prelude.{◌≡◌, List, ℕ, ℤ, length}
+-- Internal: a gate of a record in the form of its places, and stored into them. Nothing is proved here.
+use Rattle.std.specs.Prelude.{◌≡◌, ℕ}
+use Rattle.network.specs.Record.{row_at}
+use Rattle.network.specs.Places.{GateStored}
+use Rattle.network.specs.declared.GateRecord.{GateRecord}
 use Rattle.network.specs.declared.Network.{Network}
-use Rattle.network_places.specs.declared.Head.{Head}
 
--- the record of a head and arrays
-abbrev pub from_parts : Head → List ℕ → List ℤ → List ℕ → List ℤ → List ℕ → Network
-from_parts head fanins thresholds signals weights drivers = record {
-  board = head.board;
-  inputs = head.inputs;
-  gates = head.gates;
-  outputs = head.outputs;
-  fanins = fanins;
-  signals = signals;
-  weights = weights;
-  thresholds = thresholds;
-  drivers = drivers;
-}
+-- the places of gate g
+abbrev pub row_in : Network → ℕ → GateRecord
+row_in r g = row_at r.fanins r.thresholds r.signals r.weights g
 
--- a head with so many gates
-abbrev pub counting : Head → ℕ → Head
-counting head gates = record { board = head.board; inputs = head.inputs; gates = gates; outputs = head.outputs }
-
--- the arrays have the lengths of a record's
-pub record Lengths (fanins : List ℕ) (thresholds : List ℤ) (signals : List ℕ) (weights : List ℤ) (drivers : List ℕ) : Type 0 where
-  pub fanins_long : length fanins ≡ 128
-  pub thresholds_long : length thresholds ≡ 128
-  pub signals_long : length signals ≡ 2048
-  pub weights_long : length weights ≡ 2048
-  pub drivers_long : length drivers ≡ 16
+-- new is old with a gate stored as gate g, and nothing else changed
+pub record StoredIn (g : ℕ) (gate : GateRecord) (old new : Network) : Type 0 where
+  pub arrays : GateStored g gate old.fanins old.thresholds old.signals old.weights new.fanins new.thresholds new.signals new.weights
+  pub rest : new ≡ record {
+    board = old.board;
+    inputs = old.inputs;
+    gates = old.gates;
+    outputs = old.outputs;
+    fanins = new.fanins;
+    signals = new.signals;
+    weights = new.weights;
+    thresholds = new.thresholds;
+    drivers = old.drivers;
+  }

@@ -1,9 +1,13 @@
 -- Laws of a run of values written into a list, one after the other, at any type of values. Assumes nothing.
-use Rattle.std.specs.Prelude.{◌≡◌, refl, List, ℕ, ◌+◌, ◌-◌, ◌<◌, length, get_or, set}
+use Rattle.std.specs.Prelude.{◌≡◌, refl, List, ◌++◌, ℕ, ◌+◌, ◌-◌, ◌≤◌, ◌<◌, length, get_or, set, take, drop, map}
 use Rattle.std.proofs.Common.{sym, ap, ◌∙◌, arith, length-set, ext_get_or, get_or-set_same, get_or-set_other}
 use Rattle.std.proofs.Math.Decide.{dec_lt}
+use Rattle.std.proofs.lemmas.List.{length-take, length-drop, get_or-take, get_or-drop, length-append, get_or-append-add, get_or-append_right}
+use Rattle.std.proofs.Math.ListN.{get_or-append}
+use borrow.Rule.Slice.PartMut.{put_mid, mid_of}
 use Rattle.basics.specs.Lists.{tab}
 use Rattle.basics.specs.ListLaws.{tab_of}
+use Rattle.basics.specs.TableLaws.{map_tab}
 use Rattle.network.specs.Places.{Pasted}
 
 -- nothing written
@@ -36,6 +40,11 @@ pasted_first {A} {d} {k} {i} {f} {old} {new} h l q =
 pub pasted_tab : {A : Type 0} {d : A} {k : ℕ} {f : ℕ → A} {old new : List A} → Pasted d 0 k f old new → length old ≡ k → new ≡ tab k f
 pasted_tab {A} {d} {k} {f} {old} {new} h l =
     sym (tab_of d k f new (sym (h.long ∙ l)) λ i j. sym (pasted_first h (omega (arith, h.long)) (omega (arith, h.long))))
+
+-- a run that is f of each value of the list
+pub pasted_map : {A : Type 0} {d : A} {k : ℕ} (f : A → A) {old new : List A} → Pasted d 0 k (λ i. f (get_or old i d)) old new → length old ≡ k → new ≡ map f old
+pasted_map {A} {d} {k} f {old} {new} h l =
+    pasted_tab h l ∙ sym (map_tab f k (λ i. get_or old i d)) ∙ ap (map f) (tab_of d k (λ i. get_or old i d) old (sym l) (λ i h. refl))
 
 -- the same run by another name
 pub pasted_as : {A : Type 0} {d : A} {base to k : ℕ} {f g : ℕ → A} {old new : List A} → Pasted d base k f old new → base ≡ to
@@ -79,3 +88,34 @@ pasted_same {A} {d} {base} {k} {f} {old} {new} {new'} a b = ext_get_or d new new
         | no l ↦ a.after p (omega arith) ∙ sym (b.after p (omega arith))
       ]
     ]
+
+-- ---- a part of a list, read and written
+-- how long the part is
+pub part_length : {A : Type 0} (base k : ℕ) (xs : List A) → base + k ≤ length xs → length (mid_of base k xs) ≡ k
+part_length base k xs h = omega (arith, length-take k (drop base xs), length-drop base xs)
+
+-- n values from place base on, as a table
+pub part_tab : {A : Type 0} (d : A) (base n k : ℕ) (xs : List A) → k ≡ n → base + n ≤ length xs → mid_of base k xs ≡ tab n (λ i. get_or xs (base + i) d)
+part_tab d base n k xs e h =
+    let long : length (mid_of base k xs) ≡ k = part_length base k xs (omega arith) in
+    sym (tab_of d n (λ i. get_or xs (base + i) d) (mid_of base k xs) (omega arith) λ i l.
+    sym (get_or-take k (drop base xs) i d (omega arith) ∙ get_or-drop base xs i d))
+
+-- n values written from place base on
+pub pasted_part : {A : Type 0} (d : A) (base n k : ℕ) (old ys : List A) → k ≡ n → length ys ≡ n → base + n ≤ length old
+    → Pasted d base n (λ i. get_or ys i d) old (put_mid base k old ys)
+pasted_part d base n k old ys e l h =
+    let front : length (take base old) ≡ base = omega (arith, length-take base old) in
+    let rest : length (drop k (drop base old)) ≡ length old - base - k = omega (arith, length-drop k (drop base old), length-drop base old) in
+    record {
+      long = omega (arith, length-append (take base old) (ys ++ drop k (drop base old)), length-append ys (drop k (drop base old)));
+      inside = λ i j q. ap (λ (m : ℕ). get_or (put_mid base k old ys) (m + i) d) (sym front)
+          ∙ get_or-append-add (take base old) (ys ++ drop k (drop base old)) i d
+          ∙ get_or-append ys (drop k (drop base old)) d i (omega arith);
+      before = λ p j. get_or-append (take base old) (ys ++ drop k (drop base old)) d p (omega arith) ∙ get_or-take base old p d j;
+      after = λ p j. get_or-append_right (take base old) (ys ++ drop k (drop base old)) base p d front (omega arith)
+          ∙ get_or-append_right ys (drop k (drop base old)) n (p - base) d l (omega arith)
+          ∙ get_or-drop k (drop base old) (p - base - n) d
+          ∙ get_or-drop base old (k + (p - base - n)) d
+          ∙ ap (λ (m : ℕ). get_or old m d) (omega arith);
+    }

@@ -1,5 +1,5 @@
 -- The record of a network without one of its gates: its arrays without the gate's places, and its signals lowered. Assumes nothing.
-use Rattle.std.specs.Prelude.{◌≡◌, refl, List, map, ℕ, ◌+◌, ◌*◌, ◌/◌, ◌%◌, ◌-◌, ◌≤◌, ◌<◌, pos, set}
+use Rattle.std.specs.Prelude.{◌≡◌, refl, List, map, ℕ, ◌+◌, ◌*◌, ◌/◌, ◌%◌, ◌-◌, ◌≤◌, ◌<◌, pos, replicate}
 use Rattle.std.proofs.Math.Path.{sym, ap}
 use Rattle.std.proofs.Common.{◌∙◌, subst, add-one, arith, lt-ltb, le-ltb}
 use Rattle.std.proofs.Math.Decide.{dec_lt}
@@ -11,11 +11,14 @@ use Rattle.network.specs.Threshold.{Feed, Gate}
 use Rattle.network.specs.Record.{net_of, layout, sound_record, no_feed, no_gate, nth_gate, place_of, fanins_of, thresholds_of, place_signals, place_weights, drivers_of}
 use Rattle.network.specs.Changes.{lowered, lowered_feed, lowered_gate, remove_at, without}
 use Rattle.network.specs.ChangeLaws.{lowered_low, length_remove, remove_low, remove_high}
-use Rattle.network.specs.Places.{Pasted, SoundGate, origin, without_places}
+use Rattle.network.specs.Places.{SoundGate, origin, without_places}
 use Rattle.basics.specs.TableLaws.{map_tab, tab_any}
 use Rattle.network.specs.PlaceLaws.{gate_beyond}
 use Rattle.network.specs.RecordLaws.{ArrayLengths, layout_net_of, count_gates, count_outputs, gate_number}
-use Rattle.network_places.specs.PasteLaws.{pasted_more, pasted_first}
+use Rattle.network_places.specs.PasteLaws.{part_length, pasted_part}
+use Rattle.std.specs.List.{CopiedTo, SameBelow}
+use Rattle.std.proofs.lemmas.List.{length-replicate, get_or-replicate}
+use borrow.Rule.Slice.PartMut.{put_mid, mid_of}
 
 -- ---- places that move
 
@@ -37,36 +40,30 @@ remove_at_lem d xs i j = elim (dec_lt j i) as (λ t. get_or (remove_at i xs) j d
   | no k ↦ let h : i ≤ j = omega arith in remove_high d xs i j h ∙ ap (λ (m : ℕ). get_or xs m d) (sym (origin_high i 1 j h ∙ add-one j))
 ]
 
--- nothing moved yet: the values before the first place stay
-pub moved_none : {A : Type 0} (d : A) (first gap : ℕ) (xs : List A) → Pasted d 0 first (λ p. get_or xs (origin first gap p) d) xs xs
-moved_none d first gap xs = record {
-  long = refl;
-  inside = λ i h l. let e : 0 + i ≡ origin first gap i = omega (arith, origin_low first gap i h) in ap (λ (p : ℕ). get_or xs p d) e;
-  before = λ p h. refl;
-  after = λ p h. refl;
-}
-
--- one value more, from gap places above
-pub moved_more : {A : Type 0} {d : A} (first gap : ℕ) {p : ℕ} {old new : List A} (q : ℕ) (v : A) → Pasted d 0 p (λ k. get_or old (origin first gap k) d) old new
-    → first ≤ p → q ≡ p + gap → v ≡ get_or new q d → Pasted d 0 (p + 1) (λ k. get_or old (origin first gap k) d) old (set new p v)
-moved_more {A} {d} first gap {p} {old} {new} q v h l e ev = pasted_more p v h (omega arith)
-    (ev ∙ h.after q (omega arith) ∙ ap (λ (m : ℕ). get_or old m d) (e ∙ sym (origin_high first gap p l)))
-
--- moved down, and cleared past the end
-pub moved_cleared : {A : Type 0} {d : A} (first gap : ℕ) {n m q : ℕ} {old mid new : List A} → first + gap ≤ length old → n ≡ length old - gap
-    → q ≡ length mid - gap → m ≡ length mid - q → Pasted d 0 n (λ p. get_or old (origin first gap p) d) old mid → Pasted d q m (λ i. d) mid new
-    → new ≡ without_places d (length old) first gap old
+-- moved down, and spare past the end
+pub gap_closed : {A : Type 0} (d : A) (first gap q k : ℕ) (old mid ys : List A) → first + gap ≤ length old → q ≡ length old - gap → k ≡ length mid - q
+    → length mid ≡ length old → CopiedTo old mid (first + gap) first (length old - (first + gap)) → SameBelow old mid first → ys ≡ replicate (length (mid_of q k mid)) d
+    → put_mid q k mid ys ≡ without_places d (length old) first gap old
 unfolding without_places
-moved_cleared {A} {d} first gap {n} {m} {q} {old} {mid} {new} few en eq em h k =
-    sym (tab_of d (length old) (λ p. get_or old (origin first gap p) d) new (sym (k.long ∙ h.long)) λ p b.
-    let l : p < length old = omega (arith, k.long, h.long) in
-    elim (dec_lt p n) as (λ t. get_or old (origin first gap p) d ≡ get_or new p d) [
-      | yes j ↦ sym (k.before p (omega (arith, h.long)) ∙ pasted_first h j l)
-      | no j ↦
-          let past : p ≡ q + (p - q) = omega (arith, h.long) in
-          ap (λ (i : ℕ). get_or old i d) (origin_high first gap p (omega arith))
-          ∙ get_or-eq_default old d {n = p + gap} (omega arith)
-          ∙ sym (ap (λ (i : ℕ). get_or new i d) past ∙ k.inside (p - q) (omega (arith, h.long)) (omega (arith, h.long)))
+gap_closed {A} d first gap q k old mid ys few eq ek em moved stays spare =
+    let m : ℕ = length (mid_of q k mid) in
+    let whole : m ≡ k = part_length q k mid (omega arith) in
+    let long : length ys ≡ k = ap length spare ∙ length-replicate m d ∙ whole in
+    let past = pasted_part d q k k mid ys refl long (omega arith) in
+    let new : List A = put_mid q k mid ys in
+    sym (tab_of d (length old) (λ p. get_or old (origin first gap p) d) new (sym (past.long ∙ em)) λ p b.
+    let l : p < length old = omega (arith, past.long) in
+    elim (dec_lt p first) as (λ t. get_or old (origin first gap p) d ≡ get_or new p d) [
+      | yes j ↦ ap (λ (i : ℕ). get_or old i d) (origin_low first gap p j) ∙ sym (past.before p (omega arith) ∙ stays p d j)
+      | no j ↦ ap (λ (i : ℕ). get_or old i d) (origin_high first gap p (omega arith))
+          ∙ elim (dec_lt p q) as (λ t. get_or old (p + gap) d ≡ get_or new p d) [
+            | yes i ↦ let e : p + gap ≡ first + gap + (p - first) = omega arith in
+                ap (λ (m : ℕ). get_or old m d) e ∙ sym (past.before p i ∙ moved p d (omega arith) (omega arith))
+            | no i ↦ let e : p ≡ q + (p - q) = omega arith in
+                get_or-eq_default old d {n = p + gap} (omega arith)
+                ∙ sym (ap (λ (m : ℕ). get_or new m d) e ∙ past.inside (p - q) (omega arith) (omega arith)
+                ∙ ap (λ (zs : List A). get_or zs (p - q) d) spare ∙ get_or-replicate m (p - q) d d (omega arith))
+          ]
     ])
 
 -- ---- a lowered signal

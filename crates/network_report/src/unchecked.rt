@@ -1,62 +1,47 @@
 // The size of a record that the caller has tested: the cost, gate by gate, and the levels.
-ghost use Rattle.std.specs.Prelude.{◌≡◌, true, List, ℕ, ◌+◌, ◌≤◌, ◌<◌, get_or};
+ghost use Rattle.std.specs.Prelude.{◌≡◌, true, ◌≤◌, ◌<◌, length, get_or};
 ghost use Rattle.basics.specs.Lists.{tab};
-ghost use Rattle.network.specs.Record.{gate_from, sound_record};
+ghost use Rattle.network.specs.Record.{gate_of, sound_record};
 ghost use Rattle.network.specs.Places.{Counted};
 ghost use Rattle.network_report.specs.Size.{cost, reported};
 ghost use Rattle.network_report.specs.Arrays.{CostOfWeights, CostOfGate};
 
 use crate::SizeReport;
-use basics::{magnitude, wide};
 use network::Network;
 use network_levels::unchecked::network_levels;
 
-// The sum of the sizes of the weights at count places from base on.
-fn weights_cost(weights: &[i32; 2048], base: usize, count: usize) -> u64
-    requires { (base + count ≤ 2048) × (count ≤ 16) }
-    ensures { CostOfWeights weights.now base count result }
+// The sum of the sizes of a gate's weights.
+fn weights_cost(weights: &[i32]) -> u64
+    requires { length weights.now ≤ 16 }
+    ensures { CostOfWeights weights.now 0 (length weights.now) result }
 {
     let mut total: u64 = 0;
-    let mut i: usize = 0;
-    while i < count {
-        let place = base + i;
-        total = total + magnitude(weights[place]) as u64;
-        i = i + 1;
+    for weight in weights {
+        total += u64::from(weight.unsigned_abs());
     }
     total
 }
 
 // The cost of gate g: the sizes of its threshold and of its weights.
-fn gate_cost<'a>(
-    fanins: &'a [u8; 128],
-    thresholds: &'a [i32; 128],
-    weights: &'a [i32; 2048],
-    g: usize,
-) -> u64
-    requires { (g < 128) × (get_or fanins.now g 0 ≤ 16) }
-    ensures { CostOfGate fanins.now thresholds.now weights.now g result }
+fn gate_cost(network: &Network, g: usize) -> u64
+    requires { (g < 128) × (get_or network.now.fanins g 0 ≤ 16) }
+    ensures { CostOfGate network.now.fanins network.now.thresholds network.now.weights g result }
 {
-    let threshold = magnitude(thresholds[g]) as u64;
-    let count = wide(fanins[g]);
-    let total = weights_cost(weights, 16 * g, count);
+    let threshold = u64::from(network.thresholds[g].unsigned_abs());
+    let base = 16 * g;
+    let end = base + usize::from(network.fanins[g]);
+    let total = weights_cost(&network.weights[base..end]);
     threshold + total
 }
 
 // The cost of all gates.
-fn total_cost<'a>(
-    fanins: &'a [u8; 128],
-    thresholds: &'a [i32; 128],
-    weights: &'a [i32; 2048],
-    gates: usize,
-) -> u64
-    requires { Counted fanins.now gates }
-    ensures { (signals : List ℕ) → result ≡ cost (tab gates (gate_from fanins.now thresholds.now signals weights.now)) }
+fn total_cost(network: &Network) -> u64
+    requires { Counted network.now.fanins network.now.gates }
+    ensures { result ≡ cost (tab network.now.gates (gate_of network.now)) }
 {
     let mut total: u64 = 0;
-    let mut g: usize = 0;
-    while g < gates {
-        total = total + gate_cost(fanins, thresholds, weights, g);
-        g = g + 1;
+    for g in 0..network.gates {
+        total += gate_cost(network, g);
     }
     total
 }
@@ -66,19 +51,12 @@ pub fn size_of(network: Network) -> SizeReport
     requires { sound_record network ≡ true }
     ensures { result ≡ reported network }
 {
-    let inputs = network.inputs;
-    let gates = network.gates;
-    let cost = total_cost(
-        &network.fanins,
-        &network.thresholds,
-        &network.weights,
-        gates,
-    );
-    let levels = network_levels(&network.fanins, &network.signals, inputs, gates);
+    let cost = total_cost(&network);
+    let levels = network_levels(&network);
     SizeReport {
         code: 0,
-        gates,
+        gates: network.gates,
         cost,
-        levels: wide(levels),
+        levels: usize::from(levels),
     }
 }

@@ -21,7 +21,7 @@ use Rattle.network.specs.PlaceLaws.{length_feeds, length_gate_from}
 use Rattle.network.specs.Margins.{places_keep}
 use Rattle.network.specs.MarginLaws.{gates_keep}
 use Rattle.network.specs.declared.Network.{Network}
-use Rattle.basics.specs.RangeLaws.{range_step}
+use Rattle.basics.specs.RangeLaws.{range_step, range_end}
 
 -- ---- the counts
 pub counts_fit : (i g o : ℕ) → counts_ok i g o ≡ true → (i ≤ 40) × (g ≤ 128) × (o ≤ 16)
@@ -113,3 +113,19 @@ sound_parts r =
     (sound_tests_lem (board_ok r.board) (between 1 40 r.inputs) (between 1 128 r.gates) (between 1 16 r.outputs)
     (all_from gate_ok r.inputs (tab r.gates (gate_of r))) (all (keeps r.board) (tab r.gates (gate_of r)))
     (all (gate_signal r.inputs r.gates) drivers) (spare_clear r))
+
+-- ---- a gate's feeds one by one
+module _ (signals : List ℕ) (weights : List ℤ) (own : ℕ) where
+  -- the test of the feeds from place k on
+  abbrev pub left : ℕ → ℕ → Bool
+  left low k = feeds_ok low own (feeds_from signals weights k (length signals - k))
+
+  -- the next feed, and those after it
+  pub feed_turn : (low k s : ℕ) (w : ℤ) → k < length signals → s ≡ get_or signals k 0 → w ≡ get_or weights k (pos 0)
+      → (leb low s && ltb s own && (in_scale w && not (is_zero w))) && left (s + 1) (k + 1) ≡ left low k
+  feed_turn low k s w h es ew = rw (es, ew) (feeds_step signals weights true low own k (length signals) h)
+
+  -- no feed is left
+  pub feeds_end : (low k : ℕ) → length signals ≤ k → left low k ≡ true
+  unfolding feeds_from feeds_ok signals_of all rising
+  feeds_end low k h = rw (range_end k (length signals) h)

@@ -1,178 +1,128 @@
 // The test of a record's soundness: a PMN file describes its network, and its spare places hold 0.
 #![tactic(auto)]
 
-ghost use Rattle.std.specs.Prelude.{◌≡◌, ◌+◌, ◌≤◌, ◌<◌, get_or};
+ghost use Rattle.std.specs.Prelude.{◌≡◌, ◌≤◌, ◌<◌, length, get_or};
 ghost use Rattle.basics.specs.Lists.{all, all_from, below, tab};
 ghost use Rattle.network.specs.Limits.{gate_ok, gate_signal};
-ghost use Rattle.network.specs.Record.{feeds_from, gate_from, place_clear, gate_clear, driver_clear, sound_record};
+ghost use Rattle.network.specs.Record.{feeds_from, gate_of, place_clear, gate_clear, driver_clear, sound_record};
 ghost use Rattle.network.specs.SoundLaws.{feeds_ok};
 
 use network::Network;
 use network::unchecked::gates_keep;
 use network_limits::{board_sound, counts_sound, in_scale, is_gate, is_zero, weight_sound};
 
-// Whether count feeds, from the place base on, are those of a gate with signal own: the signals rise and are below it, and each
-// weight is within the limits.
-fn feeds_sound<'a>(
-    signals: &'a [u8; 2048],
-    weights: &'a [i32; 2048],
-    base: usize,
-    count: usize,
-    own: usize,
-) -> bool
-    requires { base + count ≤ 2048 }
-    ensures { result ≡ feeds_ok 0 own (feeds_from signals.now weights.now base count) }
+// Whether feeds, a signal and a weight each, are those of a gate with signal own: the signals rise and are below it, and each weight is
+// within the limits.
+fn feeds_sound(signals: &[u8], weights: &[i32], own: usize) -> bool
+    requires { length signals.now ≡ length weights.now }
+    ensures { result ≡ feeds_ok 0 own (feeds_from signals.now weights.now 0 (length signals.now)) }
 {
-    let mut ok = true;
     let mut low: usize = 0;
-    for p in base..base + count {
-        let s = basics::wide(signals[p]);
-        ok = ok & (low <= s) & (s < own) & weight_sound(weights[p]);
+    for (signal, weight) in signals.iter().zip(weights) {
+        let s = usize::from(*signal);
+        let ok = (low <= s) & (s < own) & weight_sound(*weight);
+        if !ok {
+            return false;
+        }
         low = s + 1;
     }
-    ok
+    true
 }
 
 // Whether gate g, with signal own, is within the limits.
-fn gate_sound<'a>(
-    fanins: &'a [u8; 128],
-    thresholds: &'a [i32; 128],
-    signals: &'a [u8; 2048],
-    weights: &'a [i32; 2048],
-    g: usize,
-    own: usize,
-) -> bool
+fn gate_sound(network: &Network, g: usize, own: usize) -> bool
     requires { g < 128 }
-    ensures { result ≡ gate_ok own (gate_from fanins.now thresholds.now signals.now weights.now g) }
+    ensures { result ≡ gate_ok own (gate_of network.now g) }
 {
-    let count = basics::wide(fanins[g]);
+    let count = usize::from(network.fanins[g]);
     if 16 < count {
         return false;
     }
-    in_scale(thresholds[g]) & feeds_sound(signals, weights, 16 * g, count, own)
+    let base = 16 * g;
+    let end = base + count;
+    let signals = &network.signals[base..end];
+    let weights = &network.weights[base..end];
+    in_scale(network.thresholds[g]) & feeds_sound(signals, weights, own)
 }
 
 // Whether each gate is within the limits.
-fn gates_sound<'a>(
-    fanins: &'a [u8; 128],
-    thresholds: &'a [i32; 128],
-    signals: &'a [u8; 2048],
-    weights: &'a [i32; 2048],
-    inputs: usize,
-    gates: usize,
-) -> bool
-    requires { (inputs ≤ 40) × (gates ≤ 128) }
-    ensures { result ≡ all_from gate_ok inputs
-        (tab gates (gate_from fanins.now thresholds.now signals.now weights.now)) }
+fn gates_sound(network: &Network) -> bool
+    requires { (network.now.inputs ≤ 40) × (network.now.gates ≤ 128) }
+    ensures { result ≡ all_from gate_ok network.now.inputs (tab network.now.gates (gate_of network.now)) }
 {
-    let mut ok = true;
-    for g in 0..gates {
-        ok = ok & gate_sound(fanins, thresholds, signals, weights, g, inputs + g);
-    }
-    ok
+    let inputs = network.inputs;
+    (0..network.gates).all(|g| gate_sound(network, g, inputs + g))
 }
 
 // Whether each output is the signal of a gate.
-fn drivers_sound(drivers: &[u8; 16], inputs: usize, gates: usize, outputs: usize) -> bool
-    requires { (inputs ≤ 40) × (gates ≤ 128) × (outputs ≤ 16) }
-    ensures { result ≡ all (gate_signal inputs gates) (tab outputs (λ j. get_or drivers.now j 0)) }
+fn drivers_sound(network: &Network) -> bool
+    requires { network.now.outputs ≤ 16 }
+    ensures { result ≡ all (gate_signal network.now.inputs network.now.gates)
+        (tab network.now.outputs (λ j. get_or network.now.drivers j 0)) }
 {
-    let mut ok = true;
-    for j in 0..outputs {
-        ok = ok & is_gate(inputs, gates, basics::wide(drivers[j]));
-    }
-    ok
+    let inputs = network.inputs;
+    let gates = network.gates;
+    network.drivers[..network.outputs]
+        .iter()
+        .all(|driver| is_gate(inputs, gates, usize::from(*driver)))
 }
 
 // Whether the feed counts and thresholds past the last gate are 0.
-fn gates_clear<'a>(fanins: &'a [u8; 128], thresholds: &'a [i32; 128], gates: usize) -> bool
-    ensures { result ≡ below 128 (gate_clear gates fanins.now thresholds.now) }
+fn gates_clear(network: &Network) -> bool
+    requires { network.now.gates ≤ 128 }
+    ensures { result ≡ below 128 (gate_clear network.now.gates network.now.fanins network.now.thresholds) }
 {
-    let mut ok = true;
-    for g in 0..128 {
-        let clear = (fanins[g] == 0) & is_zero(thresholds[g]);
-        ok = ok & ((g < gates) | clear);
-    }
-    ok
+    let fanins_clear = network.fanins[network.gates..]
+        .iter()
+        .all(|fanin| *fanin == 0);
+    fanins_clear
+        & network.thresholds[network.gates..]
+            .iter()
+            .all(|threshold| is_zero(*threshold))
 }
 
 // Whether place p is a feed's, or holds 0.
-fn place_clear<'a>(
-    fanins: &'a [u8; 128],
-    signals: &'a [u8; 2048],
-    weights: &'a [i32; 2048],
-    gates: usize,
-    p: usize,
-) -> bool
+fn place_clear(network: &Network, p: usize) -> bool
     requires { p < 2048 }
-    ensures { result ≡ place_clear gates fanins.now signals.now weights.now p }
+    ensures { result ≡ place_clear network.now.gates network.now.fanins network.now.signals network.now.weights p }
 {
     let g = p / 16;
-    let used = (g < gates) & (p % 16 < basics::wide(fanins[g]));
-    used | ((signals[p] == 0) & is_zero(weights[p]))
+    let used = (g < network.gates) & (p % 16 < usize::from(network.fanins[g]));
+    used | ((network.signals[p] == 0) & is_zero(network.weights[p]))
 }
 
 // Whether each place that is no feed's holds 0.
-fn places_clear<'a>(
-    fanins: &'a [u8; 128],
-    signals: &'a [u8; 2048],
-    weights: &'a [i32; 2048],
-    gates: usize,
-) -> bool
-    ensures { result ≡ below 2048 (place_clear gates fanins.now signals.now weights.now) }
+fn places_clear(network: &Network) -> bool
+    ensures { result ≡ below 2048 (place_clear network.now.gates network.now.fanins network.now.signals network.now.weights) }
 {
-    let mut ok = true;
-    for p in 0..2048 {
-        ok = ok & place_clear(fanins, signals, weights, gates, p);
-    }
-    ok
+    (0..2048).all(|p| place_clear(network, p))
 }
 
 // Whether the signals past the last output are 0.
-fn drivers_clear(drivers: &[u8; 16], outputs: usize) -> bool
-    ensures { result ≡ below 16 (driver_clear outputs drivers.now) }
+fn drivers_clear(network: &Network) -> bool
+    requires { network.now.outputs ≤ 16 }
+    ensures { result ≡ below 16 (driver_clear network.now.outputs network.now.drivers) }
 {
-    let mut ok = true;
-    for j in 0..16 {
-        ok = ok & ((j < outputs) | (drivers[j] == 0));
-    }
-    ok
+    network.drivers[network.outputs..]
+        .iter()
+        .all(|driver| *driver == 0)
 }
 
 // Whether a record is sound.
 pub fn is_sound(network: Network) -> bool
     ensures { result ≡ sound_record network }
 {
-    let board = network.board;
-    let inputs = network.inputs;
-    let gates = network.gates;
-    let outputs = network.outputs;
-    if !board_sound(board) {
+    if !board_sound(network.board) {
         return false;
     }
-    if !counts_sound(inputs, gates, outputs) {
+    if !counts_sound(network.inputs, network.gates, network.outputs) {
         return false;
     }
-    let gates_ok = gates_sound(
-        &network.fanins,
-        &network.thresholds,
-        &network.signals,
-        &network.weights,
-        inputs,
-        gates,
-    );
-    let outputs_ok = drivers_sound(&network.drivers, inputs, gates, outputs);
-    let spare_ok = gates_clear(&network.fanins, &network.thresholds, gates)
-        & places_clear(&network.fanins, &network.signals, &network.weights, gates)
-        & drivers_clear(&network.drivers, outputs);
+    let gates_ok = gates_sound(&network);
+    let outputs_ok = drivers_sound(&network);
+    let spare_ok = gates_clear(&network) & places_clear(&network) & drivers_clear(&network);
     if !(gates_ok & outputs_ok & spare_ok) {
         return false;
     }
-    gates_keep(
-        &network.fanins,
-        &network.thresholds,
-        &network.weights,
-        gates,
-        board,
-    )
+    gates_keep(&network)
 }

@@ -36,11 +36,9 @@ module _ (a : Alignment) where
 
   module _ (f : Searchable a) (k l : ℕ) where
     -- ---- the scale
-    pub weight_off : (i : ℕ) → i < a.count → in_scale (mixed_weight gates k l i) ≡ false → scale_fits gates k l ≡ false
+    pub weights_off : below a.count (λ i. in_scale (mixed_weight gates k l i)) ≡ false → scale_fits gates k l ≡ false
     unfolding scale_fits
-    weight_off i h e =
-        let off = below_no a.count (λ (j : ℕ). in_scale (mixed_weight gates k l j)) i h e in
-        rw (feed_count f, off) (and_false_right (in_scale (mixed_threshold gates.thresholds k l)) false refl)
+    weights_off e = rw (feed_count f, e) (and_false_right (in_scale (mixed_threshold gates.thresholds k l)) false refl)
 
     pub weights_on : below a.count (λ i. in_scale (mixed_weight gates k l i)) ≡ true → scale_fits gates k l ≡ in_scale (mixed_threshold gates.thresholds k l)
     unfolding scale_fits

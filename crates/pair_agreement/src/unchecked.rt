@@ -1,7 +1,6 @@
 // The agreement test and the scale test of a merge, by tables of sums. Each call asks for numbers on the scale, so that no sum and no
 // product leaves 32 bits.
 ghost use Rattle.std.specs.Prelude.{◌≡◌, ◌^◌, ◌<◌, pos, get_or};
-ghost use Rattle.basics.specs.SizeLaws.{SizesWithin};
 ghost use Rattle.gate_sums.specs.Tables.{Sums};
 ghost use Rattle.network.specs.Limits.{in_scale};
 ghost use Rattle.fold_theory.specs.Aligned.{mix, agrees_all, clears_on, clears_all, scale_fits};
@@ -22,18 +21,17 @@ use pair_theory::Alignment;
 fn in_scale(z: i32) -> bool
     ensures { result ≡ in_scale z }
 {
-    (-1000000 <= z) & (z <= 1000000)
+    z.unsigned_abs() <= 1000000
 }
 
-// The merged gate's weight at a distinct feed.
-fn merged_weight<'a>(us: &'a [i32; 16], vs: &'a [i32; 16], k: usize, l: usize, feed: usize) -> i32
-    requires sizes_within { SizesWithin 1000000 us.now }
-    requires sizes_within_2 { SizesWithin 1000000 vs.now }
+// Whether the merged gate's weight at a distinct feed is on the scale.
+fn weight_fits(a: &Alignment, k: usize, l: usize, feed: usize) -> bool
+    requires searchable { Searchable a.now }
     requires dial_limits { DialLimits k l }
     requires feed_bound { feed < 16 }
-    ensures { result ≡ mix k l (get_or us.now feed (pos 0)) (get_or vs.now feed (pos 0)) }
+    ensures { result ≡ in_scale (mix k l (get_or a.now.us feed (pos 0)) (get_or a.now.vs feed (pos 0))) }
 {
-    mixed(k, l, us[feed], vs[feed])
+    in_scale(mixed(k, l, a.us[feed], a.vs[feed]))
 }
 
 // Whether the merged gate's weights and threshold are on the scale.
@@ -42,14 +40,8 @@ pub fn scale_fits(a: Alignment, k: usize, l: usize) -> bool
     requires dial_limits { DialLimits k l }
     ensures { result ≡ scale_fits (aligned_in a) k l }
 {
-    let count = a.count;
-    for feed in 0..count {
-        if !in_scale(merged_weight(&a.us, &a.vs, k, l, feed)) {
-            return false;
-        }
-    }
-    let thresholds = a.thresholds;
-    in_scale(merged_threshold(thresholds, k, l))
+    (0..a.count).all(|feed| weight_fits(&a, k, l, feed))
+        && in_scale(merged_threshold(a.thresholds, k, l))
 }
 
 // How many settings are clear from the first on, in whole blocks, from the tables of the two gates' sums: on a clear setting the merged gate
@@ -91,36 +83,23 @@ fn clears_everywhere(a: Alignment, k: usize, l: usize) -> bool
 {
     let sums_u = table(&a.us);
     let sums_v = table(&a.vs);
-    let count = a.count;
-    clear_settings(a, &sums_u, &sums_v, k, l) == settings(count)
+    clear_settings(a, &sums_u, &sums_v, k, l) == settings(a.count)
 }
 
 // The same two gates with the margins of version 1, which ask for equal bits and no more.
 pub fn without_margins(a: Alignment) -> Alignment
     ensures { result ≡ plainly a }
 {
-    let t = a.thresholds;
-    let board = Board {
-        version: 1,
-        on: 0,
-        off: 1,
-    };
-    let thresholds = Thresholds {
-        own: t.own,
-        on: t.on,
-        off: t.off,
-        board,
-    };
-    let count = a.count;
-    let signals = a.signals;
-    let us = a.us;
-    let vs = a.vs;
     Alignment {
-        count,
-        signals,
-        us,
-        vs,
-        thresholds,
+        thresholds: Thresholds {
+            board: Board {
+                version: 1,
+                on: 0,
+                off: 1,
+            },
+            ..a.thresholds
+        },
+        ..a
     }
 }
 

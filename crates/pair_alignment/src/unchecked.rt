@@ -4,7 +4,6 @@ ghost use Rattle.network.specs.Limits.{is_zero};
 ghost use Rattle.network.specs.Record.{gate_in};
 ghost use Rattle.pair_theory.specs.Alignments.{weight_table, edge_between, Alignable, with_u, alignment_of};
 
-use basics::{magnitude, wide};
 use fold_theory::Thresholds;
 use network::{Board, GateRecord};
 use pair_complement::unchecked::complemented;
@@ -16,11 +15,8 @@ fn spread(gate: GateRecord) -> [i32; 256]
     ensures { result ≡ weight_table (gate_in gate).feeds }
 {
     let mut table = [0i32; 256];
-    let mut i = wide(gate.fanin);
-    while 0 < i {
-        i -= 1;
-        let s = wide(gate.signals[i]);
-        table[s] = gate.weights[i];
+    for i in (0..usize::from(gate.fanin)).rev() {
+        table[usize::from(gate.signals[i])] = gate.weights[i];
     }
     table
 }
@@ -29,7 +25,7 @@ fn spread(gate: GateRecord) -> [i32; 256]
 fn either(x: i32, y: i32) -> bool
     ensures { result ≡ not (is_zero x) || not (is_zero y) }
 {
-    (magnitude(x) != 0) | (magnitude(y) != 0)
+    (x != 0) | (y != 0)
 }
 
 // Two gates by their distinct feeds, u itself being the gate that votes: all feeds are counted, and the first 16 listed. u is none of
@@ -66,19 +62,17 @@ fn align_with_u(
     }
     let own = gate_u.threshold;
     let off = gate_v.threshold;
-    let on = off - b;
-    let thresholds = Thresholds {
-        own,
-        on,
-        off,
-        board,
-    };
     Alignment {
         count,
         signals,
         us,
         vs,
-        thresholds,
+        thresholds: Thresholds {
+            own,
+            on: off - b,
+            off,
+            board,
+        },
     }
 }
 

@@ -10,6 +10,7 @@ use pair_clearing::unchecked::{clears_between, lower_threshold, upper_threshold}
 use pair_spans::Span;
 
 // Whether v's sums settle that the composed pair is 0 on the whole block, and every merged sum is at most `lower`.
+#[tactic(auto, unfolding(crate::specs::Blocks::settled_off))]
 fn settled_off(thresholds: Thresholds, lower: i32, span_v: Span, span: Span) -> bool
     ensures { result ≡ settled_off thresholds lower span_v span }
 {
@@ -17,6 +18,7 @@ fn settled_off(thresholds: Thresholds, lower: i32, span_v: Span, span: Span) -> 
 }
 
 // Whether they settle that it is 1, and every merged sum is at least `upper`.
+#[tactic(auto, unfolding(crate::specs::Blocks::settled_on))]
 fn settled_on(thresholds: Thresholds, upper: i32, span_v: Span, span: Span) -> bool
     ensures { result ≡ settled_on thresholds upper span_v span }
 {
@@ -36,6 +38,7 @@ fn clears_at_once(
     requires { lows ≤ 256 }
     ensures { result ≡ block_between thresholds upper lower lows sums_u.now sums_v.now mixes.now }
 {
+    // Kept: an iterator over the three tables is no plainer, and `all` would leave the loop.
     let mut clear = true;
     for setting in 0..lows {
         let here = clears_between(
@@ -46,7 +49,7 @@ fn clears_at_once(
             sums_v[setting],
             mixes[setting],
         );
-        clear = clear & here;
+        clear &= here;
     }
     clear
 }

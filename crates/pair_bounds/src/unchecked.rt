@@ -49,7 +49,7 @@ pub fn remembered(
     {
         return Remembered {
             last: setting,
-            earlier: known.earlier,
+            ..known
         };
     }
     Remembered {
@@ -63,11 +63,9 @@ fn between(pair: Neighbours) -> Fraction
     requires { NeighboursOnDial pair }
     ensures { (result.k ≡ pair.below.k + pair.above.k) × (result.l ≡ pair.below.l + pair.above.l) }
 {
-    let below = pair.below;
-    let above = pair.above;
     Fraction {
-        k: below.k + above.k,
-        l: below.l + above.l,
+        k: pair.below.k + pair.above.k,
+        l: pair.below.l + pair.above.l,
     }
 }
 
@@ -78,24 +76,19 @@ fn nearer(pair: Neighbours, middle: Fraction) -> Neighbours
     requires k_value { (middle.k ≡ pair.below.k + pair.above.k) × (middle.l ≡ pair.below.l + pair.above.l) }
     ensures { NeighboursOnDial result }
 {
-    let below = pair.below;
-    let above = pair.above;
-    let low = pair.low;
-    let high = pair.high;
-    let here = low + high;
-    if (here < 0) == (low < 0) {
-        return Neighbours {
+    let here = pair.low + pair.high;
+    if (here < 0) == (pair.low < 0) {
+        Neighbours {
             below: middle,
-            above,
             low: here,
-            high,
-        };
-    }
-    Neighbours {
-        below,
-        above: middle,
-        low,
-        high: here,
+            ..pair
+        }
+    } else {
+        Neighbours {
+            above: middle,
+            high: here,
+            ..pair
+        }
     }
 }
 
@@ -104,11 +97,9 @@ fn neighbours(a: i32, c: i32) -> Neighbours
     requires { (nat_abs a ≤ 18000000) × (nat_abs c ≤ 18000000) }
     ensures { NeighboursOnDial result }
 {
-    let below = Fraction { k: 0, l: 1 };
-    let above = Fraction { k: 1, l: 0 };
     let mut pair = Neighbours {
-        below,
-        above,
+        below: Fraction { k: 0, l: 1 },
+        above: Fraction { k: 1, l: 0 },
         low: c,
         high: a,
     };
@@ -143,14 +134,10 @@ fn at_least(bounds: Bounds, a: i32, c: i32, setting: usize) -> Bounds
     if value(bounds.least, a, c) < 0 {
         return bounds;
     }
-    let pair = neighbours(a, c);
-    let least = pair.above;
-    let most = bounds.most;
     Bounds {
-        least,
+        least: neighbours(a, c).above,
         below: setting,
-        most,
-        above: bounds.above,
+        ..bounds
     }
 }
 
@@ -164,14 +151,10 @@ fn at_most(bounds: Bounds, a: i32, c: i32, setting: usize) -> Bounds
     if (value(bounds.most, a, c) < 0) == (c < 0) {
         return bounds;
     }
-    let pair = neighbours(a, c);
-    let least = bounds.least;
-    let most = pair.below;
     Bounds {
-        least,
-        below: bounds.below,
-        most,
+        most: neighbours(a, c).below,
         above: setting,
+        ..bounds
     }
 }
 
@@ -279,6 +262,7 @@ fn differs_at_ends(
     requires { lows ≤ 256 }
 {
     let mut differs = false;
+    // Kept: an iterator over the four tables is no plainer.
     for low in 0..lows {
         let su = sums_u[low];
         let sv = sums_v[low];
@@ -374,15 +358,14 @@ pub fn tightest(
     let high_count = high_feeds(count);
     let highs = settings(high_count);
     let lows = settings(count - high_count);
-    let least = Fraction { k: 1, l: 32 };
-    let most = Fraction { k: 32, l: 1 };
     let mut bounds = Bounds {
-        least,
+        least: Fraction { k: 1, l: 32 },
         below: 0,
-        most,
+        most: Fraction { k: 32, l: 1 },
         above: 0,
     };
     let mut step: usize = 0;
+    // Kept: not every step is taken, `next_step` tells the next.
     while step < highs {
         let high = high_at(step, highs);
         let reach = low_thresholds(sums_u, sums_v, thresholds, high);

@@ -31,21 +31,13 @@ pub fn composed_bit(thresholds: Thresholds, su: i32, sv: i32) -> bool
     }
 }
 
-// A margin as a number of 32 bits.
-fn margin(x: u8) -> i32
-    ensures { (result ≡ pos x) × (x < 256) }
-{
-    x as i32
-}
-
 // What the merged gate's sum must reach where its bit is to be 1.
 pub fn upper_threshold(thresholds: Thresholds, k: usize, l: usize) -> i32
     requires thresholds_within { ThresholdsWithin 10000000 thresholds }
     requires dial_limits { DialLimits k l }
     ensures { result ≡ mixed_threshold thresholds k l +ℤ pos thresholds.board.on }
 {
-    let board = thresholds.board;
-    merged_threshold(thresholds, k, l) + margin(board.on)
+    merged_threshold(thresholds, k, l) + i32::from(thresholds.board.on)
 }
 
 // What the merged gate's sum must not exceed where its bit is to be 0.
@@ -54,8 +46,7 @@ pub fn lower_threshold(thresholds: Thresholds, k: usize, l: usize) -> i32
     requires dial_limits { DialLimits k l }
     ensures { result ≡ mixed_threshold thresholds k l -ℤ pos thresholds.board.off }
 {
-    let board = thresholds.board;
-    merged_threshold(thresholds, k, l) - margin(board.off)
+    merged_threshold(thresholds, k, l) - i32::from(thresholds.board.off)
 }
 
 // Whether a merged sum is at least `upper` where the composed pair is 1, and at most `lower` where it is 0.
@@ -113,15 +104,11 @@ fn less_high_half(thresholds: Thresholds, su: i32, sv: i32) -> Thresholds
     requires sv_bound { nat_abs sv ≤ 8000000 }
     ensures { result ≡ reduced thresholds su sv }
 {
-    let own = thresholds.own - su;
-    let on = thresholds.on - sv;
-    let off = thresholds.off - sv;
-    let board = thresholds.board;
     Thresholds {
-        own,
-        on,
-        off,
-        board,
+        own: thresholds.own - su,
+        on: thresholds.on - sv,
+        off: thresholds.off - sv,
+        ..thresholds
     }
 }
 

@@ -5,7 +5,6 @@ ghost use Rattle.fold_theory.specs.Aligned.{mix};
 ghost use Rattle.pair_theory.specs.Alignments.{merged_of, Mergeable};
 ghost use Rattle.pair_mixing.specs.Mixing.{Mixable};
 
-use basics::magnitude;
 use network::GateRecord;
 use pair_theory::Alignment;
 
@@ -25,17 +24,15 @@ pub fn merged_gate(a: Alignment, k: usize, l: usize) -> GateRecord
     let mut signals = [0u8; 16];
     let mut weights = [0i32; 16];
     let mut fanin: usize = 0;
-    let count = a.count;
-    for i in 0..count {
+    for i in 0..a.count {
         let w = mixed(k, l, a.us[i], a.vs[i]);
-        if magnitude(w) != 0 {
+        if w != 0 {
             signals[fanin] = a.signals[i];
             weights[fanin] = w;
             fanin += 1;
         }
     }
-    let thresholds = a.thresholds;
-    let threshold = mixed(k, l, thresholds.own, thresholds.on);
+    let threshold = mixed(k, l, a.thresholds.own, a.thresholds.on);
     GateRecord {
         fanin: fanin as u8,
         threshold,

@@ -23,30 +23,11 @@ pub fn mixed_sums(
     ensures { MixedSums k l lows sums_u.now sums_v.now result }
 {
     let mut mixes = [0i32; 256];
+    // Kept: an iterator over the three tables is no plainer.
     for low in 0..lows {
         mixes[low] = mixed(k, l, sums_u[low], sums_v[low]);
     }
     mixes
-}
-
-// A number that is at most both.
-fn lesser(x: i32, y: i32) -> i32
-    ensures { T (le_z result x) × T (le_z result y) }
-{
-    if x <= y {
-        return x;
-    }
-    y
-}
-
-// A number that is at least both.
-fn greater(x: i32, y: i32) -> i32
-    ensures { T (le_z x result) × T (le_z y result) }
-{
-    if x <= y {
-        return y;
-    }
-    x
 }
 
 // The ends between which the sums on the low half's settings lie.
@@ -57,9 +38,9 @@ pub fn span(sums: &[i32], lows: usize) -> Span
 {
     let mut least = sums[0];
     let mut most = sums[0];
-    for low in 0..lows {
-        least = lesser(least, sums[low]);
-        most = greater(most, sums[low]);
+    for sum in &sums[..lows] {
+        least = least.min(*sum);
+        most = most.max(*sum);
     }
     Span { least, most }
 }

@@ -23,7 +23,7 @@ pub fn convert_sound(network: Network, out: &mut [u8]) -> Converted
         };
     }
     let other = in_other_version(network);
-    let written = write_sound(other, out);
+    let written = write_sound(&other, out);
     Converted {
         code: written.code,
         length: written.length,

@@ -17,6 +17,6 @@ pub fn put_file(network: Network, out: &mut [u8], answer: &mut [u64]) -> u8
     ensures out_after { out.new ≡ stored (file_in (length out.old) (net_of network)) out.old }
     ensures answer_after { answer.new ≡ stored (length_of (file_in (length out.old) (net_of network))) answer.old }
 {
-    let written = write_sound(network, out);
+    let written = write_sound(&network, out);
     put_one(answer, written.code, written.length as u64)
 }

@@ -176,15 +176,15 @@ module _ (b : Board) (i g o : ℕ) (l : List ℕ) where
     unfolding body_outputs
     body_outputs_refused f = body_on ∙ ap (λ (r : Read (List ℕ)). and_then r (body_end gs)) f
 
-    module _ {os : List ℕ} (s : List ℕ) (end : ℕ) (f : parse_outputs i g o [] m ≡ done os (drop end s)) where
-      body_ends : parse_body b i g o l ≡ body_end gs os (drop end s)
+    module _ {os rest : List ℕ} (f : parse_outputs i g o [] m ≡ done os rest) where
+      body_ends : parse_body b i g o l ≡ body_end gs os rest
       unfolding body_outputs
       body_ends = body_on ∙ ap (λ (r : Read (List ℕ)). and_then r (body_end gs)) f
 
-      pub body_tail : end < length s → parse_body b i g o l ≡ refused 9
+      pub body_tail : 0 < length rest → parse_body b i g o l ≡ refused 9
       unfolding body_end
-      body_tail h = body_ends ∙ ap (body_end gs os) (drop-cons s end 0 h)
+      body_tail h = body_ends ∙ ap (body_end gs os) (drop-cons rest 0 0 h)
 
-      pub body_done : length s ≤ end → parse_body b i g o l ≡ done (net_read b i gs os) []
+      pub body_done : length rest ≤ 0 → parse_body b i g o l ≡ done (net_read b i gs os) []
       unfolding body_end
-      body_done h = body_ends ∙ ap (body_end gs os) (drop_of_length-le s {i = end} h)
+      body_done h = body_ends ∙ ap (body_end gs os) (drop_of_length-le rest {i = 0} h)

@@ -1,14 +1,18 @@
 -- Fields read one after another: after i of count of them, the next is refused, or is read and the others follow; after all of them,
 -- what was read is the answer. Assumes nothing.
-use Rattle.std.specs.Prelude.{◌≡◌, List, [], ◌∷◌, ◌++◌, Bool, length, get_or, drop}
-use Rattle.std.proofs.Math.Path.{ap}
+use Rattle.std.specs.Prelude.{◌≡◌, List, [], ◌∷◌, ◌++◌, Bool}
+use Rattle.std.proofs.Math.Path.{refl, ap}
 use Rattle.std.proofs.Common.{◌∙◌, arith}
 use Prim.Native.Nat.{ℕ, suc, ◌+◌, ◌-◌, ◌<◌, ◌≤◌}
 use Rattle.network.specs.Threshold.{Feed, Gate}
 use Rattle.network.specs.Limits.{gate_signal}
 use Rattle.network.specs.declared.Board.{Board}
-use Rattle.pmn_format.specs.Format.{Read, refused, done, byte_or, check, and_then, parse_feed, parse_feeds, parse_gate, parse_gates, parse_outputs}
-use Rattle.pmn_format.proofs.AtLaws.{byte_at, byte_end}
+use Rattle.pmn_format.specs.Format.{Read, refused, done, byte_then, check, and_then, parse_feed, parse_feeds, parse_gate, parse_gates, parse_outputs}
+
+-- a field of one byte, and what follows it
+byte_first : {A : Type 0} (l : List ℕ) (k : ℕ → List ℕ → Read A) → byte_then l k ≡ and_then (byte_then l done) k
+byte_first [] k = refl
+byte_first (b ∷ l) k = refl
 
 -- ---- the feeds of the gate with signal own
 module _ (own count i low : ℕ) (acc : List Feed) (l : List ℕ) where
@@ -50,27 +54,27 @@ module _ (b : Board) (own count i : ℕ) (acc : List Gate) (l : List ℕ) where
   pub gates_ended : count ≤ i → parse_gates b own (count - i) acc l ≡ done acc l
   gates_ended h = ap (λ (k : ℕ). parse_gates b own k acc l) {x = count - i} {y = 0} (omega arith)
 
--- ---- the outputs, the next one at a place of the list s
-module _ (inputs gates count i at : ℕ) (acc s : List ℕ) where
+-- ---- the outputs
+module _ (inputs gates count i : ℕ) (acc l : List ℕ) where
   outputs_next : ℕ → List ℕ → Read (List ℕ)
   outputs_next x m = parse_outputs inputs gates (count - (i + 1)) (acc ++ (x ∷ [])) m
 
   outputs_byte : ℕ → List ℕ → Read (List ℕ)
   outputs_byte x m = check (gate_signal inputs gates x) 8 (outputs_next x m)
 
-  outputs_turn : i < count → parse_outputs inputs gates (count - i) acc (drop at s) ≡ byte_or 4 (drop at s) outputs_byte
+  outputs_turn : i < count → parse_outputs inputs gates (count - i) acc l ≡ and_then (byte_then l done) outputs_byte
   unfolding outputs_byte outputs_next
-  outputs_turn h = ap (λ (k : ℕ). parse_outputs inputs gates k acc (drop at s)) {x = count - i} {y = suc (count - (i + 1))} (omega arith)
+  outputs_turn h = ap (λ (k : ℕ). parse_outputs inputs gates k acc l) {x = count - i} {y = suc (count - (i + 1))} (omega arith) ∙ byte_first l outputs_byte
 
-  pub outputs_short : i < count → length s ≤ at → parse_outputs inputs gates (count - i) acc (drop at s) ≡ refused 4
-  outputs_short h k = outputs_turn h ∙ byte_end 4 at s outputs_byte k
+  pub outputs_short : {code : ℕ} → i < count → byte_then l done ≡ refused code → parse_outputs inputs gates (count - i) acc l ≡ refused code
+  outputs_short h e = outputs_turn h ∙ ap (λ (r : Read ℕ). and_then r outputs_byte) e
 
   -- by the test of the next one
-  pub outputs_more : {b : Bool} → i < count → at < length s → gate_signal inputs gates (get_or s at 0) ≡ b
-      → parse_outputs inputs gates (count - i) acc (drop at s)
-      ≡ check b 8 (parse_outputs inputs gates (count - (i + 1)) (acc ++ (get_or s at 0 ∷ [])) (drop (at + 1) s))
+  pub outputs_more : {x : ℕ} {m : List ℕ} {b : Bool} → i < count → byte_then l done ≡ done x m → gate_signal inputs gates x ≡ b
+      → parse_outputs inputs gates (count - i) acc l ≡ check b 8 (parse_outputs inputs gates (count - (i + 1)) (acc ++ (x ∷ [])) m)
   unfolding outputs_byte outputs_next
-  outputs_more h k e = outputs_turn h ∙ byte_at 4 at s outputs_byte k ∙ ap (λ (b : Bool). check b 8 (outputs_next (get_or s at 0) (drop (at + 1) s))) e
+  outputs_more {x} {m} h e f =
+      outputs_turn h ∙ ap (λ (r : Read ℕ). and_then r outputs_byte) e ∙ ap (λ (b : Bool). check b 8 (outputs_next x m)) f
 
-  pub outputs_ended : count ≤ i → parse_outputs inputs gates (count - i) acc (drop at s) ≡ done acc (drop at s)
-  outputs_ended h = ap (λ (k : ℕ). parse_outputs inputs gates k acc (drop at s)) {x = count - i} {y = 0} (omega arith)
+  pub outputs_ended : count ≤ i → parse_outputs inputs gates (count - i) acc l ≡ done acc l
+  outputs_ended h = ap (λ (k : ℕ). parse_outputs inputs gates k acc l) {x = count - i} {y = 0} (omega arith)

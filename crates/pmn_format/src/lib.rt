@@ -1,5 +1,7 @@
-// The PMN file, versions 1 and 2, as a list of bytes: definitions and their laws, in specs/. The only code is lengths.
+// The PMN file, versions 1 and 2, as a list of bytes: definitions and their laws, in specs/. The code reads single fields, and knows lengths.
 #![tactic(auto)]
+
+pub mod unchecked;
 
 ghost use Rattle.std.specs.Prelude.{◌≡◌, cond, eqb};
 

@@ -1,162 +1,95 @@
 // Reading the parts of a gate: its feed count, its threshold, its feeds, then its margins. They serve the reader.
-ghost use Rattle.std.specs.Prelude.{◌≡◌, [], ◌≤◌, T, length, drop};
+ghost use Rattle.std.specs.Prelude.{◌≡◌, [], ◌≤◌, T};
 ghost use Rattle.network.specs.Limits.{in_scale};
 ghost use Rattle.network.specs.Record.{gate_record};
-ghost use Rattle.pmn_format.specs.Format.{parse_feeds, parse_gate};
+ghost use Rattle.pmn_format.specs.Format.{parse_feed, parse_feeds, parse_gate};
 ghost use Rattle.pmn_format.proofs.AtLaws.{parse_kept};
-ghost use Rattle.pmn_format.specs.Answered.{ReadAnswered};
-ghost use Rattle.pmn_gate.specs.GateAnswers.{FeedAnswered, gate_places};
+ghost use Rattle.pmn_format.specs.Answered.{as_read, mapped};
+ghost use Rattle.pmn_gate.specs.GateAnswers.{feed_of, gate_places};
 
-use crate::{FeedRead, GateRead};
-use basics::unchecked::get_int;
-use basics::wide;
+use crate::Feed;
 use network::unchecked::gate_keeps;
 use network::{Board, GateRecord};
 use network_limits::{in_scale, weight_sound};
+use pmn_format::unchecked::{next_byte, next_int};
+use refusals::Refusal;
 
-// The feed at a place, of the gate with signal own; its signal is low at least.
-fn read_feed(file: &[u8], at: usize, own: usize, low: usize) -> FeedRead
-    ensures { FeedAnswered own low at file.now result }
+// The next feed, of the gate with signal own; its signal is low at least.
+#[tactic(auto, unfolding(refusals::specs::Numbers::number_of, network::specs::Limits::weight_ok))]
+fn read_feed(rest: &[u8], own: usize, low: usize) -> Result<(Feed, &[u8]), Refusal>
+    ensures { mapped feed_of (as_read result) ≡ parse_feed own low rest.now }
 {
-    if file.len() <= at {
-        return FeedRead::Bad(4);
+    let (signal, rest) = next_byte(rest)?;
+    if !(low..own).contains(&usize::from(signal)) {
+        return Err(Refusal::CrossedFeed);
     }
-    let signal = file[at];
-    let s = wide(signal);
-    let fits = (low <= s) & (s < own);
-    if !fits {
-        return FeedRead::Bad(5);
-    }
-    if file.len() - at < 5 {
-        return FeedRead::Bad(4);
-    }
-    let weight = get_int(file, at + 1);
+    let (weight, rest) = next_int(rest)?;
     if !weight_sound(weight) {
-        return FeedRead::Bad(6);
+        return Err(Refusal::OffTheScale);
     }
-    FeedRead::Got { signal, weight }
+    Ok((Feed { signal, weight }, rest))
 }
 
-// The answer for a gate that is refused.
-fn no_gate(code: u8) -> GateRead
-    ensures { (result.code ≡ code) × (result.next ≡ 0) }
+// The rest of the gate with signal own, whose feed count and threshold are read: its feeds.
+fn read_feeds(
+    bytes: &[u8],
+    own: usize,
+    fanin: u8,
+    threshold: i32,
+) -> Result<(GateRecord, &[u8]), Refusal>
+    requires { fanin ≤ 16 }
+    ensures { as_read result ≡ mapped (gate_places threshold) (parse_feeds own fanin 0 [] bytes.now) }
 {
-    let signals = [0u8; 16];
-    let weights = [0i32; 16];
-    let gate = GateRecord {
-        fanin: 0,
-        threshold: 0,
-        signals,
-        weights,
-    };
-    GateRead {
-        code,
-        next: 0,
-        gate,
-    }
-}
-
-// The rest of the gate with signal own, whose feed count and threshold are read: its feeds, from a place on.
-fn read_feeds(file: &[u8], start: usize, own: usize, fanin: u8, threshold: i32) -> GateRead
-    requires { (start ≤ length file.now) × (fanin ≤ 16) }
-    ensures { ReadAnswered (gate_places threshold) file.now (parse_feeds own fanin 0 [] (drop start file.now))
-        result.code result.next result.gate }
-{
-    let count = wide(fanin);
-    let mut signals = [0u8; 16];
-    let mut weights = [0i32; 16];
-    let mut at = start;
-    let mut low: usize = 0;
-    let mut i: usize = 0;
-    while i < count {
-        let f = read_feed(file, at, own, low);
-        match f {
-            FeedRead::Bad(code) => {
-                return no_gate(code);
-            }
-            FeedRead::Got { signal, weight } => {
-                signals[i] = signal;
-                weights[i] = weight;
-                low = wide(signal) + 1;
-                at += 5;
-                i += 1;
-            }
-        }
-    }
-    let gate = GateRecord {
+    let mut gate = GateRecord {
         fanin,
         threshold,
-        signals,
-        weights,
+        signals: [0; 16],
+        weights: [0; 16],
     };
-    GateRead {
-        code: 0,
-        next: at,
-        gate,
+    let mut rest = bytes;
+    let mut low = 0;
+    for i in 0..usize::from(fanin) {
+        let (feed, after) = read_feed(rest, own, low)?;
+        gate.signals[i] = feed.signal;
+        gate.weights[i] = feed.weight;
+        low = usize::from(feed.signal) + 1;
+        rest = after;
     }
+    Ok((gate, rest))
 }
 
-// The same, and that the gate keeps the margins.
-fn read_tested(
-    file: &[u8],
-    start: usize,
-    own: usize,
-    fanin: u8,
-    threshold: i32,
-    board: Board,
-) -> GateRead
-    requires { (start ≤ length file.now) × (fanin ≤ 16) × T (in_scale threshold) }
-    ensures { ReadAnswered gate_record file.now (parse_kept board own fanin threshold (drop start file.now))
-        result.code result.next result.gate }
-{
-    let read = read_feeds(file, start, own, fanin, threshold);
-    let code = read.code;
-    if code != 0 {
-        return no_gate(code);
-    }
-    let gate = read.gate;
-    if !gate_keeps(gate, board) {
-        return no_gate(24);
-    }
-    read
-}
-
-// The same, where the margins of version 1 need no test.
+// The same, and that the gate keeps the margins; those of version 1 need no test.
+#[tactic(auto, unfolding(refusals::specs::Numbers::number_of))]
 fn read_kept(
-    file: &[u8],
-    start: usize,
+    rest: &[u8],
     own: usize,
     fanin: u8,
     threshold: i32,
     board: Board,
-) -> GateRead
-    requires { (start ≤ length file.now) × (fanin ≤ 16) × T (in_scale threshold) }
-    ensures { ReadAnswered gate_record file.now (parse_kept board own fanin threshold (drop start file.now))
-        result.code result.next result.gate }
+) -> Result<(GateRecord, &[u8]), Refusal>
+    requires { (fanin ≤ 16) × T (in_scale threshold) }
+    ensures { as_read result ≡ mapped gate_record (parse_kept board own fanin threshold rest.now) }
 {
-    if (board.on == 0) & (board.off == 1) {
-        return read_feeds(file, start, own, fanin, threshold);
+    let (gate, rest) = read_feeds(rest, own, fanin, threshold)?;
+    let plain = (board.on == 0) & (board.off == 1);
+    if !plain && !gate_keeps(gate, board) {
+        return Err(Refusal::BrokenMargin);
     }
-    read_tested(file, start, own, fanin, threshold, board)
+    Ok((gate, rest))
 }
 
-// The gate with signal own at a place.
-pub fn read_gate(file: &[u8], at: usize, own: usize, board: Board) -> GateRead
-    ensures { ReadAnswered gate_record file.now (parse_gate board own (drop at file.now)) result.code result.next result.gate }
+// The next gate, whose signal is own.
+#[tactic(auto, unfolding(refusals::specs::Numbers::number_of))]
+pub fn read_gate(rest: &[u8], own: usize, board: Board) -> Result<(GateRecord, &[u8]), Refusal>
+    ensures { as_read result ≡ mapped gate_record (parse_gate board own rest.now) }
 {
-    if file.len() <= at {
-        return no_gate(4);
-    }
-    let fanin = file[at];
+    let (fanin, rest) = next_byte(rest)?;
     if 16 < fanin {
-        return no_gate(7);
+        return Err(Refusal::TooWide);
     }
-    if file.len() - at < 5 {
-        return no_gate(4);
-    }
-    let threshold = get_int(file, at + 1);
+    let (threshold, rest) = next_int(rest)?;
     if !in_scale(threshold) {
-        return no_gate(6);
+        return Err(Refusal::OffTheScale);
     }
-    read_kept(file, at + 5, own, fanin, threshold, board)
+    read_kept(rest, own, fanin, threshold, board)
 }

@@ -1,23 +1,20 @@
 -- Internal: what the reader of a header answers, in the terms of the format. Nothing is proved here.
-use Rattle.std.specs.Prelude.{◌≡◌, List, ℕ, ◌≤◌, length, drop}
+use Rattle.std.specs.Prelude.{◌≡◌, List, ℕ, ◌≤◌}
 use Rattle.network.specs.Threshold.{Net}
 use Rattle.pmn_format.specs.Format.{Read, parse_body}
-use Rattle.pmn_format.specs.Answered.{read_or_refusal}
-use Rattle.pmn_header.specs.declared.HeadRead.{HeadRead}
+use Rattle.pmn_header.specs.declared.Head.{Head}
 
--- a header whose counts are within the limits, and which lies in the file
-pub record HeaderInside (s : List ℕ) (head : HeadRead) : Type 0 where
-  pub inside : head.next ≤ length s
+-- what follows a header
+abbrev pub body_after : Head → List ℕ → Read Net
+body_after head l = parse_body head.board head.inputs head.gates head.outputs l
+
+-- the counts of a header are within the limits
+pub record HeaderInside (head : Head) : Type 0 where
   pub few_inputs : head.inputs ≤ 40
   pub few_gates : head.gates ≤ 128
   pub few_outputs : head.outputs ≤ 16
 
--- what follows a header
-abbrev pub body_after : List ℕ → HeadRead → Read Net
-body_after s head = parse_body head.board head.inputs head.gates head.outputs (drop head.next s)
-
--- an answer for the header with which the read p from the file s begins: where the code is 0, what follows the header decides; else the
--- code is the refusal of p
-pub record HeadAnswered (s : List ℕ) (p : Read Net) (head : HeadRead) : Type 0 where
-  pub says : p ≡ read_or_refusal head.code (body_after s head)
-  pub counts : head.code ≡ 0 → HeaderInside s head
+-- a read that begins with a header: the bytes after it decide
+pub record Headed (p : Read Net) (head : Head) (l : List ℕ) : Type 0 where
+  pub says : p ≡ body_after head l
+  pub counts : HeaderInside head

@@ -1,11 +1,9 @@
 -- Laws of what the functions answer: what an answer leaves in the lent places. Assumes nothing.
 use Rattle.std.specs.Prelude.{◌≡◌, List, ◌++◌, length}
 use Rattle.std.proofs.Math.Path.{refl, sym, ap}
-use Rattle.std.proofs.Common.{◌∙◌, zero-add, arith}
-use Prim.Native.Nat.{ℕ, zero, suc, ◌≤◌}
+use Rattle.std.proofs.Common.{◌∙◌}
+use Prim.Native.Nat.{ℕ, zero, suc}
 use Rattle.std.proofs.Math.ListN.{drop}
-use Rattle.std.proofs.lemmas.List.Edits.{sets}
-use Rattle.std.proofs.Math.Seq.{sets-eq}
 use Rattle.basics.specs.Refusals.{Answer, accepted, refused, bind, code_of, stored}
 use Rattle.basics.specs.RefusalLaws.{left_one}
 use Rattle.pmn_opening.specs.Files.{length_of}
@@ -44,10 +42,9 @@ module _ (k : ℕ) (xs lent : List ℕ) where
   unfolding code_of answer_of
   code_of_lem = elim k as (λ n. n ≡ code_of (answer_of n xs)) [ zero ↦ refl | suc n ↦ refl ]
 
-  pub put_places : k ≡ 0 → length xs ≤ length lent → sets lent 0 xs ≡ stored (answer_of k xs) lent
+  pub put_places : k ≡ 0 → xs ++ drop (length xs) lent ≡ stored (answer_of k xs) lent
   unfolding stored answer_of
-  put_places e h = sets-eq xs lent 0 (omega arith) ∙ ap (λ (n : ℕ). xs ++ drop n lent) (zero-add (length xs))
-      ∙ sym (ap (λ (n : ℕ). stored (answer_of n xs) lent) e)
+  put_places e = sym (ap (λ (n : ℕ). stored (answer_of n xs) lent) e)
 
   pub keep_places : (k ≡ 0 → ⊥) → lent ≡ stored (answer_of k xs) lent
   unfolding stored answer_of

@@ -1,4 +1,5 @@
 pub mod OutputsLoop
 pub mod GatesLoop
 pub mod Body
+pub mod ReadLaws
 pub mod PartFiles

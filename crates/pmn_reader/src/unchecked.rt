@@ -1,177 +1,89 @@
-// Reading what follows the header of a file: the gates, the outputs, and the network that they make. A code of 0 says that the part was
-// read, and that the next one starts at `next`; any other code is the refusal.
-ghost use Rattle.std.specs.Prelude.{◌≡◌, [], ◌≤◌, length, drop};
-ghost use Rattle.pmn_format.specs.Format.{refused, parse_gates, parse_outputs};
-ghost use Rattle.pmn_reader.specs.Answers.{as_loaded};
-ghost use Rattle.pmn_format.specs.Answered.{ReadAnswered};
+// Reading a file into a lent record: the header, then the gates, the outputs, and the end; and finding one gate of a file. After a refusal the record
+// holds what was read up to there.
+ghost use Rattle.std.specs.Prelude.{◌≡◌, [], ◌≤◌, length, MatchResult};
+ghost use Rattle.refusals.specs.Numbers.{number_of};
+ghost use Rattle.basics.specs.Refusals.{refused};
+ghost use Rattle.network.specs.Record.{layout};
+ghost use Rattle.pmn_format.specs.Format.{parse_file, parse_gates, parse_outputs};
+ghost use Rattle.pmn_format.specs.Answered.{as_left, mapped};
+ghost use Rattle.pmn_format.specs.Part.{part_answer};
 ghost use Rattle.pmn_header.specs.HeadAnswers.{HeaderInside, body_after};
-ghost use Rattle.pmn_reader.specs.ReadAnswers.{gates_record, output_places};
+ghost use Rattle.pmn_reader.specs.ReadAnswers.{as_whole, gates_record, PartAt};
 
-use crate::Loaded;
-use basics::wide;
-use network::{Board, Network, blank};
+use network::{Network, blank};
 use network_limits::is_gate;
 use network_places::unchecked::store_gate;
+use pmn_format::unchecked::next_byte;
 use pmn_gate::unchecked::read_gate;
-use pmn_header::HeadRead;
+use pmn_header::Head;
+use pmn_header::unchecked::read_head;
+use refusals::Refusal;
 
-// The gates, as the record of a network that has no outputs.
-#[derive(Clone, Copy)]
-pub struct GatesRead {
-    pub code: u8,
-    pub next: usize,
-    pub network: Network,
-}
-
-// The signals of the outputs; spare places hold 0.
-#[derive(Clone, Copy)]
-pub struct OutputsRead {
-    pub code: u8,
-    pub next: usize,
-    pub drivers: [u8; 16],
-}
-
-// The answer for gates that are refused.
-fn no_gates(code: u8) -> GatesRead
-    ensures { (result.code ≡ code) × (result.next ≡ 0) }
+// The gates of a network with this header, as its record, which has no outputs.
+fn read_gates<'a>(bytes: &'a [u8], head: Head, network: &mut Network) -> Result<&'a [u8], Refusal>
+    requires { HeaderInside head }
+    ensures { as_left network.new result ≡ mapped (gates_record head.board head.inputs) (parse_gates head.board head.inputs head.gates [] bytes.now) }
 {
-    let network = blank();
-    GatesRead {
-        code,
-        next: 0,
-        network,
+    *network = blank();
+    network.board = head.board;
+    network.inputs = head.inputs;
+    network.gates = head.gates;
+    let mut rest = bytes;
+    for g in 0..head.gates {
+        let (gate, after) = read_gate(rest, head.inputs + g, head.board)?;
+        store_gate(network, g, gate);
+        rest = after;
     }
+    Ok(rest)
 }
 
-// The gates, from a place on, of a network with this board and so many inputs and gates.
-pub fn read_gates(file: &[u8], start: usize, board: Board, inputs: usize, gates: usize) -> GatesRead
-    requires { (start ≤ length file.now) × (inputs ≤ 40) × (gates ≤ 128) }
-    ensures { ReadAnswered (gates_record board inputs) file.now (parse_gates board inputs gates [] (drop start file.now))
-        result.code result.next result.network }
+// The outputs of a network with this header, as many as there are places for them: each is the signal of one of the gates.
+fn read_outputs<'a>(bytes: &'a [u8], head: Head, drivers: &mut [u8]) -> Result<&'a [u8], Refusal>
+    ensures { as_left drivers.new result ≡ parse_outputs head.inputs head.gates (length drivers.old) [] bytes.now }
 {
-    let mut fanins = [0u8; 128];
-    let mut signals = [0u8; 2048];
-    let mut weights = [0i32; 2048];
-    let mut thresholds = [0i32; 128];
-    let mut at = start;
-    let mut g: usize = 0;
-    while g < gates {
-        let r = read_gate(file, at, inputs + g, board);
-        let code = r.code;
-        if code != 0 {
-            return no_gates(code);
+    let mut rest = bytes;
+    for driver in drivers {
+        let (signal, after) = next_byte(rest)?;
+        if !is_gate(head.inputs, head.gates, usize::from(signal)) {
+            return Err(Refusal::StrayOutput);
         }
-        let gate = r.gate;
-        store_gate(
-            &mut fanins,
-            &mut thresholds,
-            &mut signals,
-            &mut weights,
-            g,
-            gate,
-        );
-        at = r.next;
-        g += 1;
+        *driver = signal;
+        rest = after;
     }
-    let drivers = [0u8; 16];
-    let network = Network {
-        board,
-        inputs,
-        gates,
-        outputs: 0,
-        fanins,
-        signals,
-        weights,
-        thresholds,
-        drivers,
-    };
-    GatesRead {
-        code: 0,
-        next: at,
-        network,
-    }
-}
-
-// The answer for outputs that are refused.
-fn no_outputs(code: u8) -> OutputsRead
-    ensures { (result.code ≡ code) × (result.next ≡ 0) }
-{
-    let drivers = [0u8; 16];
-    OutputsRead {
-        code,
-        next: 0,
-        drivers,
-    }
-}
-
-// count outputs from a place on, each the signal of one of the gates.
-pub fn read_outputs(
-    file: &[u8],
-    start: usize,
-    inputs: usize,
-    gates: usize,
-    count: usize,
-) -> OutputsRead
-    requires { (start ≤ length file.now) × (count ≤ 16) }
-    ensures { ReadAnswered output_places file.now (parse_outputs inputs gates count [] (drop start file.now))
-        result.code result.next (count, result.drivers) }
-{
-    let mut drivers = [0u8; 16];
-    let mut at = start;
-    let mut j: usize = 0;
-    while j < count {
-        if file.len() <= at {
-            return no_outputs(4);
-        }
-        let signal = file[at];
-        let fits = is_gate(inputs, gates, wide(signal));
-        if !fits {
-            return no_outputs(8);
-        }
-        drivers[j] = signal;
-        at += 1;
-        j += 1;
-    }
-    OutputsRead {
-        code: 0,
-        next: at,
-        drivers,
-    }
-}
-
-// The answer for a file that is refused.
-pub fn refuse(code: u8) -> Loaded
-    ensures { result ≡ as_loaded (refused code) }
-{
-    let network = blank();
-    Loaded { code, network }
+    Ok(rest)
 }
 
 // What follows the header of a file. It has a frame of its own.
 #[inline(never)]
-pub fn read_body(file: &[u8], head: HeadRead) -> Loaded
-    requires { HeaderInside file.now head }
-    ensures { result ≡ as_loaded (body_after file.now head) }
+fn read_body(bytes: &[u8], head: Head, network: &mut Network) -> Result<(), Refusal>
+    requires { HeaderInside head }
+    ensures { as_whole network.new result ≡ mapped layout (body_after head bytes.now) }
 {
-    let board = head.board;
-    let inputs = head.inputs;
-    let gates = head.gates;
-    let mut gates_read = read_gates(file, head.next, board, inputs, gates);
-    let code = gates_read.code;
-    if code != 0 {
-        return refuse(code);
+    let rest = read_gates(bytes, head, network)?;
+    let rest = read_outputs(rest, head, &mut network.drivers[..head.outputs])?;
+    if !rest.is_empty() {
+        return Err(Refusal::Tail);
     }
-    let outputs_read = read_outputs(file, gates_read.next, inputs, gates, head.outputs);
-    let code = outputs_read.code;
-    if code != 0 {
-        return refuse(code);
+    network.outputs = head.outputs;
+    Ok(())
+}
+
+// The network of a file.
+pub fn read_network(file: &[u8], network: &mut Network) -> Result<(), Refusal>
+    ensures { as_whole network.new result ≡ mapped layout (parse_file file.now) }
+{
+    let (head, rest) = read_head(file)?;
+    read_body(rest, head, network)
+}
+
+// The gate of a file's network that has a signal: its number among the gates.
+pub fn find_gate(file: &[u8], signal: usize) -> Result<usize, Refusal>
+    ensures { MatchResult result (λ g. PartAt file.now signal g) (λ e. part_answer file.now signal ≡ refused (number_of e)) }
+{
+    let mut network = blank();
+    read_network(file, &mut network)?;
+    if !is_gate(network.inputs, network.gates, signal) {
+        return Err(Refusal::NoSuchGate);
     }
-    if outputs_read.next < file.len() {
-        return refuse(9);
-    }
-    let drivers = outputs_read.drivers;
-    gates_read.network.outputs = head.outputs;
-    gates_read.network.drivers = drivers;
-    let network = gates_read.network;
-    Loaded { code: 0, network }
+    Ok(signal - network.inputs)
 }

@@ -83,7 +83,7 @@ module _ (fs : List ℕ) (ts : List ℤ) (ss : List ℕ) (ws : List ℤ) where
 
 -- ---- the file of a record
 module _ (r : Network) where
-  abbrev record_gates : List ℕ
+  abbrev pub record_gates : List ℕ
   record_gates = first_gates r.fanins r.thresholds r.signals r.weights r.gates
 
   -- its parts

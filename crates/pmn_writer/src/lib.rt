@@ -20,7 +20,7 @@ pub fn write(network: Network, out: &mut [u8]) -> Written
     ensures out_after { out.new ≡ bytes_after network out.old }
 {
     if network_soundness::is_sound(network) {
-        unchecked::write_sound(network, out)
+        unchecked::write_sound(&network, out)
     } else {
         Written {
             code: 20,

@@ -1,11 +1,11 @@
 -- Laws of what the parts of the writer put: one feed or output more, the lengths, a gate's bytes, and the mark. Assumes nothing.
-use Rattle.std.specs.Prelude.{◌≡◌, List, [], ◌∷◌, ◌++◌, map, ℕ, ◌+◌, ◌*◌, ℤ, length}
+use Rattle.std.specs.Prelude.{◌≡◌, List, [], ◌∷◌, ◌++◌, map, ℕ, ◌+◌, ◌*◌, ℤ, length, ◌≤◌, take}
 use Rattle.std.proofs.Math.Path.{refl, ap}
-use Rattle.std.proofs.Common.{◌∙◌, zero-add, eq-eqb, ne_eqb}
-use Rattle.std.proofs.lemmas.List.{map-append}
+use Rattle.std.proofs.Common.{◌∙◌, arith, sym, get_or-take, zero-add, eq-eqb, ne_eqb}
+use Rattle.std.proofs.lemmas.List.{map-append, length-take-le}
 use Rattle.std.proofs.Math.ListN.{get_or}
 use Rattle.basics.specs.Lists.{range, tab}
-use Rattle.basics.specs.ListLaws.{length_tab, range_more}
+use Rattle.basics.specs.ListLaws.{length_tab, range_more, tab_of}
 use Rattle.basics.specs.Word.{int_bytes}
 use Rattle.network.specs.declared.Board.{Board}
 use Rattle.network.specs.declared.GateRecord.{GateRecord}
@@ -52,6 +52,11 @@ module _ (ds : List ℕ) where
   pub first_outputs_length : (n : ℕ) → length (first_outputs ds n) ≡ n
   unfolding first_outputs
   first_outputs_length n = length_tab n (λ k. get_or ds k 0)
+
+  -- they are the first n places
+  pub first_outputs_taken : (n : ℕ) → n ≤ length ds → take n ds ≡ first_outputs ds n
+  unfolding first_outputs
+  first_outputs_taken n h = sym (tab_of 0 n (λ j. get_or ds j 0) (take n ds) (sym (length-take-le n ds h)) (λ i k. sym (get_or-take n ds i 0 (omega (arith, length-take-le n ds h)))))
 
 -- ---- the header
 pub marked_second : (b : Board) → b.version ≡ 2 → mark_bytes b ≡ 80 ∷ 77 ∷ 78 ∷ 2 ∷ 0 ∷ b.on ∷ b.off ∷ []

@@ -6,7 +6,6 @@ ghost use Rattle.question_theory.specs.Text.{no_line};
 ghost use Rattle.question_terms.specs.Terms.{RecordOfLine, InLimits};
 ghost use Rattle.question_lines.specs.Lines.{gate_line, output_line, Comparable, lines_of};
 
-use basics::wide;
 use network::{GateRecord, Network};
 use question_terms::LineRecord;
 use question_terms::unchecked::{
@@ -42,13 +41,7 @@ fn gate_line(network: Network, shift: usize, i: usize) -> LineRecord
     let inputs = network.inputs;
     let g = i / 2;
     let y = inputs + shift + g;
-    let gate = network_places::unchecked::gate_at(
-        &network.fanins,
-        &network.thresholds,
-        &network.signals,
-        &network.weights,
-        g,
-    );
+    let gate = network_places::unchecked::gate_at(&network, g);
     if i % 2 == 0 {
         return upper_line(gate, inputs, shift, y);
     }
@@ -61,8 +54,8 @@ fn output_line(first: Network, second: Network, i: usize) -> LineRecord
     ensures { RecordOfLine result (output_line (net_of first) (net_of second) i) }
 {
     let j = i / 2;
-    let p = wide(first.drivers[j]);
-    let q = variable_of(first.inputs, first.gates, wide(second.drivers[j]));
+    let p = usize::from(first.drivers[j]);
+    let q = variable_of(first.inputs, first.gates, usize::from(second.drivers[j]));
     let d = first.inputs + first.gates + second.gates + j;
     if i % 2 == 0 {
         return three_terms(p, q, d, 1, 0);

@@ -1,6 +1,6 @@
 -- The record of a line, one term more at a time, and the terms that are made so: the feeds of a gate, and three terms; and the sums of a
 -- gate's weights. Assumes nothing.
-use Rattle.std.specs.Prelude.{◌≡◌, Bool, cond, ℕ, ◌+◌, ◌≤◌, ◌<◌, ℤ, pos, negsuc, nat_abs, neg_ℤ, ◌+ℤ◌, length, get_or, set, replicate}
+use Rattle.std.specs.Prelude.{◌≡◌, Bool, cond, ℕ, ◌+◌, ◌≤◌, ◌<◌, ℤ, pos, negsuc, nat_abs, neg_ℤ, ◌+ℤ◌, length, get_or, set, take, replicate}
 use Rattle.std.proofs.Math.Path.{refl, sym, ap}
 use Rattle.std.proofs.Common.{◌∙◌, subst, length-append}
 use mathlib.Core.List.{List, [], ◌∷◌, ◌++◌, map, map-append}
@@ -10,36 +10,32 @@ use Rattle.std.proofs.Math.ListN.{length-map}
 use Rattle.basics.specs.Lists.{places}
 use Rattle.network.specs.Limits.{scale}
 use Rattle.basics.specs.ListLaws.{each_get_or}
-use Rattle.basics.specs.PlaceLaws.{places_none, get_or_places, placed_last}
-use Rattle.basics.specs.TableLaws.{get_d_map}
+use Rattle.basics.specs.PlaceLaws.{places_none, take_places, placed_last}
 use Rattle.network.specs.Threshold.{Feed}
 use Rattle.network.specs.Record.{feed_at, feeds_from, gate_in, no_feed}
-use Rattle.network.specs.PlaceLaws.{length_feeds, feeds_at, feeds_back}
+use Rattle.network.specs.PlaceLaws.{length_feeds, feeds_at}
 use Rattle.network.specs.declared.GateRecord.{GateRecord}
 use Rattle.question_theory.specs.Question.{Line, term}
 use Rattle.question_terms.specs.declared.LineRecord.{LineRecord}
-use Rattle.question_terms.specs.Terms.{line_in, line_record, RecordOfLine, Extendable, no_terms, extended, feed_term, feed_terms, side_part, one_sided}
+use Rattle.question_terms.specs.Terms.{term_in, term_record, no_term, line_in, line_record, RecordOfLine, Extendable, no_terms, extended, feed_term, feed_terms, side_part, one_sided}
 use Rattle.question_terms.specs.Terms.{InLimits, three_terms}
 use Rattle.question_terms.specs.FeedLaws.{feeds_none, feeds_more}
 
 -- ---- a line's record
 
+-- terms as feeds, after feeds as terms
+terms_back : (fs : List Feed) → map term_in (map term_record fs) ≡ fs
+terms_back [] = refl
+terms_back (f ∷ fs) = ap (λ (l : List Feed). f ∷ l) (terms_back fs)
+
 -- the line that a line's record stands for
 line_in_line_record : (line : Line) → length line.terms ≤ 17 → line_in (line_record line) ≡ line
 unfolding line_in line_record
-line_in_line_record line h = ap (λ (fs : List Feed). record { terms = fs; right = line.right }) (feeds_back vs cs 0 (length line.terms) line.terms refl at)
-  where
-    vs : List ℕ
-    vs = places 17 0 (map (λ f. f.signal) line.terms)
-
-    cs : List ℤ
-    cs = places 17 (pos 0) (map (λ f. f.weight) line.terms)
-
-    at : (i : ℕ) → i < length line.terms → feed_at vs cs (0 + i) ≡ get_or line.terms i no_feed
-    at i k = unfold feed_at in rw (let e : 0 + i ≡ i = omega arith in e) (λ x. record {
-      signal = (get_or_places 17 0 (map (λ f. f.signal) line.terms) i (omega arith) ∙ get_d_map (λ f. f.signal) line.terms i no_feed 0 k) x;
-      weight = (get_or_places 17 (pos 0) (map (λ f. f.weight) line.terms) i (omega arith) ∙ get_d_map (λ f. f.weight) line.terms i no_feed (pos 0) k) x;
-    })
+line_in_line_record line h =
+    let long = length-map line.terms term_record in
+    let front : take (length line.terms) (places 17 no_term (map term_record line.terms)) ≡ map term_record line.terms
+    = ap (λ (n : ℕ). take n (places 17 no_term (map term_record line.terms))) (sym long) ∙ take_places 17 no_term (map term_record line.terms) (omega (arith, long)) in
+    ap (λ (fs : List Feed). record { terms = fs; right = line.right }) (ap (map term_in) front ∙ terms_back line.terms)
 
 -- a line that a record stands for: the line, as many terms as are counted, and the same line by another name
 pub stands_line : {r : LineRecord} {line : Line} → RecordOfLine r line → line_in r ≡ line
@@ -52,37 +48,29 @@ stands_count s = ap (λ (x : LineRecord). x.count) s.is
 pub stands_is : {r : LineRecord} {a b : Line} → a ≡ b → RecordOfLine r a → RecordOfLine r b
 stands_is {r} e s = subst (RecordOfLine r) e s
 
-pub stands_empty : (z : ℤ) → RecordOfLine (record { count = 0; variables = replicate 17 0; coefficients = replicate 17 (pos 0); right = z }) (no_terms z)
+pub stands_empty : (z : ℤ) → RecordOfLine (record { count = 0; terms = replicate 17 no_term; right = z }) (no_terms z)
 unfolding line_record no_terms
-stands_empty z = record
-    { few = omega arith; is = λ i. record { count = 0; variables = places_none 17 0 i; coefficients = places_none 17 (pos 0) i; right = z } }
+stands_empty z = record { few = omega arith; is = λ i. record { count = 0; terms = places_none 17 no_term i; right = z } }
 
 -- a term more
 pub stands_extendable : {r : LineRecord} {line : Line} → RecordOfLine r line → length line.terms < 17 → Extendable r
 stands_extendable s h = record { room = omega (arith, stands_count s); clear = s.is ∙ ap line_record (sym (stands_line s)) }
 
 pub stands_more : (r : LineRecord) (v : ℕ) (c : ℤ) → Extendable r
-    → RecordOfLine (record {
-      count = r.count + 1;
-      variables = set r.variables r.count v;
-      coefficients = set r.coefficients r.count c;
-      right = r.right;
-    })
+    → RecordOfLine (record { count = r.count + 1; terms = set r.terms r.count (record { variable = v; coefficient = c }); right = r.right })
     (extended (line_in r) (term v c))
 unfolding line_in line_record extended
 stands_more r v c e =
     let terms = (line_in r).terms in
     let counted = ap (λ (x : LineRecord). x.count) e.clear in
-    let variables = ap (λ (x : LineRecord). x.variables) e.clear in
-    let coefficients = ap (λ (x : LineRecord). x.coefficients) e.clear in
+    let places_are = ap (λ (x : LineRecord). x.terms) e.clear in
     let more = length-append terms (term v c ∷ []) in
     let count : r.count + 1 ≡ length (terms ++ (term v c ∷ [])) = omega arith in
     record {
       few = omega (arith, e.room);
       is = λ i. record {
         count = count i;
-        variables = placed_last 17 0 (λ f. f.signal) terms (term v c) r.count r.variables variables counted v refl i;
-        coefficients = placed_last 17 (pos 0) (λ f. f.weight) terms (term v c) r.count r.coefficients coefficients counted c refl i;
+        terms = placed_last 17 no_term term_record terms (term v c) r.count r.terms places_are counted (record { variable = v; coefficient = c }) refl i;
         right = r.right;
       };
     }

@@ -1,27 +1,38 @@
 -- Internal: a line as plain data, both ways, the terms that it is made of, and what their makers ask for. Nothing is proved here.
-use Rattle.std.specs.Prelude.{◌≡◌, Bool, cond, List, [], ◌∷◌, ◌++◌, map, ℕ, ◌≤◌, ◌<◌, ℤ, pos, nat_abs, neg_ℤ, negsuc, ◌+ℤ◌, length}
+use Rattle.std.specs.Prelude.{◌≡◌, Bool, cond, List, [], ◌∷◌, ◌++◌, map, ℕ, ◌≤◌, ◌<◌, ℤ, pos, nat_abs, neg_ℤ, negsuc, ◌+ℤ◌, length, take}
 use Rattle.std.specs.Bool.{beq}
 use Rattle.std.specs.Int.Signed.{non_neg}
 use Rattle.basics.specs.Lists.{places, Each}
 use Rattle.network.specs.Limits.{scale}
 use Rattle.network.specs.Threshold.{Feed, Gate}
-use Rattle.network.specs.Record.{feeds_from, gate_in}
+use Rattle.network.specs.Record.{gate_in}
 use Rattle.network.specs.declared.GateRecord.{GateRecord}
 use Rattle.question_theory.specs.Question.{Line, term}
+use Rattle.question_terms.specs.declared.Term.{Term}
 use Rattle.question_terms.specs.declared.LineRecord.{LineRecord}
 
 -- ---- a line and its record
 
+-- a term of a line as a feed over variables, both ways
+abbrev pub term_in : Term → Feed
+term_in t = term t.variable t.coefficient
+
+abbrev pub term_record : Feed → Term
+term_record f = record { variable = f.signal; coefficient = f.weight }
+
+-- what a spare place holds
+abbrev pub no_term : Term
+no_term = record { variable = 0; coefficient = pos 0 }
+
 -- the line that a record stands for
 unfoldable pub line_in : LineRecord → Line
-line_in r = record { terms = feeds_from r.variables r.coefficients 0 r.count; right = r.right }
+line_in r = record { terms = map term_in (take r.count r.terms); right = r.right }
 
 -- the record of a line: its terms at the first places, spare ones 0
 unfoldable pub line_record : Line → LineRecord
 line_record line = record {
   count = length line.terms;
-  variables = places 17 0 (map (λ f. f.signal) line.terms);
-  coefficients = places 17 (pos 0) (map (λ f. f.weight) line.terms);
+  terms = places 17 no_term (map term_record line.terms);
   right = line.right;
 }
 

@@ -3,11 +3,17 @@
 
 pub mod unchecked;
 
-// A line: so many terms, each a coefficient on a variable (counted from 0), and the right side. Spare places hold 0.
+// A term: a coefficient on a variable (counted from 0).
+#[derive(Clone, Copy)]
+pub struct Term {
+    pub variable: usize,
+    pub coefficient: i32,
+}
+
+// A line: so many terms, and the right side. Spare places hold 0.
 #[derive(Clone, Copy)]
 pub struct LineRecord {
     pub count: usize,
-    pub variables: [usize; 17],
-    pub coefficients: [i32; 17],
+    pub terms: [Term; 17],
     pub right: i32,
 }

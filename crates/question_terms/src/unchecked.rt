@@ -5,35 +5,35 @@ ghost use Rattle.network.specs.Limits.{scale};
 ghost use Rattle.question_theory.specs.Question.{term, second_variable};
 ghost use Rattle.question_terms.specs.Terms.{line_in, RecordOfLine, Extendable, no_terms, extended, feed_terms, one_sided, InLimits, three_terms};
 
-use crate::LineRecord;
-use basics::wide;
+use crate::{LineRecord, Term};
 use network::GateRecord;
 
 // A line without terms.
 pub fn no_terms(right: i32) -> LineRecord
     ensures { RecordOfLine result (no_terms right) }
 {
-    let variables = [0usize; 17];
-    let coefficients = [0i32; 17];
+    let none = Term {
+        variable: 0,
+        coefficient: 0,
+    };
     LineRecord {
         count: 0,
-        variables,
-        coefficients,
+        terms: [none; 17],
         right,
     }
 }
 
 // A line with one term more.
-pub fn with_term(line: LineRecord, variable: usize, coefficient: i32) -> LineRecord
+pub fn with_term(mut line: LineRecord, variable: usize, coefficient: i32) -> LineRecord
     requires { Extendable line }
     ensures { RecordOfLine result (extended (line_in line) (term variable coefficient)) }
 {
-    let at = line.count;
-    let mut result = line;
-    result.variables[at] = variable;
-    result.coefficients[at] = coefficient;
-    result.count = at + 1;
-    result
+    line.terms[line.count] = Term {
+        variable,
+        coefficient,
+    };
+    line.count += 1;
+    line
 }
 
 // The variable of a signal of a network, before whose gates shift others come.
@@ -68,8 +68,8 @@ pub fn feed_terms(
     ensures { RecordOfLine result (feed_terms negative (second_variable inputs shift) (gate_in gate) right) }
 {
     let mut line = no_terms(right);
-    for i in 0..wide(gate.fanin) {
-        let variable = variable_of(inputs, shift, wide(gate.signals[i]));
+    for i in 0..usize::from(gate.fanin) {
+        let variable = variable_of(inputs, shift, usize::from(gate.signals[i]));
         let coefficient = signed(negative, gate.weights[i]);
         line = with_term(line, variable, coefficient);
     }
@@ -81,11 +81,11 @@ pub fn sum_of(gate: GateRecord, above: bool) -> i32
     requires { InLimits gate }
     ensures { result ≡ one_sided above (gate_in gate).feeds }
 {
-    let mut sum: i32 = 0;
-    for i in 0..wide(gate.fanin) {
+    let mut sum = 0;
+    for i in 0..usize::from(gate.fanin) {
         let weight = gate.weights[i];
         if (0 <= weight) == above {
-            sum = sum + weight;
+            sum += weight;
         }
     }
     sum

@@ -27,10 +27,11 @@ fn refusal(code: u8) -> LineWritten
 }
 
 // Whether two networks have equal input and output counts.
+#[tactic(auto, unfolding(question_theory::specs::Question::alike, network::specs::Record::net_of))]
 fn are_alike(first: Network, second: Network) -> bool
     ensures { result ≡ alike (net_of first) (net_of second) }
 {
-    (first.inputs == second.inputs) & (first.outputs == second.outputs)
+    first.inputs == second.inputs && first.outputs == second.outputs
 }
 
 // How many lines follow the header.

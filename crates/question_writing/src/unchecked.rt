@@ -1,15 +1,14 @@
 // Writing the text of the question in ASCII, each part at the front of the lent bytes. The bytes after a part stay as they were, and
 // the answer is the part's length.
-ghost use Rattle.std.specs.Prelude.{◌+◌, ◌≤◌, ◌<◌, length};
+ghost use Rattle.std.specs.Prelude.{map, ◌+◌, ◌≤◌, ◌<◌, length};
 ghost use Rattle.texts.specs.Writes.{TextPut};
-ghost use Rattle.network.specs.Record.{feeds_from};
 ghost use Rattle.question_theory.specs.Question.{term};
 ghost use Rattle.question_theory.specs.Text.{coefficient, right_side, term_text, terms_text, relation_text, line_text, header_text};
-ghost use Rattle.question_terms.specs.Terms.{line_in};
+ghost use Rattle.question_terms.specs.Terms.{term_in, line_in};
 ghost use Rattle.question_writing.specs.Writes.{Printable, PrintableLine};
 
 use basics::magnitude;
-use question_terms::LineRecord;
+use question_terms::{LineRecord, Term};
 use texts::unchecked::{put_bytes, put_decimal, put_number};
 
 // A coefficient, with its sign.
@@ -48,21 +47,14 @@ fn put_term(out: &mut [u8], coefficient: i32, variable: usize) -> usize
     end + 1
 }
 
-// The first count terms of a line's places.
-fn put_terms<'a>(
-    out: &mut [u8],
-    variables: &'a [usize; 17],
-    coefficients: &'a [i32; 17],
-    count: usize,
-) -> usize
-    requires count_bound { count ≤ 17 }
-    requires printable { Printable (feeds_from variables.now coefficients.now 0 count) (length out.old) }
-    ensures { TextPut (terms_text (feeds_from variables.now coefficients.now 0 count)) result out.old out.new }
+// Terms, one after the other.
+fn put_terms(out: &mut [u8], terms: &[Term]) -> usize
+    requires printable { Printable (map term_in terms.now) (length out.old) }
+    ensures { TextPut (terms_text (map term_in terms.now)) result out.old out.new }
 {
-    let mut at: usize = 0;
-    for i in 0..count {
-        let step = put_term(&mut out[at..], coefficients[i], variables[i]);
-        at += step;
+    let mut at = 0;
+    for term in terms {
+        at += put_term(&mut out[at..], term.coefficient, term.variable);
     }
     at
 }
@@ -83,7 +75,7 @@ pub fn put_line(out: &mut [u8], line: LineRecord) -> usize
     requires in_bounds { 254 ≤ length out.old }
     ensures { TextPut (line_text (line_in line)) result out.old out.new }
 {
-    let at = put_terms(out, &line.variables, &line.coefficients, line.count);
+    let at = put_terms(out, &line.terms[..line.count]);
     at + put_relation(&mut out[at..], line.right)
 }
 

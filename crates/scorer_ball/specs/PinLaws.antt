@@ -4,12 +4,13 @@ use Rattle.std.proofs.Common.{sym, ap, ◌∙◌, pow-suc, arith, pow_pos, eq-eq
 use Rattle.std.specs.Int.Bits.{bit_and, and_step, and_zero_r}
 use Rattle.std.proofs.Math.Arith.{mod-mul}
 use Rattle.std.specs.Int.Count.{ones}
+use lib.Count.{ones-le}
 use Rattle.basics.specs.TestLaws.{T_is, test_same, T_and, and_T}
 use Rattle.network.specs.Threshold.{digit, word_of, ones_of}
 use Rattle.network.specs.WordLaws.{digit_below, ones_word}
 use Rattle.scorer_theory.specs.Rules.{pins_of, fresh_rack, has_raised_pin, felled_by}
 use Rattle.scorer_theory.proofs.RuleLaws.{felled_ones}
-use Rattle.scorer_ball.specs.Words.{bits_of, pins_in}
+use Rattle.scorer_ball.specs.Words.{bits_of, pins_in, SameRack}
 
 -- ---- words and lists
 digit_bit : (b : Bool) (n : ℕ) → eqb ((digit b + 2 * n) % 2) 1 ≡ b
@@ -104,11 +105,13 @@ pub raised_word : (before after : ℕ) → after < 1024 → has_raised_pin (pins
 raised_word before after h = raised_bits 10 before after h
 
 -- ---- felled pins
-pub felled_word : (before after : ℕ) → before < 1024 → after < 1024 → has_raised_pin (pins_in before) (pins_in after) ≡ false
-    → felled_by (pins_in before) (pins_in after) + ones after ≡ ones before
-felled_word before after h k e =
-    rw (pins_ones before h, pins_ones after k)
-    (felled_ones (pins_in before) (pins_in after) (length_bits 10 before ∙ sym (length_bits 10 after)) e)
+-- the pins felled and those that stand after the ball are those that stood before it
+pub felled_ones_of : {before after : ℕ} → SameRack before after
+    → felled_by (pins_in before) (pins_in after) + ones_of (pins_in after) ≡ ones_of (pins_in before)
+felled_ones_of {before} {after} r = felled_ones (pins_in before) (pins_in after) (length_bits 10 before ∙ sym (length_bits 10 after)) r.same_rack
+
+pub standing_ten : (w : ℕ) → w < 1024 → ones_of (pins_in w) ≤ 10
+standing_ten w h = rw (← pins_ones w h) (ones-le 10 w h)
 
 -- ---- the word of ten pins that stand
 pub fresh_word : pins_in 1023 ≡ fresh_rack

@@ -20,8 +20,9 @@ fn put_felled(answer: &mut [u64], felled: &[u8])
     requires { length felled.now ≤ length answer.old }
     ensures { answer.new ≡ felled.now ++ drop (length felled.now) answer.old }
 {
-    for i in 0..felled.len() {
-        answer[i] = felled[i] as u64;
+    // Kept: an index, no `zip`. Tried, the invariant of a loop over `iter_mut().zip(..)` cannot name the places written so far.
+    for (i, pins) in felled.iter().enumerate() {
+        answer[i] = u64::from(*pins);
     }
 }
 
@@ -30,8 +31,8 @@ fn put_scores(answer: &mut [u64], scores: &[u16])
     requires { length scores.now ≤ length answer.old }
     ensures { answer.new ≡ scores.now ++ drop (length scores.now) answer.old }
 {
-    for i in 0..scores.len() {
-        answer[i] = scores[i] as u64;
+    for (i, score) in scores.iter().enumerate() {
+        answer[i] = u64::from(*score);
     }
 }
 
@@ -41,12 +42,11 @@ pub fn put_sheet(answer: &mut [u64], sheet: Sheet) -> u8
     ensures value { result ≡ sheet.code }
     ensures answer_after { answer.new ≡ stored (answer_of sheet.code (sheet_numbers sheet)) answer.old }
 {
-    let code = sheet.code;
-    if code != 0 {
-        return code;
+    if sheet.code != 0 {
+        return sheet.code;
     }
     put_counts(answer, sheet.balls as u64, sheet.scored as u64);
     put_felled(&mut answer[2..], &sheet.felled);
     put_scores(&mut answer[23..], &sheet.scores);
-    code
+    0
 }

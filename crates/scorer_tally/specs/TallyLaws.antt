@@ -1,10 +1,18 @@
 -- Laws of the tally: a frame's count by its first three balls, and the frames in their order. Assumes nothing.
 use Rattle.std.specs.Prelude.{◌≡◌, refl, List, [], ◌∷◌, ◌++◌, ◌≢◌, ℕ, suc, ◌+◌, ◌-◌, ◌≤◌, ◌<◌, length, get_or, set, take, drop, replicate}
-use Rattle.std.proofs.Common.{sym, ap, ◌∙◌, append_assoc, append-nil, arith, length-append, length-drop, drop-drop}
+use Rattle.std.proofs.Common.{sym, ap, ◌∙◌, append_assoc, append-nil, arith, length-append, length-drop}
+use Rattle.std.proofs.Math.Decide.{dec_lt}
+use Rattle.std.proofs.Math.ListN.{get_or-append, get_or-eq_default, length-replicate}
+use Rattle.std.proofs.Math.Seq.{get_or-append_right, get_or-drop}
+use Rattle.basics.specs.Lists.{places}
+use Rattle.basics.specs.ListLaws.{tab_of, get_or_spare}
 use Rattle.basics.specs.PlaceLaws.{places_none, places_last}
-use Rattle.scorer_theory.specs.Scores.{own_balls, counted_balls, total, frame_score, scores_from, running_scores}
+use Rattle.scorer_theory.specs.Scores.{counted_balls, total, frame_score, scores_from, running_scores}
 use Rattle.scorer_theory.proofs.ScoreLaws.{FrameTakes, takes_strike, takes_spare, takes_open, scores_known, scores_unknown}
+use Rattle.basics.specs.Refusals.{accepted}
+use Rattle.scorer_tally.specs.Sheets.{as_sheet}
 use Rattle.scorer_tally.specs.Tally.{as_scored, FrameCounted, Scoring}
+use Rattle.scorer_tally.specs.declared.Scored.{Scored}
 use Rattle.scorer_tally.specs.declared.FrameCount.{FrameCount}
 
 -- ---- one frame
@@ -24,10 +32,9 @@ total_three (a ∷ b ∷ c ∷ bs) h = omega arith
 
 -- the first balls of a list
 pub record FirstBalls (balls : List ℕ) (first second third : ℕ) : Type 0 where
-  pub one : first ≡ get_or balls 0 0
-  pub two : second ≡ get_or balls 1 0
-  pub three : third ≡ get_or balls 2 0
-  pub bytes : (first < 256) × (second < 256) × (third < 256)
+  pub one : (first ≡ get_or balls 0 0) × (first < 256)
+  pub two : (second ≡ get_or balls 1 0) × (second < 256)
+  pub three : (third ≡ get_or balls 2 0) × (third < 256)
 
 module _ {bs : List ℕ} {a b c : ℕ} (o : FirstBalls bs a b c) where
   -- a frame that takes three balls, and one that takes two
@@ -36,7 +43,7 @@ module _ {bs : List ℕ} {a b c : ℕ} (o : FirstBalls bs a b c) where
   count_three t = record {
     own = t.own;
     all = t.all;
-    score = rw (← t.all) λ h. rw (o.one, o.two, o.three) (sym (total_three bs h));
+    score = rw (← t.all) λ h. rw (o.one.0, o.two.0, o.three.0) (sym (total_three bs h));
     few = omega arith;
     small = omega arith;
   }
@@ -46,74 +53,98 @@ module _ {bs : List ℕ} {a b c : ℕ} (o : FirstBalls bs a b c) where
   count_two t = record {
     own = t.own;
     all = t.all;
-    score = rw (← t.all) λ h. rw (o.one, o.two) (sym (total_two bs h));
+    score = rw (← t.all) λ h. rw (o.one.0, o.two.0) (sym (total_two bs h));
     few = omega arith;
     small = omega arith;
   }
 
   pub count_strike : a ≡ 10 → FrameCounted bs (record { own = 1; counted = 3; score = a + b + c })
-  count_strike e = count_three (takes_strike bs (sym o.one ∙ e))
+  count_strike e = count_three (takes_strike bs (sym o.one.0 ∙ e))
 
   pub count_spare : a ≢ 10 → a + b ≡ 10 → FrameCounted bs (record { own = 2; counted = 3; score = a + b + c })
-  count_spare n e = count_three (takes_spare bs (λ q. n (o.one ∙ q)) (omega (arith, o.one, o.two)))
+  count_spare n e = count_three (takes_spare bs (λ q. n (o.one.0 ∙ q)) (omega (arith, o.one.0, o.two.0)))
 
   pub count_open : a ≢ 10 → a + b ≢ 10 → FrameCounted bs (record { own = 2; counted = 2; score = a + b })
-  count_open n m = count_two (takes_open bs (λ q. n (o.one ∙ q)) (λ q. m (omega (arith, o.one, o.two))))
+  count_open n m = count_two (takes_open bs (λ q. n (o.one.0 ∙ q)) (λ q. m (omega (arith, o.one.0, o.two.0))))
 
 -- ---- the frames in their order
-
-pub scoring_none : (balls : List ℕ) → Scoring balls (replicate 10 0) 0 0 0
-unfolding running_scores
-scoring_none balls = record {
-  done = [];
-  many = refl;
-  within = omega arith;
-  thrown = omega arith;
-  small = omega arith;
-  stored = places_none 10 0;
-  left = refl;
-}
 
 scores_none : (n so_far : ℕ) (bs : List ℕ) → n ≡ 0 → scores_from n so_far bs ≡ []
 unfolding scores_from
 scores_none n so_far bs e = rw e
 
-module _ {balls scores : List ℕ} {frames at so_far : ℕ} (s : Scoring balls scores frames at so_far) where
-  module _ {r : FrameCount} (c : FrameCounted (drop at balls) r) (more : frames < 10) where
-    pub scoring_next : at + r.counted ≤ length balls
-        → Scoring balls (set scores frames (so_far + r.score)) (frames + 1) (at + r.own) (so_far + r.score)
+-- no score is left: the scores are whole
+scoring_whole : {balls scores rest : List ℕ} {frames so_far : ℕ} (s : Scoring balls scores rest frames so_far) → scores_from (10 - frames) so_far rest ≡ []
+    → record { frames = frames; scores = scores } ≡ as_scored (running_scores balls)
+unfolding as_scored
+scoring_whole s none = rw (s.many, s.stored, sym (append-nil s.done) ∙ ap (λ (l : List ℕ). s.done ++ l) (sym none) ∙ s.left)
+
+pub scoring_none : (balls : List ℕ) → Scoring balls (replicate 10 0) balls 0 0
+unfolding running_scores
+scoring_none balls = record {
+  done = [];
+  many = refl;
+  small = omega arith;
+  stored = places_none 10 0;
+  left = refl;
+}
+
+module _ {balls scores rest : List ℕ} {frames so_far : ℕ} (s : Scoring balls scores rest frames so_far) where
+  module _ {r : FrameCount} (c : FrameCounted rest r) (more : frames < 10) where
+    pub scoring_next : r.counted ≤ length rest
+        → Scoring balls (set scores frames (so_far + r.score)) (drop r.own rest) (frames + 1) (so_far + r.score)
     scoring_next h =
-        let bs = drop at balls in
-        let long : counted_balls bs ≤ length bs = omega (arith, c.all, length-drop at balls) in
-        let score : r.score ≡ frame_score bs = c.score long in
-        let turn : scores_from (10 - frames) so_far bs ≡ (so_far + r.score) ∷ scores_from (10 - (frames + 1)) (so_far + r.score) (drop (at + r.own) balls) =
-        ap (λ (k : ℕ). scores_from k so_far bs) (let e : 10 - frames ≡ suc (10 - (frames + 1)) = omega arith in e)
-        ∙ scores_known (10 - (frames + 1)) so_far bs long
-        ∙ rw (score, c.own, ← drop-drop (own_balls bs) at balls) in
+        let long : counted_balls rest ≤ length rest = omega (arith, c.all) in
+        let turn : scores_from (10 - frames) so_far rest ≡ (so_far + r.score) ∷ scores_from (10 - (frames + 1)) (so_far + r.score) (drop r.own rest) =
+        ap (λ (k : ℕ). scores_from k so_far rest) (let e : 10 - frames ≡ suc (10 - (frames + 1)) = omega arith in e)
+        ∙ scores_known (10 - (frames + 1)) so_far rest long
+        ∙ rw (c.score long, c.own) in
         record {
           done = s.done ++ ((so_far + r.score) ∷ []);
           many = omega (arith, s.many, length-append s.done ((so_far + r.score) ∷ []));
-          within = omega arith;
-          thrown = omega (arith, c.own, c.all);
           small = omega (arith, s.small, c.small);
           stored = rw (s.stored, s.many) (places_last 10 0 s.done (so_far + r.score));
           left = append_assoc s.done ((so_far + r.score) ∷ []) _ ∙ ap (λ (l : List ℕ). s.done ++ l) (sym turn) ∙ s.left;
         }
 
     -- the next frame is not known: the scores are whole
-    pub scoring_stop : length balls < at + r.counted → s.done ≡ running_scores balls
+    pub scoring_stop : length rest < r.counted → record { frames = frames; scores = scores } ≡ as_scored (running_scores balls)
     scoring_stop h =
-        let bs = drop at balls in
-        let short : length bs < counted_balls bs = omega (arith, c.all, s.thrown, length-drop at balls) in
-        let none : scores_from (10 - frames) so_far bs ≡ [] =
-        ap (λ (k : ℕ). scores_from k so_far bs) (let e : 10 - frames ≡ suc (9 - frames) = omega arith in e) ∙ scores_unknown (9 - frames) so_far bs short in
-        sym (append-nil s.done) ∙ ap (λ (l : List ℕ). s.done ++ l) (sym none) ∙ s.left
+        let short : length rest < counted_balls rest = omega (arith, c.all) in
+        let none : scores_from (10 - frames) so_far rest ≡ [] =
+        ap (λ (k : ℕ). scores_from k so_far rest) (let e : 10 - frames ≡ suc (9 - frames) = omega arith in e)
+        ∙ scores_unknown (9 - frames) so_far rest short in
+        scoring_whole s none
 
-  -- ten frames are scored
-  pub scoring_end : 10 ≤ frames → s.done ≡ running_scores balls
-  scoring_end h =
-      sym (append-nil s.done) ∙ ap (λ (l : List ℕ). s.done ++ l) (sym (scores_none (10 - frames) so_far (drop at balls) (omega arith))) ∙ s.left
+-- ten frames are scored
+pub scoring_end : {balls scores rest : List ℕ} {frames so_far : ℕ} → Scoring balls scores rest frames so_far → frames ≡ 10
+    → record { frames = 10; scores = scores } ≡ as_scored (running_scores balls)
+scoring_end {rest = rest} {so_far = so_far} s e = rw (sym e) (scoring_whole s (scores_none _ so_far rest (omega arith)))
 
-  pub scoring_answer : s.done ≡ running_scores balls → record { frames = frames; scores = scores } ≡ as_scored (running_scores balls)
-  unfolding as_scored
-  scoring_answer e = rw (s.many, s.stored, e)
+-- ---- the sheet
+
+-- balls at the front of places that hold 0
+pub places_copied : (n : ℕ) (xs : List ℕ) → length xs ≤ n → xs ++ drop (length xs) (replicate n 0) ≡ places n 0 xs
+unfolding places
+places_copied n xs h =
+    let all = xs ++ drop (length xs) (replicate n 0) in
+    let many : n ≡ length all = simp (length-append, length-drop, length-replicate) (omega arith) in
+    sym (tab_of 0 n (λ i. get_or xs i 0) all many (λ i l. elim (dec_lt i (length xs)) as (λ _. get_or xs i 0 ≡ get_or all i 0) [
+      | yes k ↦ sym (get_or-append xs _ 0 i k)
+      | no k ↦
+          sym (get_or-append_right xs (drop (length xs) (replicate n 0)) i 0 (omega arith)
+          ∙ get_or-drop (length xs) (replicate n 0) (i - length xs) 0 ∙ get_or_spare n (length xs + (i - length xs)) 0
+          ∙ sym (get_or-eq_default xs 0 {n = i} (omega arith)))
+    ]))
+
+-- the sheet of balls that are copied to the front, with their scores
+pub sheet_made : (balls : List ℕ) {s : Scored} → length balls ≤ 21 → s ≡ as_scored (running_scores balls)
+    → record {
+      code = 0;
+      balls = length balls;
+      felled = balls ++ drop (length balls) (replicate 21 0);
+      scored = s.frames;
+      scores = s.scores;
+    } ≡ as_sheet (accepted balls)
+unfolding as_sheet as_scored
+sheet_made balls h e = rw (places_copied 21 balls h, e)

@@ -9,7 +9,7 @@ pub fn put_bytes(out: &mut [u8], bytes: &[u8]) -> usize
     requires { length bytes.now ≤ length out.old }
     ensures { TextPut bytes.now result out.old out.new }
 {
-    basics::unchecked::copy(bytes, out);
+    out[..bytes.len()].copy_from_slice(bytes);
     bytes.len()
 }
 

@@ -8,7 +8,6 @@ ghost use Rattle.three_feeds.specs.Numbers.{numbers_of_all};
 ghost use Rattle.three_feeds.specs.Table.{table_entries, table_entry};
 ghost use Rattle.three_feeds.specs.Claims.{EveryEntry, Exactly104, EveryGate};
 
-use basics::wide;
 use table::{HAS_GATE, NUMBERS};
 
 // What the table holds for a truth table: a gate with that function, of which a weight 0 leaves its feed out; or two settings that are 1
@@ -33,7 +32,7 @@ pub enum TableEntry {
 fn has_gate(table: u8) -> bool
     ensures { result ≡ get_or (map has_gate table_entries) table false }
 {
-    HAS_GATE[wide(table)]
+    HAS_GATE[usize::from(table)]
 }
 
 // Number `place` of the four of an entry. The table's numbers are lent, since each look at a constant array would copy all of it.
@@ -41,7 +40,7 @@ fn number(numbers: &[i8; 1024], table: u8, place: usize) -> i32
     requires { (numbers.now ≡ numbers_of_all table_entries) × (place < 4) }
     ensures { result ≡ get_or (numbers_of_all table_entries) (4 * table + place) (pos 0) }
 {
-    numbers[4 * wide(table) + place] as i32
+    i32::from(numbers[4 * usize::from(table) + place])
 }
 
 // The entry of a truth table: bit s is the value on setting s, and bit i of s is feed i.

@@ -8,7 +8,6 @@ ghost use Rattle.network.specs.Record.{gate_in};
 ghost use Rattle.three_feeds.specs.Rule.{gate_on_signals};
 ghost use Rattle.three_feeds_part.specs.Parts.{put_in, bytes_in, mask_part, part_bytes_after};
 
-use basics::wide;
 use network::GateRecord;
 use network_limits::is_zero;
 use three_feeds::TableEntry;
@@ -67,7 +66,7 @@ fn put_in(out: &mut [u8], i: u8, j: u8, k: u8, a: i32, b: i32, c: i32, threshold
     ensures out_after { out.new ≡ bytes_in (gate_on_signals i j k a b c threshold) out.old }
 {
     let gate = gate_on(i, j, k, a, b, c, threshold);
-    if out.len() < 5 + 5 * wide(gate.fanin) {
+    if out.len() < 5 + 5 * usize::from(gate.fanin) {
         return MaskPart::Refused(18);
     }
     MaskPart::Put(pmn_writing::unchecked::put_gate(out, gate))

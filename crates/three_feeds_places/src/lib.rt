@@ -5,32 +5,11 @@ ghost use Rattle.std.specs.Prelude.{◌≡◌, [], ◌∷◌, ◌++◌, ◌≤�
 ghost use Rattle.basics.specs.Refusals.{code_of, stored};
 ghost use Rattle.three_feeds_places.specs.Places.{places_of, entry_places};
 
-use basics::widened;
 use three_feeds::{TableEntry, entry};
 
-// A setting, in 64 bits.
-fn signed(setting: u8) -> i64
-    ensures { result ≡ pos setting }
-{
-    setting as i64
-}
-
-// Five numbers at the front of the lent places.
-fn put_five(answer: &mut [i64], first: i64, second: i64, third: i64, fourth: i64, fifth: i64)
-    requires { 5 ≤ length answer.old }
-    ensures { answer.new ≡ (first ∷ second ∷ third ∷ fourth ∷ fifth ∷ []) ++ drop 5 answer.old }
-{
-    answer[0] = first;
-    answer[1] = second;
-    answer[2] = third;
-    answer[3] = fourth;
-    answer[4] = fifth;
-}
-
 // The numbers of an entry.
-fn put(found: TableEntry, answer: &mut [i64])
-    requires { 5 ≤ length answer.old }
-    ensures { answer.new ≡ places_of found ++ drop 5 answer.old }
+fn numbers(found: TableEntry) -> [i64; 5]
+    ensures { result ≡ places_of found }
 {
     match found {
         TableEntry::HasGate {
@@ -38,27 +17,25 @@ fn put(found: TableEntry, answer: &mut [i64])
             weight_1,
             weight_2,
             threshold,
-        } => put_five(
-            answer,
+        } => [
             1,
-            widened(weight_0),
-            widened(weight_1),
-            widened(weight_2),
-            widened(threshold),
-        ),
+            i64::from(weight_0),
+            i64::from(weight_1),
+            i64::from(weight_2),
+            i64::from(threshold),
+        ],
         TableEntry::NoGate {
             one,
             other_one,
             zero,
             other_zero,
-        } => put_five(
-            answer,
+        } => [
             0,
-            signed(one),
-            signed(other_one),
-            signed(zero),
-            signed(other_zero),
-        ),
+            i64::from(one),
+            i64::from(other_one),
+            i64::from(zero),
+            i64::from(other_zero),
+        ],
     }
 }
 
@@ -73,6 +50,6 @@ pub fn put_entry(table: u64, answer: &mut [i64]) -> u8
     if 255 < table {
         return 14;
     }
-    put(entry(table as u8), answer);
+    answer[..5].copy_from_slice(&numbers(entry(table as u8)));
     0
 }

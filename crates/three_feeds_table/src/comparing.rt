@@ -1,45 +1,48 @@
 // The library's table against the search.
-use crate::search::{NO_GATE, cheapest_gate, raised_threshold, raised_weight, setting, witness};
-use basics::{magnitude, wide};
+ghost use Rattle.std.specs.Prelude.{◌<◌};
+
+use crate::search::{cheapest_gate, raised_threshold, raised_weight, setting, witness};
 use three_feeds::TableEntry;
 
 // Whether a number is another less a third.
-fn is_difference(z: i32, a: usize, b: usize) -> bool {
-    if a < b {
-        return (z < 0) & (magnitude(z) as usize == b - a);
-    }
-    (0 <= z) & (magnitude(z) as usize == a - b)
+fn is_difference(z: i32, a: usize, b: u8) -> bool
+    requires { a < 100 }
+{
+    i64::from(z) + i64::from(b) == a as i64
 }
 
 // Whether the entry of the library for a truth table is the one that the search finds.
-pub(crate) fn is_found(table: usize) -> bool {
-    let gate = cheapest_gate(table);
-    let settings = witness(table);
-    let entry = three_feeds::entry((table % 256) as u8);
-    match entry {
-        TableEntry::HasGate {
-            weight_0,
-            weight_1,
-            weight_2,
-            threshold,
-        } => {
-            (gate != NO_GATE)
-                & is_difference(weight_0, raised_weight(gate, 0), 2)
-                & is_difference(weight_1, raised_weight(gate, 1), 2)
-                & is_difference(weight_2, raised_weight(gate, 2), 2)
-                & is_difference(threshold, raised_threshold(gate), 4)
+pub(crate) fn is_found(table: u8) -> bool {
+    match (three_feeds::entry(table), cheapest_gate(usize::from(table))) {
+        (
+            TableEntry::HasGate {
+                weight_0,
+                weight_1,
+                weight_2,
+                threshold,
+            },
+            Some(gate),
+        ) => {
+            is_difference(weight_0, raised_weight(gate, 0), 2)
+                && is_difference(weight_1, raised_weight(gate, 1), 2)
+                && is_difference(weight_2, raised_weight(gate, 2), 2)
+                && is_difference(threshold, raised_threshold(gate), 4)
         }
-        TableEntry::NoGate {
-            one,
-            other_one,
-            zero,
-            other_zero,
-        } => {
-            (gate == NO_GATE)
-                & (wide(one) == setting(settings, 0))
-                & (wide(other_one) == setting(settings, 1))
-                & (wide(zero) == setting(settings, 2))
-                & (wide(other_zero) == setting(settings, 3))
+        (
+            TableEntry::NoGate {
+                one,
+                other_one,
+                zero,
+                other_zero,
+            },
+            None,
+        ) => {
+            let settings = witness(usize::from(table));
+            usize::from(one) == setting(settings, 0)
+                && usize::from(other_one) == setting(settings, 1)
+                && usize::from(zero) == setting(settings, 2)
+                && usize::from(other_zero) == setting(settings, 3)
         }
+        _ => false,
     }
 }

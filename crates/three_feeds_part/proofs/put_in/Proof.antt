@@ -26,13 +26,13 @@ made c =
 length_is : (c : tie.After-gate_on-gate) → 5 + 5 * c.gate_on-gate.result.fanin ≡ length (gate_bytes (gate_of c))
 length_is c = sym (row_length c.gate_on-gate.result) ∙ ap (λ (g : Gate). length (gate_bytes g)) (made c)
 
-room_is : (c : tie.After-wide) → 5 + 5 * c.wide.result ≡ length (gate_bytes (gate_of c.before))
-room_is c = ap (λ (n : ℕ). 5 + 5 * n) c.wide.ensures.0 ∙ length_is c.before
+room_is : (c : tie.After-from) → 5 + 5 * c.from.result ≡ length (gate_bytes (gate_of c.before))
+room_is c = ap (λ (n : ℕ). 5 + 5 * n) c.from.ensures ∙ length_is c.before
 
-returns : tie.Need-returns-then-out-wide
+returns : tie.Need-returns-then-out-from
 returns c =
     let out = c.args.out.now in
-    no_room (gate_of c.before.before) out (subst (λ (n : ℕ). length out < n) (room_is c.before) c.if-out-wide.true)
+    no_room (gate_of c.before.before) out (subst (λ (n : ℕ). length out < n) (room_is c.before) c.if-out-from.true)
 
 returns_2 : tie.Need-returns
 returns_2 c =
@@ -40,7 +40,7 @@ returns_2 c =
     let gate = c.before.before.before.before.before.before in
     let out = gate.args.out.now in
     has_room (gate_of gate) out done.result done.new.out
-    (subst (λ (n : ℕ). n ≤ length out) (room_is c.before.before.before.before.before) c.if-out-wide.false)
+    (subst (λ (n : ℕ). n ≤ length out) (room_is c.before.before.before.before.before) c.if-out-from.false)
     (done.ensures.0 ∙ length_is gate)
     (done.ensures.1 ∙ ap (λ (g : Gate). gate_bytes g ++ drop done.result out) (made gate))
 

@@ -21,7 +21,7 @@ element_copy_out_wide_2 : tie.Need-bounds-second-j
 element_copy_out_wide_2 c = below c.before.before
 
 variable_of_requires : tie.Need-variable_of-q-requires
-variable_of_requires c κs = let s = small_counts c.requires.0 in omega (arith, c.wide.ensures)
+variable_of_requires c κs = let s = small_counts c.requires.0 in omega (arith, c.from.ensures)
 
 add_d : tie.Need-overflow_add-d
 add_d c = let s = small_counts c.requires.0 in record { fits = omega arith }
@@ -37,16 +37,16 @@ returns : tie.Need-returns-then-i-eq0
 returns c =
     let a = c.args in
     stands_is
-    (even_output c.requires.0 a.i c.requires.1 c.wide-p.ensures.0
-    (c.variable_of-q.ensures ∙ ap (second_variable a.first.inputs a.first.gates) c.wide.ensures.0) refl c.if-i-eq0.true)
+    (even_output c.requires.0 a.i c.requires.1 c.from-p.ensures
+    (c.variable_of-q.ensures ∙ ap (second_variable a.first.inputs a.first.gates) c.from.ensures) refl c.if-i-eq0.true)
     c.three_terms.ensures
 
 returns_2 : tie.Need-returns
 returns_2 c =
     let a = c.args in
     stands_is
-    (odd_output c.requires.0 a.i c.requires.1 c.wide-p.ensures.0
-    (c.variable_of-q.ensures ∙ ap (second_variable a.first.inputs a.first.gates) c.wide.ensures.0) refl c.if-i-eq0.false)
+    (odd_output c.requires.0 a.i c.requires.1 c.from-p.ensures
+    (c.variable_of-q.ensures ∙ ap (second_variable a.first.inputs a.first.gates) c.from.ensures) refl c.if-i-eq0.false)
     c.three_terms-2.ensures
 
 pub output_line_spec : {M : Type 1} → statement M

@@ -28,7 +28,7 @@ decreases-loop inputs shift negative right gate line₀ i₀ i-end line i = i-en
 
 -- the number of the loop's feed is below the gate's count
 below : (c : tie.In-loop-i invariant-loop decreases-loop) → (c.loop-i.i < c.args.gate.fanin) × (c.loop-i.i < 16)
-below c = omega (arith, c.wide-i-end.ensures, c.requires.0.few)
+below c = omega (arith, c.from-i-end.ensures, c.requires.0.few)
 
 -- its weight is small
 small : (c : tie.In-loop-i invariant-loop decreases-loop) → nat_abs (get_or c.args.gate.weights c.loop-i.i (pos 0)) ≤ scale
@@ -79,7 +79,7 @@ loop_again c =
     let h = in_loop.loop-i-test.true in (
       omega arith,
       stands_is (first_step a.negative φ a.gate (to_z w32 (of_z w32 a.right)) l.i (stands_line l.invariant.1)
-          (c.variable_of-variable.ensures ∙ ap φ c.wide.ensures.0)
+          (c.variable_of-variable.ensures ∙ ap φ c.from.ensures)
           (read_back w32 c.signed-coefficient.type_inv (c.signed-coefficient.ensures ∙ ap (λ (z : ℤ). cond a.negative (neg_ℤ z) z) (small_back w (small in_loop)))))
           c.with_term-line.ensures,
     )
@@ -89,7 +89,7 @@ returns c =
     let l = c.loop-i in
     let a = c.args in
     let φ = second_variable a.inputs a.shift in
-    let e : l.i ≡ a.gate.fanin = omega (arith, c.wide-i-end.ensures) in
+    let e : l.i ≡ a.gate.fanin = omega (arith, c.from-i-end.ensures) in
     stands_is
     (ap (λ (z : ℤ). first_terms a.negative φ a.gate z l.i) (to_z-of_z c.ranges.right)
     ∙ ap (first_terms a.negative φ a.gate a.right) e

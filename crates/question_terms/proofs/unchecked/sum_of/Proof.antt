@@ -28,7 +28,7 @@ weight c = get_or c.before.before.before.args.gate.weights c.before.loop-i.i (po
 
 -- the number of the loop's feed is below the gate's count
 below : (c : tie.In-loop-i invariant-loop decreases-loop) → (c.loop-i.i < c.args.gate.fanin) × (c.loop-i.i < 16)
-below c = omega (arith, c.wide-i-end.ensures, c.requires.few)
+below c = omega (arith, c.from-i-end.ensures, c.requires.few)
 
 -- its weight is small
 small : (c : tie.In-loop-i invariant-loop decreases-loop) → nat_abs (weight c) ≤ scale
@@ -78,7 +78,7 @@ returns : tie.Need-returns invariant-loop decreases-loop
 unfolding gate_in
 returns c =
     let l = c.loop-i in
-    let e : l.i ≡ c.args.gate.fanin = omega (arith, c.wide-i-end.ensures) in
+    let e : l.i ≡ c.args.gate.fanin = omega (arith, c.from-i-end.ensures) in
     l.invariant.1.holds ∙ ap (sided_of c.args.above c.args.gate) e
 
 pub sum_of_spec : {M : Type 1} → statement M

@@ -1,5 +1,5 @@
 -- The digits of a tenth stand at the front, and the last digit is stored after them.
-use Rattle.std.proofs.Common.{arith, sym, ap, List, [], ◌∷◌, ℕ, ◌+◌, ◌/◌, ◌%◌, ◌<◌, length, length-append}
+use Rattle.std.proofs.Common.{arith, sym, ap, [], ◌∷◌, ℕ, ◌+◌, ◌/◌, ◌%◌, ◌<◌, length, length-append}
 use Rattle.texts.specs.Texts.{decimal}
 use Rattle.texts.proofs.DecimalLaws.{decimal_one, decimal_more}
 use Rattle.texts.proofs.PutLaws.{put_none, put_text, put_length, put_byte}

@@ -1,0 +1,6 @@
+-- The loop ends.
+use Rattle.std.proofs.Common.{◌-◌, length}
+use Rattle.cases.proofs.script.number_from.Given as goal
+
+abbrev pub decreases-loop-at : goal.decreases-loop-at
+decreases-loop-at l = length l.script - l.at

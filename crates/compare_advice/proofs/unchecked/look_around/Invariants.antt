@@ -1,0 +1,5 @@
+use Rattle.compare_lanes.specs.Lanes.{Masked}
+use Rattle.compare_advice.proofs.unchecked.look_around.Given as goal
+
+abbrev pub invariant-loop-k : goal.invariant-loop-k
+invariant-loop-k l = Masked l.lanes
