@@ -5,7 +5,7 @@ ghost use Rattle.std.specs.Prelude.{◌<◌, ◌≤◌, IfSome};
 ghost use Rattle.compare_theory.specs.Joint.{Ready};
 ghost use Rattle.compare_theory.specs.Tables.{joint_of};
 ghost use Rattle.compare_lanes.specs.Lanes.{Masked};
-ghost use Rattle.compare_advice.specs.Advice.{FeedsThere};
+ghost use Rattle.compare_advice.specs.Advice.{FeedsThere, Looked};
 
 use crate::numbers::{dense, low_half, mixed, next_number};
 use crate::unchecked::notes::Notes;
@@ -85,6 +85,7 @@ fn lit_keys(row: &[i32; 32], keys: &[u32; 32]) -> u32 {
 // What each signal has in the lanes, mixed into its mark. The keys change with the mark of signal 0.
 fn mix_marks(notes: &mut Notes, lanes: &[[i32; 32]; 296], signals: usize)
     requires { signals ≤ 296 }
+    ensures { Looked notes.old notes.new }
 {
     let keys = lane_keys(KEYS_SEED ^ notes.marks[0]);
     for (mark, row) in notes.marks[..signals].iter_mut().zip(lanes) {
@@ -132,7 +133,7 @@ fn lane_frame(lanes: &[[i32; 32]; 296], inputs: usize, f: usize) -> u64
 pub fn look(joint: &Tables, outs: &[u16; 16], notes: &mut Notes, lanes: &mut [[i32; 32]; 296])
     requires ready { Ready (joint_of joint.now) }
     requires masked { Masked lanes.old }
-    ensures { Masked lanes.new }
+    ensures { Looked notes.old notes.new × Masked lanes.new }
 {
     run_gates(joint, lanes);
     mix_marks(notes, lanes, joint.inputs + joint.gates);
@@ -158,6 +159,7 @@ fn put_random(lanes: &mut [[i32; 32]; 296], inputs: usize, kind: usize, seed: u6
 // Random frames, 32 at a time: so many times, or until an output's two signals are apart. The seed is any number but 0.
 pub fn look_around(joint: &Tables, outs: &[u16; 16], notes: &mut Notes, times: usize, seed: u64)
     requires { Ready (joint_of joint.now) }
+    ensures { Looked notes.old notes.new }
 {
     let mut lanes = [[0; LANES]; SIGNALS];
     let mut x = seed;
@@ -195,6 +197,7 @@ fn put_near(lanes: &mut [[i32; 32]; 296], inputs: usize, frame: u64, first: usiz
 // A frame and those that differ from it in one input: 32 of them, and the rest if there are so many inputs.
 pub fn look_near(joint: &Tables, outs: &[u16; 16], notes: &mut Notes, frame: u64)
     requires { Ready (joint_of joint.now) }
+    ensures { Looked notes.old notes.new }
 {
     let mut lanes = [[0; LANES]; SIGNALS];
     put_near(&mut lanes, joint.inputs, frame, 0);
@@ -221,6 +224,7 @@ fn is_open(notes: &Notes, outs: &[u16; 16]) -> bool {
 // Many more random frames, if an output is still open, no frame is found, and there are more frames than would be looked at.
 pub fn look_more(joint: &Tables, outs: &[u16; 16], notes: &mut Notes)
     requires { Ready (joint_of joint.now) }
+    ensures { Looked notes.old notes.new }
 {
     if joint.inputs <= FEW_INPUTS || notes.found.is_some() || !is_open(notes, outs) {
         return;
