@@ -85,7 +85,7 @@ uint8_t pmn_report(const uint8_t *file, size_t file_length,
 /* What a collapse of the gate with a signal would give, without doing it: the size of the network that it would leave. answer[0]: gates;
  * answer[1]: cost; answer[2]: levels. A gate without readers would be dropped.
  * Codes in order: as read, 18 where answer has under 3 places, then the collapse's: 11, 17, the first refusing reader's 7 or 16.
- * Stack: 37 KB. */
+ * Stack: 48 KB. */
 uint8_t pmn_preview(const uint8_t *file, size_t file_length, uint64_t signal,
                     uint64_t *answer, size_t answer_length);
 
@@ -160,7 +160,7 @@ uint8_t pmn_compare(const uint8_t *first, size_t first_length,
  * Codes in order: as read, 14 where calls_length is no multiple of 5 or a kind is above 5, 18 where answers has fewer places than
  * 1 and 4 for each call, or out is shorter than the file. With 10,906 bytes or more in out, which hold any file, the list is run
  * once; with fewer it is run twice.
- * Stack: 118 KB. */
+ * Stack: 107 KB. */
 uint8_t pmn_run(const uint8_t *file, size_t file_length,
                 const uint64_t *calls, size_t calls_length,
                 uint64_t *answers, size_t answers_length,

@@ -6,6 +6,7 @@ ghost use Rattle.alley_theory.specs.Answers.{as_entry};
 ghost use Rattle.alley_theory.specs.Writes.{EntryFor, lane_in, cut_off, FoundInside, FoundIn};
 
 use alley_theory::{Entry, Found};
+use pmn_header::unchecked::read_head;
 
 // What is found where the bytes end before the lane does: where they are the last, a lane that takes them all and is cut short.
 fn cut_off(available: usize, last: bool) -> Found
@@ -63,13 +64,23 @@ fn file_entry(file: &[u8]) -> Entry
     }
 }
 
+// The same. A lane that is refused in its header needs no record.
+fn whole_entry(file: &[u8]) -> Entry
+    ensures { EntryFor (whole file.now) result }
+{
+    match read_head(file) {
+        Ok(_) => file_entry(file),
+        Err(refusal) => refused_entry(refusal.number()),
+    }
+}
+
 // The entry of a lane that was found; 4 where it is cut short.
 pub fn lane_entry(bytes: &[u8], found: Found) -> Entry
     requires { FoundInside bytes.now found }
     ensures { EntryFor (lane_in bytes.now found) result }
 {
     if found.complete {
-        file_entry(&bytes[2..found.taken])
+        whole_entry(&bytes[2..found.taken])
     } else {
         refused_entry(4)
     }

@@ -1,9 +1,10 @@
 -- One step of a sound record taken back: what the tests say, and the record of the network before it. Assumes nothing.
-use Rattle.std.specs.Prelude.{◌≡◌, Bool, true, false, cond, ◌&&◌, List, map, ℕ, ◌+◌, ◌-◌, ◌≤◌, ◌<◌, T, leb, length, set}
-use Rattle.std.proofs.Common.{sym, ap, ◌∙◌, subst, arith, leb→le, le→leb, length-set, get_or-set_same, get_or-set_other}
-use Rattle.std.proofs.Math.Decide.{ℕ_discrete}
+use Rattle.std.specs.Prelude.{◌≡◌, Bool, true, false, cond, ◌&&◌, ◌||◌, List, map, ℕ, ◌+◌, ◌-◌, ◌≤◌, ◌<◌, T, leb, ltb, eqb, length, set}
+use Rattle.std.proofs.Common.{sym, ap, ◌∙◌, subst, arith, ltb-false, leb→le, le→leb, ltb→lt, eqb→eq, length-set, get_or-set_same, get_or-set_other}
+use Rattle.std.proofs.Math.Decide.{ℕ_discrete, dec_lt}
+use Rattle.std.proofs.lemmas.Bool.{eqb-false}
 use Rattle.std.proofs.lemmas.List.{length-map}
-use Rattle.basics.specs.TestLaws.{is_true, T_is, T_and, and_T, and_true, refuted}
+use Rattle.basics.specs.TestLaws.{is_true, T_is, T_and, and_T, and_true, or_case, or_false, refuted}
 use Rattle.basics.specs.TableLaws.{get_d_map}
 use Rattle.network.specs.Threshold.{Gate, Net}
 use Rattle.network.specs.Limits.{is_gate, sound, gate_signal}
@@ -131,11 +132,38 @@ no_room n u g e =
     let few = (sound_of (inserted N u g) (T_and (placed N (dropping u g)) (sound (inserted N u g)) t).1).few_gates in
     omega (arith, few, length_insert no_gate g (u - N.inputs) gs, length-map N.gates (raised_gate u), count_gates n)
 
+-- the three tests of a drop's place
+abbrev out_of_place : Network → ℕ → Bool
+out_of_place n u = ltb u n.inputs || ltb (n.inputs + n.gates) u || eqb n.gates 128
+
+pub undoable_outside : (n : Network) (u : ℕ) (g : Gate) → out_of_place n u ≡ true → undoable (net_of n) (dropping u g) ≡ false
+undoable_outside n u g e = or_case (ltb u n.inputs || ltb (n.inputs + n.gates) u) (eqb n.gates 128) (T_is _ e)
+    (λ t. or_case (ltb u n.inputs) (ltb (n.inputs + n.gates) u) t
+    (λ a. no_place n u g (λ h k. let l = ltb→lt u n.inputs a in omega arith))
+    (λ b. no_place n u g (λ h k. let l = ltb→lt (n.inputs + n.gates) u b in omega arith)))
+    (λ c. no_room n u g (eqb→eq n.gates 128 c))
+
+pub inside : (n : Network) (u : ℕ) → n.gates ≤ 128 → out_of_place n u ≡ false → (n.inputs ≤ u) × (u ≤ n.inputs + n.gates) × (n.gates < 128)
+inside n u few e =
+    let a = or_false (ltb u n.inputs || ltb (n.inputs + n.gates) u) (eqb n.gates 128) e in
+    let b = or_false (ltb u n.inputs) (ltb (n.inputs + n.gates) u) a.0 in
+    let less : n.gates < 128 = elim (dec_lt n.gates 128) as (λ d. n.gates < 128) [
+      | yes k ↦ k
+      | no k ↦ absurd (eqb-false n.gates 128 a.1 (omega arith))
+    ] in
+    (ltb-false u n.inputs b.0, ltb-false (n.inputs + n.gates) u b.1, less)
+
 -- ---- the networks
 
 -- a result, if it is sound, or else the network that came in
 abbrev sound_or : Network → Network → Network
 sound_or r n = cond (sound_record r) r n
+
+pub picked_no : (r n : Network) → sound_record r ≡ false → n ≡ sound_or r n
+picked_no r n e = rw e
+
+pub picked_yes : (r n : Network) → sound_record r ≡ true → r ≡ sound_or r n
+picked_yes r n e = rw e
 
 -- a step that cannot be taken back
 pub back_no : (n : Network) (s : Step) → undoable (net_of n) s ≡ false → n ≡ back_to n s

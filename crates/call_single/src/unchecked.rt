@@ -32,7 +32,7 @@ pub fn merge_in(
     enter_gate(
         &held.network,
         &mut held.journal,
-        StepKind::Merge,
+        StepKind::Merge as u8,
         v as u8,
         g,
     );
@@ -47,7 +47,13 @@ pub fn drop_in(held: &mut Record, s: usize) -> Result<Figures, Refusal>
 {
     test_drop(&held.network, s)?;
     let g = s - held.network.inputs;
-    enter_gate(&held.network, &mut held.journal, StepKind::Drop, s as u8, g);
+    enter_gate(
+        &held.network,
+        &mut held.journal,
+        StepKind::Drop as u8,
+        s as u8,
+        g,
+    );
     remove_gate(&mut held.network, s);
     Ok(collapses_made(0))
 }

@@ -18,7 +18,7 @@ fn enter_readers(network: &Network, journal: &mut Journal, u: usize)
     for g in 0..network.gates {
         if reads_gate(network, g, u) {
             let signal = network.inputs + g;
-            enter_gate(network, journal, StepKind::Merge, signal as u8, g);
+            enter_gate(network, journal, StepKind::Merge as u8, signal as u8, g);
         }
     }
 }
@@ -30,5 +30,5 @@ pub fn enter_collapse(network: &Network, journal: &mut Journal, u: usize)
 {
     enter_readers(network, journal, u);
     let g = u - network.inputs;
-    enter_gate(network, journal, StepKind::Drop, u as u8, g);
+    enter_gate(network, journal, StepKind::Drop as u8, u as u8, g);
 }

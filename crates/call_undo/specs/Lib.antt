@@ -1,1 +1,2 @@
 pub mod UndoneLaws
+pub mod PartsLaws

@@ -1,3 +1,4 @@
+pub mod Twins
 pub mod TwinLaws
 pub mod Merging
 pub mod MergeLaws

@@ -1,5 +1,5 @@
 // The comparison of two sound networks.
-ghost use Rattle.std.specs.Prelude.{◌≡◌, true, ◌&&◌, ◌≤◌, eqb};
+ghost use Rattle.std.specs.Prelude.{◌≡◌, true, ◌&&◌, ◌≤◌, ◌/◌, ◌^◌, eqb, ltb, cond, min};
 ghost use Rattle.network.specs.Record.{net_of, sound_record};
 ghost use Rattle.compare_theory.specs.Verdicts.{comparable};
 ghost use Rattle.compare_theory.specs.Tables.{joint_of};
@@ -52,7 +52,8 @@ fn same_counts(first: &Network, second: &Network) -> bool
 // The steps that a refutation is given: with at most 20 inputs no more than reading every frame, 32 at a time, would take.
 fn steps_given(inputs: usize, budget: u64) -> u64
     requires { inputs ≤ 40 }
-    ensures { result ≤ budget }
+    ensures few { result ≤ budget }
+    ensures given { result ≡ cond (ltb 20 inputs) budget (min budget (2 ^ inputs / 32)) }
 {
     if 20 < inputs {
         return budget;

@@ -9,7 +9,7 @@ use cut_marks::Marks;
 use network::Network;
 
 // The marks with gate g and every gate that it needs.
-fn mark_gate(network: &Network, marks: Marks, g: usize) -> Marks
+pub fn mark_gate(network: &Network, marks: Marks, g: usize) -> Marks
     requires { (g < 128)
         × Wired network.now.fanins network.now.signals network.now.inputs (g + 1)
         × Closed network.now.fanins network.now.signals network.now.inputs (g + 1) (marks_of marks) }

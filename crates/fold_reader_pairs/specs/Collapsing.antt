@@ -14,6 +14,7 @@ use Rattle.fold_theory.specs.Pair.{Pair, pair_of}
 use Rattle.fold_theory.specs.Collapse.{merged_readers, collapse}
 use Rattle.fold_reader_pairs.specs.declared.Pairs.{Pairs}
 use Rattle.fold_reader_pairs.specs.declared.Refuser.{Refuser}
+use Rattle.fold_reader_pairs.specs.declared.FirstRefuser.{FirstRefuser}
 use Rattle.refusals.specs.Numbers.{number_of}
 use Rattle.refusals.specs.declared.Refusal.{Refusal}
 
@@ -58,12 +59,16 @@ pub record ReaderRefuses (board : Board) (gate : ℕ → Gate) (inputs gates u :
 pub record PairedBelow (board : Board) (gate : ℕ → Gate) (inputs u n : ℕ) : Type 0 where
   pub each : (g c : ℕ) → g < n → reader_pair (edge_to board gate inputs u g) ≢ refused c
 
--- m has the pair of every gate, and no pair past them; or the first gate whose pair is refused. Nothing in m is free
-pub record ReaderPairs (r : Network) (u : ℕ) (m : Result Pairs Refuser) : Type 0 where
+-- m has the pair of every gate, and no pair past them; or the first gate whose pair is refused, the pair of every gate before it, and no pair
+-- from there on. Nothing in m is free
+pub record ReaderPairs (r : Network) (u : ℕ) (m : Result Pairs FirstRefuser) : Type 0 where
   pub found : (p : Pairs) → m ≡ Ok p → AllPairs r.board (gate_of r) r.inputs r.gates u p
   pub spare : (p : Pairs) → m ≡ Ok p → (g : ℕ) → r.gates ≤ g → pair_at p g ≡ no_pair
-  pub refuses : (x : Refuser) → m ≡ Err x → ReaderRefuses r.board (gate_of r) r.inputs r.gates u x
-  pub first : (x : Refuser) → m ≡ Err x → PairedBelow r.board (gate_of r) r.inputs u x.reader
+  pub refuses : (x : FirstRefuser) → m ≡ Err x → ReaderRefuses r.board (gate_of r) r.inputs r.gates u x.refuser
+  pub first : (x : FirstRefuser) → m ≡ Err x → PairedBelow r.board (gate_of r) r.inputs u x.refuser.reader
+  pub before : (x : FirstRefuser) → m ≡ Err x → (g : ℕ) → g < x.refuser.reader
+      → reader_pair (edge_to r.board (gate_of r) r.inputs u g) ≡ accepted (pair_at x.pairs g)
+  pub past : (x : FirstRefuser) → m ≡ Err x → (g : ℕ) → x.refuser.reader ≤ g → pair_at x.pairs g ≡ no_pair
 
 -- m has the pair of every gate, or else a gate whose pair is refused, not always the first
 pub record TriedPairs (r : Network) (u : ℕ) (m : Result Pairs Refuser) : Type 0 where

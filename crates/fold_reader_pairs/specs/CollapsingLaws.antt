@@ -1,5 +1,5 @@
 -- Laws of gates collapsed into their readers: what the pair of each gate says of all of them. Assumes nothing.
-use Rattle.std.specs.Prelude.{◌≡◌, List, ◌∷◌, map, ◌≢◌}
+use Rattle.std.specs.Prelude.{◌≡◌, List, ◌∷◌, map, ◌≢◌, Result, Ok}
 use Rattle.std.proofs.Math.Path.{refl, sym, ap, ap₂, subst}
 use Rattle.std.proofs.Common.{◌∙◌, eq-eqb, ne_eqb, leb→le}
 use Rattle.std.proofs.Math.Bool.{true, false, cond}
@@ -23,13 +23,34 @@ use Rattle.network.specs.declared.Network.{Network}
 use Rattle.fold_theory.specs.Merge.{Edge, edge_of, edge, silent, reads, merged, narrow, merge_keeps}
 use Rattle.fold_theory.specs.Pair.{Pair, qualifies, pair_of}
 use Rattle.fold_theory.specs.Collapse.{merged_reader, merged_readers, collapsed}
+use Rattle.fold_theory.proofs.RefusalLaws.{Numbered}
+use Rattle.fold_theory.proofs.NumberLaws.{pair_of_numbered}
 use Rattle.fold_theory.proofs.SoundLaws.{merged_ok, reader_above}
 use Rattle.fold_theory.proofs.PairLaws.{qualified_of, dial_of, pair_of_found}
+use Rattle.fold_pair.specs.Answers.{as_pair}
+use Rattle.fold_pair.specs.declared.PairFound.{PairFound}
 use Rattle.fold_reader_pairs.specs.Collapsing.{edge_to, no_pair, reader_pair, with_pair, all_merged, pair_at, AllPairs, ReaderRefuses, PairedBelow}
-use Rattle.fold_reader_pairs.specs.Collapsing.{gates_with_pairs, collapsed_by}
+use Rattle.fold_reader_pairs.specs.Collapsing.{ReaderPairs, gates_with_pairs, collapsed_by}
 use Rattle.fold_reader_pairs.specs.declared.Pairs.{Pairs}
 use Rattle.fold_reader_pairs.specs.declared.Refuser.{Refuser}
+use Rattle.fold_reader_pairs.specs.declared.FirstRefuser.{FirstRefuser}
 use Rattle.refusals.specs.Numbers.{number_of}
+
+-- ---- the number of a refusal
+pub reader_pair_numbered : (e : Edge) → Numbered (reader_pair e)
+unfolding reader_pair
+reader_pair_numbered e = cond_case Numbered (silent e.u e.gate_v) {x = accepted no_pair} {y = pair_of e} (λ t. tt) (λ t. pair_of_numbered e)
+
+-- a pair's answer as a call gives it, by its code
+pub as_pair_accepted : (a : Answer Pair) (x : PairFound) → x ≡ as_pair a → Numbered a → x.code ≡ 0 → a ≡ accepted (record { k = x.k; l = x.l })
+unfolding as_pair
+as_pair_accepted (accepted p) x e n z = ap (λ (y : PairFound). accepted (record { k = y.k; l = y.l })) (sym e)
+as_pair_accepted (refused c) x e n z = absurd (n (ap (λ (y : PairFound). y.code) (sym e) ∙ z))
+
+pub as_pair_refused : (a : Answer Pair) (x : PairFound) → x ≡ as_pair a → x.code ≢ 0 → a ≡ refused x.code
+unfolding as_pair
+as_pair_refused (accepted p) x e h = absurd (h (ap (λ (y : PairFound). y.code) e))
+as_pair_refused (refused c) x e h = ap (λ (y : PairFound). refused y.code) (sym e)
 
 -- ---- the pair in an answer
 unfoldable pub pair_in : Answer Pair → Pair
@@ -201,13 +222,17 @@ module _ (board : Board) (gate : ℕ → Gate) (inputs gates u : ℕ) where
       (omega arith) (omega arith)
       (λ i k. merged_reader_pair (edge_to board gate inputs u i) (q i) (h i k)) (fuse_refused (edge_to board gate inputs u g) c r)
 
--- ---- the first gate of a record whose pair is refused
-pub pairs_first : (r : Network) (u : ℕ) (x : Refuser) → ReaderRefuses r.board (gate_of r) r.inputs r.gates u x → PairedBelow r.board (gate_of r) r.inputs u x.reader
-    → all_merged r.board (gate_of r) r.inputs r.gates u ≡ refused (number_of x.refusal)
-pairs_first r u x w b =
-    let pair = λ (i : ℕ). reader_pair (edge_to r.board (gate_of r) r.inputs u i) in
-    all_merged_first r.board (gate_of r) r.inputs r.gates u (λ i. pair_in (pair i)) x.reader (number_of x.refusal) w.within
-    (λ i k. not_refused (pair i) (λ c. b.each i c k)) w.refusal_is
+  -- the same of a refuser before which no gate is refused its pair
+  pub pairs_first : (x : Refuser) → ReaderRefuses board gate inputs gates u x → PairedBelow board gate inputs u x.reader
+      → all_merged board gate inputs gates u ≡ refused (number_of x.refusal)
+  pairs_first x w b =
+      let pair = λ (i : ℕ). reader_pair (edge_to board gate inputs u i) in
+      all_merged_first (λ i. pair_in (pair i)) x.reader (number_of x.refusal) w.within (λ i k. not_refused (pair i) (λ c. b.each i c k)) w.refusal_is
+
+-- ---- by what the pairs of all readers say
+module _ (r : Network) (u : ℕ) (m : Result Pairs FirstRefuser) (h : ReaderPairs r u m) where
+  pub pairs_all : (p : Pairs) → m ≡ Ok p → AllPairs r.board (gate_of r) r.inputs r.gates u p
+  pairs_all = h.found
 
 -- ---- a record's gate collapsed into its readers
 module _ (r : Network) (u : ℕ) (s : SoundGate r u) where

@@ -15,9 +15,9 @@ use Rattle.refusals.specs.Numbers.{number_of}
 use Rattle.refusals.specs.declared.Refusal.{Refusal}
 use Rattle.refusals.specs.declared.Refusal.TheVariants.{NoSuchGate, StillRead}
 use Rattle.fold_reader_pairs.specs.declared.Pairs.{Pairs}
-use Rattle.fold_reader_pairs.specs.declared.Refuser.{Refuser}
+use Rattle.fold_reader_pairs.specs.declared.FirstRefuser.{FirstRefuser}
 use Rattle.fold_reader_pairs.specs.Collapsing.{ReaderPairs, PairsTried}
-use Rattle.fold_reader_pairs.specs.CollapsingLaws.{pairs_first, collapsed_pairs, collapsed_first}
+use Rattle.fold_reader_pairs.specs.CollapsingLaws.{pairs_all, pairs_first, collapsed_pairs, collapsed_first}
 use Rattle.fold_readers.specs.RecordLaws.{net_test, output_test, sound_gate}
 
 module _ (r : Network) (s : ℕ) (whole : sound_record r ≡ true) where
@@ -58,12 +58,12 @@ module _ (r : Network) (s : ℕ) (whole : sound_record r ≡ true) where
       collapse_collapsed = rw (net_test r s whole, gate_signal_lem r s ∙ gate, output_test r s whole ∙ ap not inner)
 
       -- by the pairs of all readers
-      pub tried_pairs : (m : Result Pairs Refuser) {m' : Result Pairs Refusal} → ReaderPairs r s m
-          → MatchResult m (λ p. m' ≡ Ok p) (λ x. m' ≡ Err x.refusal) → PairsTried r s m'
+      pub tried_pairs : (m : Result Pairs FirstRefuser) {m' : Result Pairs Refusal} → ReaderPairs r s m
+          → MatchResult m (λ p. m' ≡ Ok p) (λ x. m' ≡ Err x.refuser.refusal) → PairsTried r s m'
       tried_pairs (Ok p) {m'} h q = record {
         refuses = λ d e. let no : ⊥ = cc in absurd no;
-        accepts = λ t e. let same : p ≡ t = cc in collapse_collapsed ∙ collapsed_pairs r s own t (h.found t (ap Ok same));
-        folds = λ t e. let same : p ≡ t = cc in record { own = own; pairs = h.found t (ap Ok same) };
+        accepts = λ t e. let same : p ≡ t = cc in collapse_collapsed ∙ collapsed_pairs r s own t (pairs_all _ _ _ h t (ap Ok same));
+        folds = λ t e. let same : p ≡ t = cc in record { own = own; pairs = pairs_all _ _ _ h t (ap Ok same) };
       }
       tried_pairs (Err x) h q =
-          tried_refused q (collapse_collapsed ∙ collapsed_first r s own _ (pairs_first r s x (h.refuses x refl) (h.first x refl)))
+          tried_refused q (collapse_collapsed ∙ collapsed_first r s own _ (pairs_first _ _ _ _ _ x.refuser (h.refuses x refl) (h.first x refl)))

@@ -18,3 +18,10 @@ pub struct Refuser {
     pub reader: usize,
     pub refusal: Refusal,
 }
+
+// The first reader whose pair is refused, and the pairs of the readers before it; 0 for every other gate.
+#[derive(Clone, Copy)]
+pub struct FirstRefuser {
+    pub refuser: Refuser,
+    pub pairs: Pairs,
+}

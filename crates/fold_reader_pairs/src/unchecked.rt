@@ -7,7 +7,7 @@ ghost use Rattle.fold_pair.specs.Parts.{pair_answer};
 ghost use Rattle.fold_readers.specs.Arrays.{SoundGates};
 ghost use Rattle.fold_reader_pairs.specs.Collapsing.{edge_to, reader_pair, ReaderPairs, PairsTried};
 
-use crate::{Pairs, Refuser};
+use crate::{FirstRefuser, Pairs, Refuser};
 use fold_edges::unchecked::aligned_at;
 use fold_pair::Multipliers;
 use fold_pair::unchecked::pair_of;
@@ -29,8 +29,8 @@ pub fn reader_pair(network: &Network, u: usize, g: usize) -> Result<Multipliers,
     pair_of(aligned_at(network, u, network.inputs + g))
 }
 
-// The pairs of all readers of u, in rising order, or the first reader whose pair is refused.
-pub fn reader_pairs(network: &Network, u: usize) -> Result<Pairs, Refuser>
+// The pairs of all readers of u, in rising order, or the first reader whose pair is refused, with the pairs of the readers before it.
+pub fn reader_pairs(network: &Network, u: usize) -> Result<Pairs, FirstRefuser>
     requires { SoundGates network.now × HasSignal network.now.inputs network.now.gates u
         × T (board_ok network.now.board) }
     ensures { ReaderPairs network.now u result }
@@ -45,7 +45,10 @@ pub fn reader_pairs(network: &Network, u: usize) -> Result<Pairs, Refuser>
                 pairs.ks[g] = pair.k as u8;
                 pairs.ls[g] = pair.l as u8;
             }
-            Err(refusal) => return Err(Refuser { reader: g, refusal }),
+            Err(refusal) => {
+                let refuser = Refuser { reader: g, refusal };
+                return Err(FirstRefuser { refuser, pairs });
+            }
         }
     }
     Ok(pairs)
@@ -63,5 +66,5 @@ pub fn collapse_pairs(network: &Network, s: usize) -> Result<Pairs, Refusal>
     if is_output(network, s) {
         return Err(Refusal::StillRead);
     }
-    reader_pairs(network, s).map_err(|refuser| refuser.refusal)
+    reader_pairs(network, s).map_err(|first| first.refuser.refusal)
 }

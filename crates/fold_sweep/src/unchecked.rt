@@ -30,7 +30,7 @@ fn hinted_pairs(network: &Network, u: usize, hint: usize) -> Result<Pairs, Refus
             });
         }
     }
-    reader_pairs(network, u)
+    reader_pairs(network, u).map_err(|first| first.refuser)
 }
 
 // The lowest gate with at most b readers that can be collapsed into them. A gate with a known refuser is passed over. A hint is the reader

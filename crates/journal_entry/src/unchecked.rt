@@ -1,9 +1,8 @@
 // A step entered into a journal.
 ghost use Rattle.std.specs.Prelude.{◌≡◌, cond, ◌++◌, ◌+◌, ◌≤◌, ltb, length, take};
 ghost use Rattle.journal.specs.Journals.{with_step};
-ghost use Rattle.journal.specs.Parts.{kind_number};
 
-use journal::{Journal, StepKind};
+use journal::Journal;
 use network::GateRecord;
 
 // Some values put before the others, of which the last ones go.
@@ -17,18 +16,18 @@ fn put_before<T: Copy>(places: &mut [T], front: &[T])
 }
 
 // One step more, 64 at most.
-fn one_more(count: usize) -> usize
+pub fn one_more(count: usize) -> usize
     ensures { result ≡ cond (ltb count 64) (count + 1) 64 }
 {
     if count < 64 { count + 1 } else { 64 }
 }
 
 // A step put before the others of a journal; the last place's step goes.
-pub fn enter_step(journal: &mut Journal, kind: StepKind, signal: u8, gate: GateRecord)
-    ensures { journal.new ≡ with_step journal.old (kind_number kind) signal gate }
+pub fn enter_step(journal: &mut Journal, kind: u8, signal: u8, gate: GateRecord)
+    ensures { journal.new ≡ with_step journal.old kind signal gate }
 {
     journal.count = one_more(journal.count);
-    put_before(&mut journal.kinds, &[kind as u8]);
+    put_before(&mut journal.kinds, &[kind]);
     put_before(&mut journal.signals, &[signal]);
     put_before(&mut journal.fanins, &[gate.fanin]);
     put_before(&mut journal.thresholds, &[gate.threshold]);

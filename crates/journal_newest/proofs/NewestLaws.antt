@@ -9,26 +9,40 @@ use Rattle.basics.specs.Lists.{tab}
 use Rattle.basics.specs.ListLaws.{get_or_tab, tab_of, get_or_spare}
 use Rattle.network.specs.Threshold.{Feed}
 use Rattle.network.specs.Record.{feed_at, no_feed, gate_in, gate_record, row_at}
+use Rattle.network.specs.Places.{Pasted}
 use Rattle.network.specs.PlaceLaws.{length_feeds, feeds_at}
 use Rattle.network.specs.declared.GateRecord.{GateRecord}
 use Rattle.journal.specs.Journals.{row_of}
 use Rattle.journal.proofs.ShiftLaws.{join_low, join_high}
 use Rattle.journal.specs.declared.Journal.{Journal}
 
--- the first values of a list, and d in the places after them, are a field of a list of feeds
-first_row : {A : Type 0} (d : A) (field : Feed → A) (n : ℕ) (fs : List Feed) (xs : List A) → field no_feed ≡ d → length fs ≡ n → n ≤ 16 → n ≤ length xs
-    → ((i : ℕ) → i < n → field (get_or fs i no_feed) ≡ get_or xs i d)
-    → take n xs ++ drop n (replicate 16 d) ≡ tab 16 (λ i. field (get_or fs i no_feed))
-first_row d field n fs xs e l few room same =
-    let front : length (take n xs) ≡ n = length-take-le n xs room in
-    let long : length (take n xs ++ drop n (replicate 16 d)) ≡ 16 =
-    length-append (take n xs) (drop n (replicate 16 d)) ∙ omega (arith, front, length-drop n (replicate 16 d), length-replicate 16 d) in
-    sym (tab_of d 16 (λ i. field (get_or fs i no_feed)) (take n xs ++ drop n (replicate 16 d)) (sym long) λ i h.
-    elim (dec_lt i n) as (λ t. field (get_or fs i no_feed) ≡ get_or (take n xs ++ drop n (replicate 16 d)) i d) [
-      | yes k ↦ same i k ∙ sym (join_low d (take n xs) _ i (omega arith) ∙ get_or-take n xs i d (omega arith))
-      | no k ↦ ap field (get_or-eq_default fs no_feed {n = i} (omega arith)) ∙ e
-          ∙ sym (join_high d (take n xs) _ i (omega arith) ∙ get_or-drop n (replicate 16 d) (i - length (take n xs)) d ∙ get_or_spare 16 _ d)
+-- the first values of a list written before d are a field of a list of feeds
+first_row : {A : Type 0} (d : A) (field : Feed → A) (n : ℕ) (fs : List Feed) (xs ys : List A) → field no_feed ≡ d → length fs ≡ n → n ≤ 16
+    → ((i : ℕ) → i < n → field (get_or fs i no_feed) ≡ get_or xs i d) → Pasted d 0 n (λ i. get_or xs i d) (replicate 16 d) ys
+    → ys ≡ tab 16 (λ i. field (get_or fs i no_feed))
+first_row d field n fs xs ys e l few same p =
+    let long : length ys ≡ 16 = p.long ∙ length-replicate 16 d in
+    sym (tab_of d 16 (λ i. field (get_or fs i no_feed)) ys (sym long) λ i h. elim (dec_lt i n) as (λ t. field (get_or fs i no_feed) ≡ get_or ys i d) [
+      | yes k ↦
+          let front : i ≡ 0 + i = omega arith in
+          same i k ∙ sym (ap (λ (q : ℕ). get_or ys q d) front ∙ p.inside i k (omega (arith, length-replicate 16 d)))
+      | no k ↦ ap field (get_or-eq_default fs no_feed {n = i} (omega arith)) ∙ e ∙ sym (p.after i (omega arith) ∙ get_or_spare 16 i d)
     ])
+
+-- the first values of a list, and d in the places after them, are those values written before d
+front_pasted : {A : Type 0} (d : A) (n : ℕ) (xs : List A) → n ≤ 16 → n ≤ length xs
+    → Pasted d 0 n (λ i. get_or xs i d) (replicate 16 d) (take n xs ++ drop n (replicate 16 d))
+front_pasted d n xs few room =
+    let ys = take n xs ++ drop n (replicate 16 d) in
+    let front : length (take n xs) ≡ n = length-take-le n xs room in
+    record {
+      long = length-append (take n xs) (drop n (replicate 16 d)) ∙ omega (arith, front, length-drop n (replicate 16 d), length-replicate 16 d);
+      inside = λ i h l. ap (λ (q : ℕ). get_or ys q d) (let e : 0 + i ≡ i = omega arith in e)
+          ∙ join_low d (take n xs) _ i (omega arith) ∙ get_or-take n xs i d h;
+      before = λ q h. absurd (omega arith);
+      after = λ q h. join_high d (take n xs) _ q (omega arith) ∙ get_or-drop n (replicate 16 d) (q - length (take n xs)) d
+          ∙ get_or_spare 16 _ d ∙ sym (get_or_spare 16 q d);
+    }
 
 module _ (j : Journal) (few : get_or j.fanins 0 0 ≤ 16) where
   abbrev fanin : ℕ
@@ -54,31 +68,31 @@ module _ (j : Journal) (few : get_or j.fanins 0 0 ≤ 16) where
   unfolding gate_in row_at
   length_first = length_feeds (row_of j 0).signals (row_of j 0).weights 0 fanin
 
-  module _ (feeds : 16 ≤ length j.feeds) (weights : 16 ≤ length j.weights) (n : ℕ) (same : n ≡ fanin) where
-    first_signals : take n j.feeds ++ drop n (replicate 16 0) ≡ (gate_record (gate_in (row_of j 0))).signals
-    unfolding gate_record gate_in row_at feed_at
-    first_signals = ap (λ (k : ℕ). take k j.feeds ++ drop k (replicate 16 0)) same
-        ∙ first_row 0 (λ f. f.signal) fanin (gate_in (row_of j 0)).feeds j.feeds refl length_first few (omega arith)
-        (λ i h. ap (λ (f : Feed). f.signal) (feed_first i h))
+  pub newest_row : (ss : List ℕ) (ws : List ℤ) → Pasted 0 0 fanin (λ i. get_or j.feeds i 0) (replicate 16 0) ss
+      → Pasted (pos 0) 0 fanin (λ i. get_or j.weights i (pos 0)) (replicate 16 (pos 0)) ws
+      → ◌≡◌ {A = GateRecord} (record { fanin = fanin; threshold = get_or j.thresholds 0 (pos 0); signals = ss; weights = ws })
+      (gate_record (gate_in (row_of j 0)))
+  unfolding gate_record gate_in row_at feed_at
+  newest_row ss ws ps pw =
+      let fs = (gate_in (row_of j 0)).feeds in
+      λ x. record {
+        fanin = sym length_first x;
+        threshold = get_or j.thresholds 0 (pos 0);
+        signals = first_row 0 (λ f. f.signal) fanin fs j.feeds ss refl length_first few
+            (λ i h. ap (λ (f : Feed). f.signal) (feed_first i h)) ps x;
+        weights = first_row (pos 0) (λ f. f.weight) fanin fs j.weights ws refl length_first few
+            (λ i h. ap (λ (f : Feed). f.weight) (feed_first i h)) pw x;
+      }
 
-    first_weights : take n j.weights ++ drop n (replicate 16 (pos 0)) ≡ (gate_record (gate_in (row_of j 0))).weights
-    unfolding gate_record gate_in row_at feed_at
-    first_weights = ap (λ (k : ℕ). take k j.weights ++ drop k (replicate 16 (pos 0))) same
-        ∙ first_row (pos 0) (λ f. f.weight) fanin (gate_in (row_of j 0)).feeds j.weights refl length_first few (omega arith)
-        (λ i h. ap (λ (f : Feed). f.weight) (feed_first i h))
-
-    -- the gate of the newest step, by the first of the feed places
-    pub newest_row : (ss : List ℕ) (ws : List ℤ) (t : ℤ) → ss ≡ take n j.feeds → ws ≡ take n j.weights → t ≡ get_or j.thresholds 0 (pos 0)
-        → ◌≡◌ {A = GateRecord} (record {
-          fanin = fanin;
-          threshold = t;
-          signals = ss ++ drop n (replicate 16 0);
-          weights = ws ++ drop n (replicate 16 (pos 0));
-        }) (gate_record (gate_in (row_of j 0)))
-    unfolding gate_record gate_in row_at
-    newest_row ss ws t es ew et = λ x. record {
-      fanin = sym length_first x;
-      threshold = et x;
-      signals = (ap (λ (l : List ℕ). l ++ drop n (replicate 16 0)) es ∙ first_signals) x;
-      weights = (ap (λ (l : List ℤ). l ++ drop n (replicate 16 (pos 0))) ew ∙ first_weights) x;
-    }
+  -- the gate of the newest step, by the first of the feed places
+  pub newest_front : 16 ≤ length j.feeds → 16 ≤ length j.weights → (n : ℕ) → n ≡ fanin → (ss : List ℕ) (ws : List ℤ) (t : ℤ)
+      → ss ≡ take n j.feeds → ws ≡ take n j.weights → t ≡ get_or j.thresholds 0 (pos 0)
+      → ◌≡◌ {A = GateRecord} (record {
+        fanin = fanin;
+        threshold = t;
+        signals = ss ++ drop n (replicate 16 0);
+        weights = ws ++ drop n (replicate 16 (pos 0));
+      }) (gate_record (gate_in (row_of j 0)))
+  newest_front feeds weights n same ss ws t es ew et =
+      rw (es, ew, et, same)
+      (newest_row _ _ (front_pasted 0 fanin j.feeds few (omega arith)) (front_pasted (pos 0) fanin j.weights few (omega arith)))

@@ -1,5 +1,5 @@
 // Places put into arrays, and signals raised.
-ghost use Rattle.std.specs.Prelude.{◌≡◌, map, ◌+◌, ◌≤◌, length};
+ghost use Rattle.std.specs.Prelude.{◌≡◌, map, ◌+◌, ◌≤◌, ◌<◌, length};
 ghost use Rattle.network.specs.Changes.{raised};
 ghost use Rattle.network_gaps.specs.Gaps.{with_places, MembersBelow};
 
@@ -14,14 +14,25 @@ pub fn open_gap<T: Copy>(places: &mut [T], first: usize, gap: usize, spare: T)
     places[first..first + gap].fill(spare);
 }
 
-// Signals after a gate is put in at signal u: those from u on rise by one.
+// A signal after a gate is put in at signal u: one from u on rises by one.
+#[tactic(auto, using(network::specs::ChangeLaws::raised_low, network::specs::ChangeLaws::raised_high))]
+fn raise(u: usize, signal: u8) -> u8
+    requires { signal < 255 }
+    ensures { result ≡ raised u signal }
+{
+    if usize::from(signal) < u {
+        signal
+    } else {
+        signal + 1
+    }
+}
+
+// Signals after a gate is put in at signal u. Each is written, so that many are at once.
 pub fn raise_all(signals: &mut [u8], u: usize)
     requires { MembersBelow 255 signals.old }
     ensures { signals.new ≡ map (raised u) signals.old }
 {
     for signal in signals {
-        if u <= usize::from(*signal) {
-            *signal += 1;
-        }
+        *signal = raise(u, *signal);
     }
 }

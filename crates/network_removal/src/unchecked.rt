@@ -1,9 +1,10 @@
 // A gate removed from the places of a record.
-ghost use Rattle.std.specs.Prelude.{◌≡◌, map, ◌+◌, ◌≤◌, length};
+ghost use Rattle.std.specs.Prelude.{◌≡◌, map, ◌+◌, ◌≤◌, ◌<◌, length};
 ghost use Rattle.network.specs.Changes.{lowered};
 ghost use Rattle.network.specs.Places.{without_places};
 ghost use Rattle.network.specs.Sound.{HasSignal};
 ghost use Rattle.network_places.specs.Removal.{RemovedFrom};
+ghost use Rattle.network_removal.specs.Removing.{PlacesRemoved};
 
 use network::Network;
 
@@ -18,15 +19,38 @@ fn close_gap<T: Copy>(places: &mut [T], first: usize, gap: usize, spare: T)
     places[end..].fill(spare);
 }
 
-// Signals after the gate with signal u is gone: the higher ones fall by one.
+// A signal after the gate with signal u is gone: a higher one falls by one.
+#[tactic(auto, using(network::specs::ChangeLaws::lowered_high, network::specs::ChangeLaws::lowered_low))]
+fn lower(u: usize, signal: u8) -> u8
+    ensures { result ≡ lowered u signal }
+{
+    if u < usize::from(signal) {
+        signal - 1
+    } else {
+        signal
+    }
+}
+
+// Signals after the gate with signal u is gone. Each is written, so that many are at once.
 fn lower_all(signals: &mut [u8], u: usize)
     ensures { signals.new ≡ map (lowered u) signals.old }
 {
     for signal in signals {
-        if u < usize::from(*signal) {
-            *signal -= 1;
-        }
+        *signal = lower(u, *signal);
     }
+}
+
+// Gate g, which has signal u, taken out of a record's places; higher signals fall by one. The count of gates stays.
+pub fn remove_places(network: &mut Network, g: usize, u: usize)
+    requires { g < 128 }
+    ensures { PlacesRemoved g u network.old network.new }
+{
+    close_gap(&mut network.fanins, g, 1, 0);
+    close_gap(&mut network.thresholds, g, 1, 0);
+    close_gap(&mut network.signals, 16 * g, 16, 0);
+    close_gap(&mut network.weights, 16 * g, 16, 0);
+    lower_all(&mut network.signals, u);
+    lower_all(&mut network.drivers, u);
 }
 
 // The gate with signal u taken out of a record; higher signals fall by one.
@@ -35,11 +59,6 @@ pub fn remove_gate(network: &mut Network, u: usize)
     ensures { RemovedFrom u network.old network.new }
 {
     let g = u - network.inputs;
-    close_gap(&mut network.fanins, g, 1, 0);
-    close_gap(&mut network.thresholds, g, 1, 0);
-    close_gap(&mut network.signals, 16 * g, 16, 0);
-    close_gap(&mut network.weights, 16 * g, 16, 0);
-    lower_all(&mut network.signals, u);
-    lower_all(&mut network.drivers, u);
+    remove_places(network, g, u);
     network.gates -= 1;
 }

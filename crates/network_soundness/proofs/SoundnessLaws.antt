@@ -121,9 +121,9 @@ module _ (signals : List ℕ) (weights : List ℤ) (own : ℕ) where
   left low k = feeds_ok low own (feeds_from signals weights k (length signals - k))
 
   -- the next feed, and those after it
-  pub feed_turn : (low k s : ℕ) (w : ℤ) → k < length signals → s ≡ get_or signals k 0 → w ≡ get_or weights k (pos 0)
-      → (leb low s && ltb s own && (in_scale w && not (is_zero w))) && left (s + 1) (k + 1) ≡ left low k
-  feed_turn low k s w h es ew = rw (es, ew) (feeds_step signals weights true low own k (length signals) h)
+  pub feed_turn : (ok : Bool) (low k s : ℕ) (w : ℤ) → k < length signals → s ≡ get_or signals k 0 → w ≡ get_or weights k (pos 0)
+      → (((ok && leb low s) && ltb s own) && (in_scale w && not (is_zero w))) && left (s + 1) (k + 1) ≡ ok && left low k
+  feed_turn ok low k s w h es ew = rw (es, ew) (feeds_step signals weights ok low own k (length signals) h)
 
   -- no feed is left
   pub feeds_end : (low k : ℕ) → length signals ≤ k → left low k ≡ true

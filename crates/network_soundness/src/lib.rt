@@ -17,16 +17,15 @@ fn feeds_sound(signals: &[u8], weights: &[i32], own: usize) -> bool
     requires { length signals.now ≡ length weights.now }
     ensures { result ≡ feeds_ok 0 own (feeds_from signals.now weights.now 0 (length signals.now)) }
 {
+    // Kept: each feed is tested, and no turn leaves the loop, so that the tests run side by side.
+    let mut ok = true;
     let mut low: usize = 0;
     for (signal, weight) in signals.iter().zip(weights) {
         let s = usize::from(*signal);
-        let ok = (low <= s) & (s < own) & weight_sound(*weight);
-        if !ok {
-            return false;
-        }
+        ok = ok & (low <= s) & (s < own) & weight_sound(*weight);
         low = s + 1;
     }
-    true
+    ok
 }
 
 // Whether gate g, with signal own, is within the limits.
@@ -95,7 +94,12 @@ fn place_clear(network: &Network, p: usize) -> bool
 fn places_clear(network: &Network) -> bool
     ensures { result ≡ below 2048 (place_clear network.now.gates network.now.fanins network.now.signals network.now.weights) }
 {
-    (0..2048).all(|p| place_clear(network, p))
+    // Kept: each place is tested, so that the tests run side by side; `all` would leave at the first that fails.
+    let mut ok = true;
+    for p in 0..2048 {
+        ok = ok & place_clear(network, p);
+    }
+    ok
 }
 
 // Whether the signals past the last output are 0.

@@ -1,8 +1,9 @@
 -- Laws of the merged gate's sums, setting by setting, and of the ends between which sums lie. Assumes nothing.
-use Rattle.std.specs.Prelude.{◌≡◌, List, ℕ, ◌+◌, ◌<◌, T, ℤ, pos, length, get_or, set}
+use Rattle.std.specs.Prelude.{◌≡◌, false, List, ℕ, ◌+◌, ◌<◌, T, ℤ, pos, length, get_or, set}
 use Rattle.std.proofs.Common.{◌∙◌, arith, below_more, length-set, get_or-set_same, get_or-set_other}
 use Rattle.std.specs.Int.Signed.{le_z}
-use Rattle.basics.specs.IntegerLaws.{#, le_of, of_le}
+use Rattle.basics.specs.TestLaws.{T_isnt}
+use Rattle.basics.specs.IntegerLaws.{#, le_of, gt_of, of_le}
 use Rattle.fold_theory.specs.Aligned.{mix}
 use Rattle.pair_spans.specs.declared.Span.{Span}
 use Rattle.pair_spans.specs.Spans.{MixedSums, Spanned}
@@ -26,6 +27,12 @@ mixed_more {k} {l} {n} {us} {vs} {mixes} m h x e = record {
 
 pub span_none : (sums : List ℤ) (ends : Span) → Spanned 0 sums ends
 span_none sums ends = record { from_least = λ j h. absurd (omega arith); to_most = λ j h. absurd (omega arith) }
+
+pub le_refl : (a : ℤ) → T (le_z a a)
+le_refl a = of_le (# a) (# a) (omega arith)
+
+pub le_swap : (a b : ℤ) → le_z a b ≡ false → T (le_z b a)
+le_swap a b e = of_le (# b) (# a) (omega (arith, gt_of (# a) (# b) (T_isnt _ e)))
 
 pub le_trans : (a b c : ℤ) → T (le_z a b) → T (le_z b c) → T (le_z a c)
 le_trans a b c h k = of_le (# a) (# c) (omega (arith, le_of (# a) (# b) h, le_of (# b) (# c) k))

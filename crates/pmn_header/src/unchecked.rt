@@ -55,7 +55,7 @@ fn read_count(rest: &[u8], most: usize) -> Result<(usize, &[u8]), Refusal>
 // The rest of the header of a file with this board: its counts.
 #[tactic(auto, using(pmn_format::proofs::HeadLaws::count_few))]
 fn read_counts(rest: &[u8], board: Board) -> Result<(Head, &[u8]), Refusal>
-    ensures { MatchResult result (λ p. Headed (parse_counts board rest.now) p.0 p.1.now) (λ e. parse_counts board rest.now ≡ refused (number_of e)) }
+    ensures { MatchResult result (λ p. Headed rest.now (parse_counts board rest.now) p.0 p.1.now) (λ e. parse_counts board rest.now ≡ refused (number_of e)) }
 {
     let (inputs, rest) = read_count(rest, 40)?;
     let (gates, rest) = read_count(rest, 128)?;
@@ -72,7 +72,7 @@ fn read_counts(rest: &[u8], board: Board) -> Result<(Head, &[u8]), Refusal>
 // The header, and the bytes after it.
 #[tactic(auto, unfolding(refusals::specs::Numbers::number_of, basics::specs::Lists::between))]
 pub fn read_head(file: &[u8]) -> Result<(Head, &[u8]), Refusal>
-    ensures { MatchResult result (λ p. Headed (parse_file file.now) p.0 p.1.now) (λ e. parse_file file.now ≡ refused (number_of e)) }
+    ensures { MatchResult result (λ p. Headed file.now (parse_file file.now) p.0 p.1.now) (λ e. parse_file file.now ≡ refused (number_of e)) }
 {
     if file.len() < SHORTEST_FILE || !file.starts_with(b"PMN") {
         return Err(Refusal::ForeignMark);

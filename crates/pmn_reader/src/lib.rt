@@ -27,7 +27,6 @@ pub fn read(file: &[u8]) -> Loaded
     };
     if let Err(refusal) = read_network(file, &mut loaded.network) {
         loaded.code = refusal.number();
-        loaded.network = blank();
     }
     loaded
 }

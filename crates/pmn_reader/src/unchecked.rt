@@ -1,9 +1,9 @@
-// Reading a file into a lent record: the header, then the gates, the outputs, and the end; and finding one gate of a file. After a refusal the record
-// holds what was read up to there.
-ghost use Rattle.std.specs.Prelude.{◌≡◌, [], ◌≤◌, length, MatchResult};
+// Reading a file into a lent record, which is blank: the header, then the gates, the outputs, and the end; and finding one gate of a file. After a
+// refusal of `read_network` the record is blank again; after one of a part it holds what was read up to there.
+ghost use Rattle.std.specs.Prelude.{◌≡◌, [], ◌≤◌, length, MatchResult, OnErr};
 ghost use Rattle.refusals.specs.Numbers.{number_of};
 ghost use Rattle.basics.specs.Refusals.{refused};
-ghost use Rattle.network.specs.Record.{layout};
+ghost use Rattle.network.specs.Record.{layout, blank_record};
 ghost use Rattle.pmn_format.specs.Format.{parse_file, parse_gates, parse_outputs};
 ghost use Rattle.pmn_format.specs.Answered.{as_left, mapped};
 ghost use Rattle.pmn_format.specs.Part.{part_answer};
@@ -21,10 +21,9 @@ use refusals::Refusal;
 
 // The gates of a network with this header, as its record, which has no outputs.
 fn read_gates<'a>(bytes: &'a [u8], head: Head, network: &mut Network) -> Result<&'a [u8], Refusal>
-    requires { HeaderInside head }
+    requires { HeaderInside head × (network.old ≡ blank_record) }
     ensures { as_left network.new result ≡ mapped (gates_record head.board head.inputs) (parse_gates head.board head.inputs head.gates [] bytes.now) }
 {
-    *network = blank();
     network.board = head.board;
     network.inputs = head.inputs;
     network.gates = head.gates;
@@ -56,7 +55,7 @@ fn read_outputs<'a>(bytes: &'a [u8], head: Head, drivers: &mut [u8]) -> Result<&
 // What follows the header of a file. It has a frame of its own.
 #[inline(never)]
 fn read_body(bytes: &[u8], head: Head, network: &mut Network) -> Result<(), Refusal>
-    requires { HeaderInside head }
+    requires { HeaderInside head × (network.old ≡ blank_record) }
     ensures { as_whole network.new result ≡ mapped layout (body_after head bytes.now) }
 {
     let rest = read_gates(bytes, head, network)?;
@@ -70,10 +69,16 @@ fn read_body(bytes: &[u8], head: Head, network: &mut Network) -> Result<(), Refu
 
 // The network of a file.
 pub fn read_network(file: &[u8], network: &mut Network) -> Result<(), Refusal>
-    ensures { as_whole network.new result ≡ mapped layout (parse_file file.now) }
+    requires { network.old ≡ blank_record }
+    ensures whole { as_whole network.new result ≡ mapped layout (parse_file file.now) }
+    ensures blank { OnErr result (network.new ≡ blank_record) }
 {
     let (head, rest) = read_head(file)?;
-    read_body(rest, head, network)
+    if let Err(refusal) = read_body(rest, head, network) {
+        *network = blank();
+        return Err(refusal);
+    }
+    Ok(())
 }
 
 // The gate of a file's network that has a signal: its number among the gates.

@@ -1,13 +1,15 @@
 -- The texts of the question, part by part, as they are written. Assumes nothing.
-use Rattle.std.specs.Prelude.{◌≡◌, refl, true, false, List, [], ◌∷◌, ◌++◌, ℕ, ◌+◌, ◌≤◌, ◌<◌, ℤ, nat_abs, length, map, take, drop, get_or}
+use Rattle.std.specs.Prelude.{◌≡◌, refl, true, false, List, [], ◌∷◌, ◌++◌, ℕ, ◌+◌, ◌-◌, ◌≤◌, ◌<◌, ℤ, nat_abs, length, map, take, drop, get_or}
 use Rattle.std.proofs.Common.{sym, ap, ◌∙◌, append_assoc, append-nil, arith, length-append}
 use Rattle.std.specs.Int.Signed.{non_neg}
 use Rattle.texts.specs.Texts.{decimal}
 use Rattle.network.specs.Threshold.{Feed}
+use Rattle.network.specs.Record.{feed_at, feeds_from}
 use Rattle.question_theory.specs.Question.{Line, term}
 use Rattle.question_theory.specs.Text.{coefficient, right_side, variable_name, term_text, terms_text, relation_text, line_text, variable_word}
 use Rattle.question_theory.specs.Text.{constraint_word, header_text}
 use Rattle.question_theory.proofs.TextLaws.{terms_append}
+use Rattle.question_terms.specs.FeedLaws.{feeds_more, feeds_split}
 use Rattle.question_terms.specs.declared.Term.{Term}
 use Rattle.question_terms.specs.Terms.{term_in, no_term}
 use Rattle.basics.specs.PlaceLaws.{map_last}
@@ -47,17 +49,38 @@ unfolding terms_text
 terms_end [] f = append-nil (term_text f)
 terms_end (g ∷ fs) f = ap (λ (l : List ℕ). term_text g ++ l) (terms_end fs f) ∙ sym (append_assoc (term_text g) (terms_text fs) (term_text f))
 
+-- the variables and the coefficients in lists of their own
+module _ (vs : List ℕ) (cs : List ℤ) where
+  pub terms_more : (i : ℕ) → terms_text (feeds_from vs cs 0 i) ++ term_text (feed_at vs cs i) ≡ terms_text (feeds_from vs cs 0 (i + 1))
+  terms_more i = sym (ap terms_text (feeds_more vs cs i) ∙ terms_end (feeds_from vs cs 0 i) (feed_at vs cs i))
+
+  -- a term has room where all terms have
+  pub terms_room : (i n : ℕ) → i < n
+      → length (terms_text (feeds_from vs cs 0 i)) + length (term_text (feed_at vs cs i)) ≤ length (terms_text (feeds_from vs cs 0 n))
+  terms_room i n h =
+      let e : n ≡ (i + 1) + (n - (i + 1)) = omega arith in
+      omega (
+        arith,
+        length-append (terms_text (feeds_from vs cs 0 i)) (term_text (feed_at vs cs i)),
+        ap length (terms_more i),
+        ap (λ (k : ℕ). length (terms_text (feeds_from vs cs 0 k))) e,
+        ap (λ (fs : List Feed). length (terms_text fs)) (feeds_split vs cs (i + 1) (n - (i + 1))),
+        terms_append (feeds_from vs cs 0 (i + 1)) (feeds_from vs cs (0 + (i + 1)) (n - (i + 1))),
+      )
+
+-- a list of terms
 module _ (ts : List Term) (i : ℕ) (h : i < length ts) where
-  pub terms_more : terms_text (map term_in (take i ts)) ++ term_text (term_in (get_or ts i no_term)) ≡ terms_text (map term_in (take (i + 1) ts))
-  terms_more = sym (ap (λ (l : List Term). terms_text (map term_in l)) (take_more ts i no_term h)
+  pub first_terms_more : terms_text (map term_in (take i ts)) ++ term_text (term_in (get_or ts i no_term)) ≡ terms_text (map term_in (take (i + 1) ts))
+  first_terms_more = sym (ap (λ (l : List Term). terms_text (map term_in l)) (take_more ts i no_term h)
       ∙ ap terms_text (map_last term_in (take i ts) (get_or ts i no_term)) ∙ terms_end (map term_in (take i ts)) (term_in (get_or ts i no_term)))
 
   -- a term has room where all terms have
-  pub terms_room : length (terms_text (map term_in (take i ts))) + length (term_text (term_in (get_or ts i no_term))) ≤ length (terms_text (map term_in ts))
-  terms_room = omega (
+  pub first_terms_room : length (terms_text (map term_in (take i ts))) + length (term_text (term_in (get_or ts i no_term)))
+      ≤ length (terms_text (map term_in ts))
+  first_terms_room = omega (
     arith,
     length-append (terms_text (map term_in (take i ts))) (term_text (term_in (get_or ts i no_term))),
-    ap length terms_more,
+    ap length first_terms_more,
     ap (λ (l : List Term). length (terms_text (map term_in l))) (take-append-drop (i + 1) ts),
     ap (λ (fs : List Feed). length (terms_text fs)) (map-append term_in (take (i + 1) ts) (drop (i + 1) ts)),
     terms_append (map term_in (take (i + 1) ts)) (map term_in (drop (i + 1) ts)),

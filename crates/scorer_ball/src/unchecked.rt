@@ -26,7 +26,7 @@ fn raises(before: u64, after: u64) -> bool
 }
 
 // How many pins a ball felled.
-fn felled_by(before: u64, after: u64) -> u8
+pub fn felled_by(before: u64, after: u64) -> u8
     requires { SameRack before after }
     ensures { result ≡ felled_by (pins_in before) (pins_in after) }
 {
@@ -58,7 +58,7 @@ impl Lane {
     }
 
     // Whether a ball may have left these pins. Refusals: 28 a ball after the game's end, 29 a pin that stands again.
-    fn allows(&self, after: u64) -> Result<(), Refusal>
+    pub fn allows(&self, after: u64) -> Result<(), Refusal>
         requires { after < 1024 }
         ensures { MatchResult result (λ _. ball (game_of self.now) (pins_in after) ≡ accepted (pins_in after)) (λ e. ball (game_of self.now) (pins_in after) ≡ refused (number_of e)) }
     {
@@ -72,7 +72,7 @@ impl Lane {
     }
 
     // A ball that felled so many pins and left these.
-    fn advance(&mut self, felled: u8, after: u64)
+    pub fn advance(&mut self, felled: u8, after: u64)
         requires on_lane { OnLane self.old }
         requires frame_bound { (self.old.frame ≤ 10) × (after < 1024) }
         ensures { BallThrown self.old felled after self.new }

@@ -1,5 +1,5 @@
 -- Internal: what the tally of one frame holds, and what the loop over the frames keeps. Nothing is proved here.
-use Rattle.std.specs.Prelude.{◌≡◌, List, ◌++◌, ℕ, ◌-◌, ◌*◌, ◌≤◌, length}
+use Rattle.std.specs.Prelude.{◌≡◌, List, ◌++◌, ℕ, ◌-◌, ◌*◌, ◌≤◌, length, drop}
 use Rattle.basics.specs.Lists.{places}
 use Rattle.scorer_theory.specs.Scores.{own_balls, counted_balls, frame_score, scores_from, running_scores}
 use Rattle.scorer_tally.specs.declared.FrameCount.{FrameCount}
@@ -17,10 +17,14 @@ pub record FrameCounted (balls : List ℕ) (r : FrameCount) : Type 0 where
   pub few : r.counted ≤ 3
   pub small : r.score ≤ 765
 
--- so many frames of a game are scored, these balls are left, and the scores stand in ten places
+-- so many frames of a game are scored, the balls that are left start at a place, and the scores stand in ten places
 pub record Scoring (balls scores rest : List ℕ) (frames so_far : ℕ) : Type 0 where
   pub done : List ℕ
   pub many : frames ≡ length done
+  pub within : frames ≤ 10
+  pub at : ℕ
+  pub thrown : at ≤ length balls
+  pub next : rest ≡ drop at balls
   pub small : so_far ≤ 765 * frames
   pub stored : scores ≡ places 10 0 done
   pub left : done ++ scores_from (10 - frames) so_far rest ≡ running_scores balls

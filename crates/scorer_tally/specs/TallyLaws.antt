@@ -1,6 +1,6 @@
 -- Laws of the tally: a frame's count by its first three balls, and the frames in their order. Assumes nothing.
 use Rattle.std.specs.Prelude.{◌≡◌, refl, List, [], ◌∷◌, ◌++◌, ◌≢◌, ℕ, suc, ◌+◌, ◌-◌, ◌≤◌, ◌<◌, length, get_or, set, take, drop, replicate}
-use Rattle.std.proofs.Common.{sym, ap, ◌∙◌, append_assoc, append-nil, arith, length-append, length-drop}
+use Rattle.std.proofs.Common.{sym, ap, ◌∙◌, append_assoc, append-nil, arith, length-append, length-drop, drop-drop}
 use Rattle.std.proofs.Math.Decide.{dec_lt}
 use Rattle.std.proofs.Math.ListN.{get_or-append, get_or-eq_default, length-replicate}
 use Rattle.std.proofs.Math.Seq.{get_or-append_right, get_or-drop}
@@ -73,23 +73,29 @@ scores_none : (n so_far : ℕ) (bs : List ℕ) → n ≡ 0 → scores_from n so_
 unfolding scores_from
 scores_none n so_far bs e = rw e
 
--- no score is left: the scores are whole
-scoring_whole : {balls scores rest : List ℕ} {frames so_far : ℕ} (s : Scoring balls scores rest frames so_far) → scores_from (10 - frames) so_far rest ≡ []
-    → record { frames = frames; scores = scores } ≡ as_scored (running_scores balls)
-unfolding as_scored
-scoring_whole s none = rw (s.many, s.stored, sym (append-nil s.done) ∙ ap (λ (l : List ℕ). s.done ++ l) (sym none) ∙ s.left)
-
 pub scoring_none : (balls : List ℕ) → Scoring balls (replicate 10 0) balls 0 0
 unfolding running_scores
 scoring_none balls = record {
   done = [];
   many = refl;
+  within = omega arith;
+  at = 0;
+  thrown = omega arith;
+  next = refl;
   small = omega arith;
   stored = places_none 10 0;
   left = refl;
 }
 
 module _ {balls scores rest : List ℕ} {frames so_far : ℕ} (s : Scoring balls scores rest frames so_far) where
+  -- no score is left: the scores are whole
+  scores_whole : scores_from (10 - frames) so_far rest ≡ [] → s.done ≡ running_scores balls
+  scores_whole none = sym (append-nil s.done) ∙ ap (λ (l : List ℕ). s.done ++ l) (sym none) ∙ s.left
+
+  pub scoring_answer : s.done ≡ running_scores balls → record { frames = frames; scores = scores } ≡ as_scored (running_scores balls)
+  unfolding as_scored
+  scoring_answer e = rw (s.many, s.stored, e)
+
   module _ {r : FrameCount} (c : FrameCounted rest r) (more : frames < 10) where
     pub scoring_next : r.counted ≤ length rest
         → Scoring balls (set scores frames (so_far + r.score)) (drop r.own rest) (frames + 1) (so_far + r.score)
@@ -102,24 +108,34 @@ module _ {balls scores rest : List ℕ} {frames so_far : ℕ} (s : Scoring balls
         record {
           done = s.done ++ ((so_far + r.score) ∷ []);
           many = omega (arith, s.many, length-append s.done ((so_far + r.score) ∷ []));
+          within = omega arith;
+          at = s.at + r.own;
+          thrown = omega (arith, s.thrown, c.own, c.all, ap length s.next, length-drop s.at balls);
+          next = ap (drop r.own) s.next ∙ drop-drop r.own s.at balls;
           small = omega (arith, s.small, c.small);
           stored = rw (s.stored, s.many) (places_last 10 0 s.done (so_far + r.score));
           left = append_assoc s.done ((so_far + r.score) ∷ []) _ ∙ ap (λ (l : List ℕ). s.done ++ l) (sym turn) ∙ s.left;
         }
 
     -- the next frame is not known: the scores are whole
-    pub scoring_stop : length rest < r.counted → record { frames = frames; scores = scores } ≡ as_scored (running_scores balls)
+    pub scoring_stop : length rest < r.counted → s.done ≡ running_scores balls
     scoring_stop h =
         let short : length rest < counted_balls rest = omega (arith, c.all) in
         let none : scores_from (10 - frames) so_far rest ≡ [] =
         ap (λ (k : ℕ). scores_from k so_far rest) (let e : 10 - frames ≡ suc (9 - frames) = omega arith in e)
         ∙ scores_unknown (9 - frames) so_far rest short in
-        scoring_whole s none
+        scores_whole none
 
--- ten frames are scored
-pub scoring_end : {balls scores rest : List ℕ} {frames so_far : ℕ} → Scoring balls scores rest frames so_far → frames ≡ 10
+    pub scoring_stopped : length rest < r.counted → record { frames = frames; scores = scores } ≡ as_scored (running_scores balls)
+    scoring_stopped h = scoring_answer (scoring_stop h)
+
+  -- ten frames are scored
+  pub scoring_end : 10 ≤ frames → s.done ≡ running_scores balls
+  scoring_end h = scores_whole (scores_none (10 - frames) so_far rest (omega arith))
+
+pub scoring_ended : {balls scores rest : List ℕ} {frames so_far : ℕ} → Scoring balls scores rest frames so_far → frames ≡ 10
     → record { frames = 10; scores = scores } ≡ as_scored (running_scores balls)
-scoring_end {rest = rest} {so_far = so_far} s e = rw (sym e) (scoring_whole s (scores_none _ so_far rest (omega arith)))
+scoring_ended s e = rw (sym e) (scoring_answer s (scoring_end s (omega arith)))
 
 -- ---- the sheet
 

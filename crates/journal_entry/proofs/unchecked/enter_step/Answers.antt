@@ -4,8 +4,7 @@ use Rattle.std.specs.Prelude.{ℤ}
 use mir.Val.{to_z, of_z}
 use Rattle.basics.specs.SizeLaws.{read_back}
 use Rattle.journal.specs.Journals.{with_step}
-use Rattle.journal.specs.Parts.{kind_number}
-use Rattle.journal_entry.proofs.EnteringLaws.{as_many, kind_before}
+use Rattle.journal_entry.proofs.EnteringLaws.{as_many}
 use Rattle.journal_entry.proofs.unchecked.enter_step.Goals as goal
 
 pub returns : goal.returns
@@ -13,8 +12,8 @@ unfolding with_step
 returns c =
     let a = c.args in
     let j = a.journal.now in
-    let kinds_are : c.put_before.new.places ≡ take 64 (kind_number a.kind ∷ j.kinds) =
-    kind_before a.kind j.kinds (search rules) c.put_before.ensures in
+    let kinds_are : c.put_before.new.places ≡ take 64 (a.kind ∷ j.kinds) =
+    as_many 64 (a.kind ∷ []) j.kinds (search rules) c.put_before.ensures in
     let signals_are : c.put_before-2.new.places ≡ take 64 (a.signal ∷ j.signals) =
     as_many 64 (a.signal ∷ []) j.signals (search rules) c.put_before-2.ensures in
     let fanins_are : c.put_before-3.new.places ≡ take 64 (a.gate.fanin ∷ j.fanins) =

@@ -9,10 +9,10 @@ pub returns-then-not-is_empty : goal.returns-then-not-is_empty
 unfolding number_of
 returns-then-not-is_empty c =
     let h = c.args.head in
-    tail_left h.board h.inputs h.gates h.outputs c.args.bytes.now c.in_ok-rest.ensures c.in_ok-rest-2.ensures c.requires.few_outputs (grind (arith, nat_tests, c.if-not-is_empty.ensures))
+    tail_left h.board h.inputs h.gates h.outputs c.args.bytes.now c.in_ok-rest.ensures c.in_ok-rest-2.ensures c.requires.0.few_outputs (grind (arith, nat_tests, c.if-not-is_empty.ensures))
 
 pub returns : goal.returns
 returns c =
     let h = c.args.head in
-    body_read h.board h.inputs h.gates h.outputs c.args.bytes.now c.in_ok-rest.ensures c.in_ok-rest-2.ensures c.requires.few_outputs
+    body_read h.board h.inputs h.gates h.outputs c.args.bytes.now c.in_ok-rest.ensures c.in_ok-rest-2.ensures c.requires.0.few_outputs
     (grind (arith, nat_tests, c.if-not-is_empty.ensures)) c.read_outputs.auto.drivers

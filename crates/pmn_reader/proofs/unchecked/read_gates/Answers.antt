@@ -4,7 +4,7 @@ use Rattle.pmn_reader.proofs.GatesLoop.{gates_start, gates_bad, gates_got, gates
 use Rattle.pmn_reader.proofs.unchecked.read_gates.Goals as goal
 
 pub loop-g-init : goal.loop-g-init
-loop-g-init c = let h = c.args.head in gates_start c.args.bytes.now h.board h.inputs h.gates c.blank.ensures
+loop-g-init c = let h = c.args.head in gates_start c.args.bytes.now h.board h.inputs h.gates c.requires.1
 
 pub returns-in_err-gate : goal.returns-in_err-gate
 returns-in_err-gate c =

@@ -12,7 +12,7 @@ use Rattle.texts.proofs.PutLaws.{put_none, put_text, put_part}
 use Rattle.question_terms.specs.declared.Term.{Term}
 use Rattle.question_terms.specs.Terms.{term_in, no_term}
 use Rattle.question_writing.specs.Writes.{Printable}
-use Rattle.question_writing.specs.TextPartLaws.{terms_more, terms_room}
+use Rattle.question_writing.specs.TextPartLaws.{first_terms_more, first_terms_room}
 use Rattle.question_writing.proofs.unchecked.put_terms.Goals as goal
 
 -- the numbers of a term
@@ -36,7 +36,13 @@ put_term-at-requires c =
     record {
       variable_bound = small.1;
       coefficient_in_bounds = rw (to_z-of_z (fits ts i c.requires.printable c.loop-term-test.true))
-          (omega (arith, terms_room ts i c.loop-term-test.true, c.loop-term.invariant.long, c.requires.printable.short, tail_length c.loop-term.at c.loop-term.out));
+          (omega (
+            arith,
+            first_terms_room ts i c.loop-term-test.true,
+            c.loop-term.invariant.long,
+            c.requires.printable.short,
+            tail_length c.loop-term.at c.loop-term.out,
+          ));
     }
 
 pub loop-term-preserved : goal.loop-term-preserved
@@ -44,5 +50,6 @@ loop-term-preserved c =
     let ts = c.args.terms.now in
     let i = c.loop-term.term-index in
     let put = rw (to_z-of_z (fits ts i c.requires.printable c.loop-term-test.true)) at c.put_term-at.ensures in
-    put_text (put_part c.loop-term.invariant (omega (arith, put.long, terms_room ts i c.loop-term-test.true, c.loop-term.invariant.long, c.requires.printable.short)) put)
-    (terms_more ts i c.loop-term-test.true)
+    let room = first_terms_room ts i c.loop-term-test.true in
+    put_text (put_part c.loop-term.invariant (omega (arith, put.long, room, c.loop-term.invariant.long, c.requires.printable.short)) put)
+    (first_terms_more ts i c.loop-term-test.true)
