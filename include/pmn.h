@@ -85,7 +85,7 @@ uint8_t pmn_report(const uint8_t *file, size_t file_length,
 /* What a collapse of the gate with a signal would give, without doing it: the size of the network that it would leave. answer[0]: gates;
  * answer[1]: cost; answer[2]: levels. A gate without readers would be dropped.
  * Codes in order: as read, 18 where answer has under 3 places, then the collapse's: 11, 17, the first refusing reader's 7 or 16.
- * Stack: 48 KB. */
+ * Stack: 37 KB. */
 uint8_t pmn_preview(const uint8_t *file, size_t file_length, uint64_t signal,
                     uint64_t *answer, size_t answer_length);
 

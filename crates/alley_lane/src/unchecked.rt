@@ -56,7 +56,7 @@ fn file_entry(file: &[u8]) -> Entry
     if code != 0 {
         return refused_entry(code);
     }
-    let size = network_report::unchecked::size_of(loaded.network);
+    let size = network_report::unchecked::size_of(&loaded.network);
     Entry {
         code: 0,
         gates: size.gates as u64,

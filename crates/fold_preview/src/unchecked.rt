@@ -23,7 +23,7 @@ fn collapsed_size(network: &Network, u: usize, pairs: &Pairs) -> SizeReport
 {
     let mut after = *network;
     collapse_by_pairs(&mut after, u, pairs);
-    size_of(after)
+    size_of(&after)
 }
 
 // Gates, cost and levels of the network that a collapse of the gate with signal s would leave. Refusals: 11 no such gate, 17 still read (an

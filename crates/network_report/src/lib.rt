@@ -27,7 +27,7 @@ pub fn report(network: Network) -> SizeReport
             levels: 0,
         };
     }
-    unchecked::size_of(network)
+    unchecked::size_of(&network)
 }
 
 pub mod unchecked;

@@ -32,7 +32,7 @@ pub fn report_of_file(file: &[u8], answer: &mut [u64]) -> u8
     if code != 0 {
         return code;
     }
-    let size = network_report::unchecked::size_of(loaded.network);
+    let size = network_report::unchecked::size_of(&loaded.network);
     put_three(
         answer,
         size.code,

@@ -33,6 +33,6 @@ of_sound r e = rw e
 pub returns : goal.returns
 unfolding net_of levels
 returns c =
-    let r = c.args.network in
+    let r = c.args.network.now in
     as_report (net_of r) _ _ _ (sym (length_tab r.gates (gate_of r))) c.total_cost-cost.ensures (c.from.ensures ∙ c.network_levels-levels.ensures)
     ∙ of_sound r c.requires
