@@ -36,8 +36,17 @@ word_game words frames = bind (felled_from word_pins first_frame words) (after_w
 unfoldable pub joined : List ℕ → Answer (List ℕ) → Answer (List ℕ)
 joined done more = bind more (λ rest. accepted (done ++ rest))
 
--- so many balls of a game are thrown, the pins that they felled stand in the first of 21 places, the others are as they were, and the lane is
--- before the next; there is room for it, since the nine frames before the tenth have two balls each at most, and the tenth three
+-- so many balls of a game are bowled, what they felled and what is still to come are the whole game, and the lane is before the next ball; there
+-- is room for it, since the nine frames before the tenth have two balls each at most, and the tenth three
+pub record Bowled (words : List ℕ) (l : Lane) (done : List ℕ) (balls : ℕ) : Type 0 where
+  pub on_lane : OnLane l
+  pub room : balls + 2 ≤ 2 * l.frame + l.balls + l.frame / 11
+  pub in_game : l.frame ≤ 11
+  pub few : balls ≤ 21
+  pub left : joined done (felled_from word_pins (game_of l) (drop balls words)) ≡ felled_from word_pins first_frame words
+
+-- so many balls of a game are bowled, the lane is as in `Bowled`, and what they felled stands in the first of 21 places; the others are as they
+-- were
 pub record Playing (words : List ℕ) (l : Lane) (old felled : List ℕ) (balls : ℕ) : Type 0 where
   pub done : List ℕ
   pub many : balls ≡ length done

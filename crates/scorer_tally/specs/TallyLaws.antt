@@ -11,7 +11,7 @@ use Rattle.scorer_theory.specs.Scores.{counted_balls, total, frame_score, scores
 use Rattle.scorer_theory.proofs.ScoreLaws.{FrameTakes, takes_strike, takes_spare, takes_open, scores_known, scores_unknown}
 use Rattle.basics.specs.Refusals.{accepted}
 use Rattle.scorer_tally.specs.Sheets.{as_sheet}
-use Rattle.scorer_tally.specs.Tally.{as_scored, FrameCounted, Scoring}
+use Rattle.scorer_tally.specs.Tally.{as_scored, FrameCounted, Tallied, Scoring}
 use Rattle.scorer_tally.specs.declared.Scored.{Scored}
 use Rattle.scorer_tally.specs.declared.FrameCount.{FrameCount}
 
@@ -73,65 +73,103 @@ scores_none : (n so_far : ℕ) (bs : List ℕ) → n ≡ 0 → scores_from n so_
 unfolding scores_from
 scores_none n so_far bs e = rw e
 
-pub scoring_none : (balls : List ℕ) → Scoring balls (replicate 10 0) balls 0 0
+pub tallied_none : (balls : List ℕ) → Tallied balls [] balls 0
 unfolding running_scores
-scoring_none balls = record {
-  done = [];
-  many = refl;
-  within = omega arith;
-  at = 0;
-  thrown = omega arith;
-  next = refl;
-  small = omega arith;
-  stored = places_none 10 0;
-  left = refl;
-}
+tallied_none balls = record { small = omega arith; left = refl }
+
+module _ {balls done rest : List ℕ} {so_far : ℕ} (t : Tallied balls done rest so_far) where
+  -- no score is left: the scores are whole
+  scores_whole : scores_from (10 - length done) so_far rest ≡ [] → done ≡ running_scores balls
+  scores_whole none = sym (append-nil done) ∙ ap (λ (l : List ℕ). done ++ l) (sym none) ∙ t.left
+
+  module _ {r : FrameCount} (c : FrameCounted rest r) (more : length done < 10) where
+    pub tallied_next : r.counted ≤ length rest → Tallied balls (done ++ ((so_far + r.score) ∷ [])) (drop r.own rest) (so_far + r.score)
+    tallied_next h =
+        let all = done ++ ((so_far + r.score) ∷ []) in
+        let many : length all ≡ length done + 1 = length-append done ((so_far + r.score) ∷ []) in
+        let long : counted_balls rest ≤ length rest = omega (arith, c.all) in
+        let turn : scores_from (10 - length done) so_far rest ≡ (so_far + r.score) ∷ scores_from (10 - length all) (so_far + r.score) (drop r.own rest) =
+        ap (λ (k : ℕ). scores_from k so_far rest) (let e : 10 - length done ≡ suc (10 - length all) = omega (arith, many) in e)
+        ∙ scores_known (10 - length all) so_far rest long
+        ∙ rw (c.score long, c.own) in
+        record {
+          small = omega (arith, many, t.small, c.small);
+          left = append_assoc done ((so_far + r.score) ∷ []) _ ∙ ap (λ (l : List ℕ). done ++ l) (sym turn) ∙ t.left;
+        }
+
+    -- the next frame is not known: the scores are whole
+    pub tallied_stop : length rest < r.counted → done ≡ running_scores balls
+    tallied_stop h =
+        let short : length rest < counted_balls rest = omega (arith, c.all) in
+        let none : scores_from (10 - length done) so_far rest ≡ [] =
+        ap (λ (k : ℕ). scores_from k so_far rest) (let e : 10 - length done ≡ suc (9 - length done) = omega arith in e)
+        ∙ scores_unknown (9 - length done) so_far rest short in
+        scores_whole none
+
+  -- ten frames are scored
+  pub tallied_end : 10 ≤ length done → done ≡ running_scores balls
+  tallied_end h = scores_whole (scores_none (10 - length done) so_far rest (omega arith))
+
+-- ---- their scores in ten places
+
+pub stored_scores : (done : List ℕ) {scores : List ℕ} {frames : ℕ} → frames ≡ length done → scores ≡ places 10 0 done
+    → record { frames = frames; scores = scores } ≡ as_scored done
+unfolding as_scored
+stored_scores done many stored = rw (many, stored)
+
+pub scoring_none : (balls : List ℕ) → Scoring balls (replicate 10 0) balls 0 0
+scoring_none balls =
+    let t = tallied_none balls in
+    record {
+      done = [];
+      many = refl;
+      within = omega arith;
+      at = 0;
+      thrown = omega arith;
+      next = refl;
+      small = t.small;
+      stored = places_none 10 0;
+      left = t.left;
+    }
 
 module _ {balls scores rest : List ℕ} {frames so_far : ℕ} (s : Scoring balls scores rest frames so_far) where
-  -- no score is left: the scores are whole
-  scores_whole : scores_from (10 - frames) so_far rest ≡ [] → s.done ≡ running_scores balls
-  scores_whole none = sym (append-nil s.done) ∙ ap (λ (l : List ℕ). s.done ++ l) (sym none) ∙ s.left
+  pub scoring_tallied : Tallied balls s.done rest so_far
+  scoring_tallied = record { small = rw (← s.many) s.small; left = rw (← s.many) s.left }
 
   pub scoring_answer : s.done ≡ running_scores balls → record { frames = frames; scores = scores } ≡ as_scored (running_scores balls)
-  unfolding as_scored
-  scoring_answer e = rw (s.many, s.stored, e)
+  scoring_answer e = stored_scores s.done s.many s.stored ∙ ap as_scored e
 
   module _ {r : FrameCount} (c : FrameCounted rest r) (more : frames < 10) where
+    under_ten : length s.done < 10
+    under_ten = omega (arith, more, s.many)
+
     pub scoring_next : r.counted ≤ length rest
         → Scoring balls (set scores frames (so_far + r.score)) (drop r.own rest) (frames + 1) (so_far + r.score)
     scoring_next h =
-        let long : counted_balls rest ≤ length rest = omega (arith, c.all) in
-        let turn : scores_from (10 - frames) so_far rest ≡ (so_far + r.score) ∷ scores_from (10 - (frames + 1)) (so_far + r.score) (drop r.own rest) =
-        ap (λ (k : ℕ). scores_from k so_far rest) (let e : 10 - frames ≡ suc (10 - (frames + 1)) = omega arith in e)
-        ∙ scores_known (10 - (frames + 1)) so_far rest long
-        ∙ rw (c.score long, c.own) in
+        let t = tallied_next scoring_tallied c under_ten h in
+        let many : frames + 1 ≡ length (s.done ++ ((so_far + r.score) ∷ [])) = omega (arith, s.many, length-append s.done ((so_far + r.score) ∷ [])) in
         record {
           done = s.done ++ ((so_far + r.score) ∷ []);
-          many = omega (arith, s.many, length-append s.done ((so_far + r.score) ∷ []));
+          many = many;
           within = omega arith;
           at = s.at + r.own;
           thrown = omega (arith, s.thrown, c.own, c.all, ap length s.next, length-drop s.at balls);
           next = ap (drop r.own) s.next ∙ drop-drop r.own s.at balls;
-          small = omega (arith, s.small, c.small);
+          small = rw many t.small;
           stored = rw (s.stored, s.many) (places_last 10 0 s.done (so_far + r.score));
-          left = append_assoc s.done ((so_far + r.score) ∷ []) _ ∙ ap (λ (l : List ℕ). s.done ++ l) (sym turn) ∙ s.left;
+          left = rw many t.left;
         }
 
     -- the next frame is not known: the scores are whole
     pub scoring_stop : length rest < r.counted → s.done ≡ running_scores balls
-    scoring_stop h =
-        let short : length rest < counted_balls rest = omega (arith, c.all) in
-        let none : scores_from (10 - frames) so_far rest ≡ [] =
-        ap (λ (k : ℕ). scores_from k so_far rest) (let e : 10 - frames ≡ suc (9 - frames) = omega arith in e)
-        ∙ scores_unknown (9 - frames) so_far rest short in
-        scores_whole none
+    scoring_stop h = tallied_stop scoring_tallied c under_ten h
 
     pub scoring_stopped : length rest < r.counted → record { frames = frames; scores = scores } ≡ as_scored (running_scores balls)
     scoring_stopped h = scoring_answer (scoring_stop h)
 
   -- ten frames are scored
   pub scoring_end : 10 ≤ frames → s.done ≡ running_scores balls
-  scoring_end h = scores_whole (scores_none (10 - frames) so_far rest (omega arith))
+  scoring_end h = tallied_end scoring_tallied (omega (arith, s.many))
 
 pub scoring_ended : {balls scores rest : List ℕ} {frames so_far : ℕ} → Scoring balls scores rest frames so_far → frames ≡ 10
     → record { frames = 10; scores = scores } ≡ as_scored (running_scores balls)
