@@ -49,6 +49,10 @@ bowled_none words = record {
 }
 
 module _ {words : List ℕ} {l : Lane} {done : List ℕ} {balls : ℕ} (p : Bowled words l done balls) where
+  -- the next ball of the game has a place
+  pub bowled_room : l.frame ≤ 10 → balls < 21
+  bowled_room h = omega (arith, p.room, p.on_lane.few_balls)
+
   module _ (more : balls < length words) where
     -- what is left starts with the next ball
     ahead : drop balls words ≡ get_or words balls 0 ∷ drop (balls + 1) words
@@ -68,7 +72,7 @@ module _ {words : List ℕ} {l : Lane} {done : List ℕ} {balls : ℕ} (p : Bowl
 
       -- a ball that is played has a place
       pub bowled_place : balls < 21
-      bowled_place = omega (arith, p.room, p.on_lane.few_balls, in_frame)
+      bowled_place = bowled_room in_frame
 
       pub bowled_next : fell < 256 → Bowled words r (done ++ (fell ∷ [])) (balls + 1)
       unfolding game_of next_game word_pins
@@ -142,9 +146,8 @@ module _ {words : List ℕ} {l : Lane} {old felled : List ℕ} {balls : ℕ} (p 
   pub playing_bowled : Bowled words l p.done balls
   playing_bowled = record { on_lane = p.on_lane; room = p.room; in_game = p.in_game; few = p.few; left = p.left }
 
-  -- the next ball of the game has a place
   pub playing_room : l.frame ≤ 10 → balls < 21
-  playing_room h = omega (arith, p.room, p.on_lane.few_balls)
+  playing_room h = bowled_room playing_bowled h
 
   -- the balls thrown are those in their places
   pub playing_taken : take balls felled ≡ p.done

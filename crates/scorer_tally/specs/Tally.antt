@@ -17,7 +17,7 @@ pub record FrameCounted (balls : List ℕ) (r : FrameCount) : Type 0 where
   pub few : r.counted ≤ 3
   pub small : r.score ≤ 765
 
--- these are the scores of a game so far, and these balls are left
+-- these are the scores of a game so far, which has come to so many pins, and these balls are left
 pub record Tallied (balls done rest : List ℕ) (so_far : ℕ) : Type 0 where
   pub small : so_far ≤ 765 * length done
   pub left : done ++ scores_from (10 - length done) so_far rest ≡ running_scores balls

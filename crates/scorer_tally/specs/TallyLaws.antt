@@ -112,6 +112,7 @@ module _ {balls done rest : List ℕ} {so_far : ℕ} (t : Tallied balls done res
 
 -- ---- their scores in ten places
 
+-- so many scores in ten places are the scores as the sheet gives them
 pub stored_scores : (done : List ℕ) {scores : List ℕ} {frames : ℕ} → frames ≡ length done → scores ≡ places 10 0 done
     → record { frames = frames; scores = scores } ≡ as_scored done
 unfolding as_scored
